@@ -1,0 +1,4 @@
+pub mod Coefficients
+pub mod Integers
+pub mod Numbered
+pub mod Sound
