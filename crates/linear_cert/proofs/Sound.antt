@@ -151,7 +151,7 @@ pub no_solution : (bounds : List Bound) (rows : List Row) (tree : CertTree) → 
 no_solution bounds rows (leaf mults) right point solves =
     let n = length bounds in
     let value = λ (k : ℕ). value_at point k in
-    let none = sum_below-zero n (λ k. column_sum (Variable k) bounds rows mults *ℤ value k) (λ k lt. ap (λ s. s *ℤ value k) (right.no_term k lt).1 ∙ omega (arith, ints)) in
+    let none = sum_below-zero n (λ k. column_sum (Variable k) bounds rows mults *ℤ value k) (λ k lt. ap (λ s. s *ℤ value k) (right.no_term k lt).sum ∙ omega (arith, ints)) in
     let left = mults_by_variable point bounds rows n mults solves.one_each in
     let order = in_order point bounds rows mults (numbered_holds point bounds rows solves) in
-    omega (arith, ints, none, left, order, right.negative.1)
+    omega (arith, ints, none, left, order, right.negative.sum)

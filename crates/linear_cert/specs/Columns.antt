@@ -38,6 +38,6 @@ PartialSumsFit column bounds rows mults =
     (k : ℕ) → k ≤ length mults → FitsSigned w128 (column_sum column bounds rows (take k mults))
 
 -- the partial sums of a column fit, and its sum is such a number
-abbrev pub AddsUp : (ℤ → Type 0) → Column → List Bound → List Row → List Mult → Type 0
-AddsUp IsSum column bounds rows mults =
-    PartialSumsFit column bounds rows mults × IsSum (column_sum column bounds rows mults)
+pub record AddsUp (IsSum : ℤ → Type 0) (column : Column) (bounds : List Bound) (rows : List Row) (mults : List Mult) : Type 0 where
+  pub fits : PartialSumsFit column bounds rows mults
+  pub sum : IsSum (column_sum column bounds rows mults)

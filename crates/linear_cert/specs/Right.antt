@@ -17,12 +17,15 @@ pub data CertTree : Type 0 where
 abbrev pub cert_tree : Cert → CertTree
 cert_tree (Leaf mults) = leaf mults
 
--- no variable is left in the sum of the named rows times their multipliers
-abbrev pub NoTermIsLeft : List Bound → List Row → List Mult → Type 0
-NoTermIsLeft bounds rows mults =
-    (k : ℕ) → k < length bounds → AddsUp (λ sum. sum ≡ pos 0) (Variable k) bounds rows mults
+-- the variable isn't left in the sum of the named rows times their multipliers
+abbrev pub Cancels : ℕ → List Bound → List Row → List Mult → Type 0
+Cancels variable bounds rows mults = AddsUp (λ sum. sum ≡ pos 0) (Variable variable) bounds rows mults
 
--- and its bound is negative
+-- no variable is left
+abbrev pub NoTermIsLeft : List Bound → List Row → List Mult → Type 0
+NoTermIsLeft bounds rows mults = (k : ℕ) → k < length bounds → Cancels k bounds rows mults
+
+-- the bound of the sum is negative
 abbrev pub BoundIsNegative : List Bound → List Row → List Mult → Type 0
 BoundIsNegative bounds rows mults = AddsUp (λ sum. sum <ℤ pos 0) RightSide bounds rows mults
 

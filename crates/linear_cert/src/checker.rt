@@ -1,10 +1,11 @@
 //! The checker: whether a certificate is right.
 
-ghost use Rattle.std.specs.Prelude.{◌≡◌, ◌↔◌, ◌<◌, ℕ, length, IsTrue, All, SomeIff, pos, ◌*ℤ◌};
+ghost use Rattle.std.specs.Prelude.{◌≡◌, ◌↔◌, ◌<◌, ℕ, length, IsTrue, All, SomeIff, pos, ◌+ℤ◌, ◌*ℤ◌, FitsSigned};
+ghost use Rattle.std.specs.Int.{w128};
 ghost use Rattle.linear_form.specs.Solution.{HasNoSolution};
 ghost use Rattle.linear_form.specs.System.{IsSystem};
 ghost use Rattle.linear_cert.specs.Columns.{PartialSumsFit, column_sum, entry, times};
-ghost use Rattle.linear_cert.specs.Right.{BoundIsNegative, IsRight, IsRightLeaf, NoTermIsLeft, cert_tree};
+ghost use Rattle.linear_cert.specs.Right.{BoundIsNegative, Cancels, IsRight, IsRightLeaf, NoTermIsLeft, cert_tree};
 ghost use Rattle.linear_cert.specs.Rows.{NamesRow};
 
 use crate::cert::{Cert, Mult};
@@ -33,8 +34,8 @@ fn is_right_leaf(bounds: &[Bound], rows: &[Row], mults: &[Mult]) -> bool
     ensures { IsTrue result ↔ IsRightLeaf bounds.now rows.now mults.now }
 {
     names_rows(bounds, rows, mults)
-        && cancels(bounds, rows, mults)
-        && is_negative(bounds, rows, mults)
+        && no_term_is_left(bounds, rows, mults)
+        && bound_is_negative(bounds, rows, mults)
 }
 
 fn names_rows(bounds: &[Bound], rows: &[Row], mults: &[Mult]) -> bool
@@ -45,29 +46,33 @@ fn names_rows(bounds: &[Bound], rows: &[Row], mults: &[Mult]) -> bool
     mults.iter().all(|mult| (mult.row as usize) < count)
 }
 
-fn cancels(bounds: &[Bound], rows: &[Row], mults: &[Mult]) -> bool
+fn no_term_is_left(bounds: &[Bound], rows: &[Row], mults: &[Mult]) -> bool
     requires system { IsSystem (record { bounds = bounds.now; rows = rows.now }) }
     requires named { All (NamesRow bounds.now rows.now) mults.now }
     ensures { IsTrue result ↔ NoTermIsLeft bounds.now rows.now mults.now }
 {
     for variable in 0..bounds.len() as u32 {
-        match column_sum(bounds, rows, mults, Column::Variable(variable)) {
-            Some(0) => {}
-            _ => return false,
+        if !cancels(bounds, rows, mults, variable) {
+            return false;
         }
     }
     true
 }
 
-fn is_negative(bounds: &[Bound], rows: &[Row], mults: &[Mult]) -> bool
+fn cancels(bounds: &[Bound], rows: &[Row], mults: &[Mult], variable: u32) -> bool
+    requires system { IsSystem (record { bounds = bounds.now; rows = rows.now }) }
+    requires named { All (NamesRow bounds.now rows.now) mults.now }
+    ensures { IsTrue result ↔ Cancels variable bounds.now rows.now mults.now }
+{
+    column_sum(bounds, rows, mults, Column::Variable(variable)) == Some(0)
+}
+
+fn bound_is_negative(bounds: &[Bound], rows: &[Row], mults: &[Mult]) -> bool
     requires system { IsSystem (record { bounds = bounds.now; rows = rows.now }) }
     requires named { All (NamesRow bounds.now rows.now) mults.now }
     ensures { IsTrue result ↔ BoundIsNegative bounds.now rows.now mults.now }
 {
-    match column_sum(bounds, rows, mults, Column::RightSide) {
-        Some(sum) => sum < 0,
-        None => false,
-    }
+    column_sum(bounds, rows, mults, Column::RightSide).is_some_and(|sum| sum < 0)
 }
 
 // The sum in a column, `None` where some partial sum doesn't fit.
@@ -76,20 +81,21 @@ fn column_sum(bounds: &[Bound], rows: &[Row], mults: &[Mult], column: Column) ->
     requires named { All (NamesRow bounds.now rows.now) mults.now }
     ensures { SomeIff result (PartialSumsFit column bounds.now rows.now mults.now) (column_sum column bounds.now rows.now mults.now) }
 {
-    let mut sum: i128 = 0;
+    let mut sum = 0;
     for mult in mults {
-        sum = sum.checked_add(times(bounds, rows, *mult, column))?;
+        sum = add_row(sum, bounds, rows, *mult, column)?;
     }
     Some(sum)
 }
 
-// What the named row has in the column, times the multiplier.
-fn times(bounds: &[Bound], rows: &[Row], mult: Mult, column: Column) -> i128
+// The sum and one more row times its multiplier, `None` where that doesn't fit.
+fn add_row(sum: i128, bounds: &[Bound], rows: &[Row], mult: Mult, column: Column) -> Option<i128>
     requires system { IsSystem (record { bounds = bounds.now; rows = rows.now }) }
     requires named { NamesRow bounds.now rows.now mult }
-    ensures { result ≡ times (entry column) bounds.now rows.now mult }
+    ensures { let next = sum +ℤ times (entry column) bounds.now rows.now mult in
+        SomeIff result (FitsSigned w128 next) next }
 {
-    product(entry(bounds, rows, mult.row, column), mult.by)
+    sum.checked_add(product(entry(bounds, rows, mult.row, column), mult.by))
 }
 
 fn product(number: i64, by: u64) -> i128
