@@ -7,6 +7,8 @@ mod first_form;
 mod obligations;
 mod serial;
 mod status;
+#[cfg(test)]
+mod tests;
 mod top;
 
 use crate::status::Status;

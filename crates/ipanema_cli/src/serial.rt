@@ -11,7 +11,7 @@ ghost use Rattle.ipanema_cli.specs.declared.status.Status.TheVariants as status;
 use crate::answers::{CheckAnswer, POLICY_ROOM, check_text};
 use crate::command::{Request, request_of};
 use crate::status::Status;
-use sched_io::{Files, LoadFault, Sink, put_all};
+use sched_io::{Files, LoadFault, PutFault, Sink, put_all};
 use std::alloc::Global;
 
 /// Carries out a command that needs no second thread, and answers its status.
@@ -80,6 +80,6 @@ fn report<S: Sink>(answer: &CheckAnswer, out: &mut S) -> u8
 {
     match answer.put(out) {
         Ok(()) => answer.status().code(),
-        Err(_) => Status::WriteFault.code(),
+        Err(PutFault::Failed) => Status::WriteFault.code(),
     }
 }
