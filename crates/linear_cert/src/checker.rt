@@ -12,7 +12,11 @@ use crate::cert::{Cert, Mult};
 use crate::rows::{Column, entry};
 use linear_form::{Bound, Row, System};
 
-/// Whether the certificate is right. It takes no memory.
+/// Whether the certificate is right: the rows that it names exist, and times their multipliers they
+/// add up, without a term, to `0 <= c` with c negative. Each partial sum, in the order of the list,
+/// must be a signed number of 128 bits.
+///
+/// It takes no memory: each column of the rows is summed by itself.
 pub fn check(system: &System, cert: &Cert) -> bool
     ensures right { IsTrue result ↔ IsRight system.now.bounds system.now.rows (cert_tree cert.now) }
     ensures sound { IsTrue result → HasNoSolution system.now.bounds system.now.rows }
@@ -79,7 +83,8 @@ fn bound_is_negative(bounds: &[Bound], rows: &[Row], mults: &[Mult]) -> bool
 fn column_sum(bounds: &[Bound], rows: &[Row], mults: &[Mult], column: Column) -> Option<i128>
     requires system { IsSystem (record { bounds = bounds.now; rows = rows.now }) }
     requires named { All (NamesRow bounds.now rows.now) mults.now }
-    ensures { SomeIff result (PartialSumsFit column bounds.now rows.now mults.now) (column_sum column bounds.now rows.now mults.now) }
+    ensures { let sum = column_sum column bounds.now rows.now mults.now in
+        SomeIff result (PartialSumsFit column bounds.now rows.now mults.now) sum }
 {
     let mut sum = 0;
     for mult in mults {

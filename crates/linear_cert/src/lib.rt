@@ -1,4 +1,6 @@
 //! Certificates that a system of linear rows has no solution, and their checker.
+//!
+//! A certificate is a sum of rows that says `0 <= c` with c negative, as in Farkas' lemma.
 #![tactic(auto)]
 
 mod cert;

@@ -25,10 +25,15 @@ RowHolds point row = left_side point row.terms ≤ℤ row.bound
 abbrev pub IsWithin : Bound → ℤ → Type 0
 IsWithin bound value = (bound.lo ≤ℤ value) × (value ≤ℤ bound.hi)
 
+-- each variable's value lies in its range
+abbrev pub LiesWithin : List Bound → List ℤ → Type 0
+LiesWithin bounds point =
+    (k : ℕ) (d : Bound) → k < length bounds → IsWithin (slice_index_or bounds k d) (value_at point k)
+
 -- the point has one value for each variable, and every bound and every row holds
 pub record Solves (bounds : List Bound) (rows : List Row) (point : List ℤ) : Type 0 where
   pub one_each : length point ≡ length bounds
-  pub within : (k : ℕ) (d : Bound) → k < length bounds → IsWithin (slice_index_or bounds k d) (value_at point k)
+  pub within : LiesWithin bounds point
   pub rows_hold : All (RowHolds point) rows
 
 -- no list of whole numbers solves the system

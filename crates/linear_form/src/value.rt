@@ -1,16 +1,15 @@
 //! The value of a row at a point, exact in 128 bits.
 
-ghost use Rattle.std.specs.Prelude.{◌≡◌, ◌↔◌, ◌*◌, ◌^◌, ◌≤◌, ◌<◌, ℕ, length, slice_index_or, unsigned_abs, IsTrue, All};
-ghost use Rattle.linear_form.specs.Solution.{IsWithin, RowHolds, left_side, term_value, value_at};
+ghost use Rattle.std.specs.Prelude.{◌≡◌, ◌↔◌, ◌*◌, ◌^◌, ◌≤◌, length, unsigned_abs, IsTrue, All};
+ghost use Rattle.linear_form.specs.Solution.{LiesWithin, RowHolds, left_side, term_value};
 ghost use Rattle.linear_form.specs.System.{IsRow, IsTerm};
-ghost use Rattle.linear_form.specs.declared.form.Bound.{Bound};
 
 use crate::form::{Bound, MAX_COEF, MAX_VARIABLES, Row, Term};
 
 // Whether each value lies in its range.
 pub fn all_within(bounds: &[Bound], vals: &[i64]) -> bool
     requires { length vals.now ≡ length bounds.now }
-    ensures { IsTrue result ↔ ((k : ℕ) (d : Bound) → k < length bounds.now → IsWithin (slice_index_or bounds.now k d) (value_at vals.now k)) }
+    ensures { IsTrue result ↔ LiesWithin bounds.now vals.now }
 {
     for (variable, bound) in bounds.iter().enumerate() {
         if vals[variable] < bound.lo || bound.hi < vals[variable] {
