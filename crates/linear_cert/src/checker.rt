@@ -12,7 +12,10 @@ use crate::cert::{Cert, Mult};
 use crate::rows::{Column, entry};
 use linear_form::{Bound, Row, System};
 
-/// Whether the certificate is right. It takes no memory.
+/// Whether the certificate is right: its rows exist, and times their multipliers they add up, without
+/// a term, to `0 <= c` with c negative. Each partial sum must fit 128 bits in the order of the list.
+///
+/// It takes no memory: each column of the rows is summed by itself.
 pub fn check(system: &System, cert: &Cert) -> bool
     ensures right { IsTrue result ↔ IsRight system.now.bounds system.now.rows (cert_tree cert.now) }
     ensures sound { IsTrue result → HasNoSolution system.now.bounds system.now.rows }

@@ -1,4 +1,4 @@
-//! Certificates that a system of linear rows has no solution, and their checker.
+//! Certificates that a system of linear rows has no solution, and their checker (Farkas' lemma, 1902).
 #![tactic(auto)]
 
 mod cert;

@@ -33,13 +33,3 @@ IsRow-push variables terms bound term row fits below =
       terms = All-push (IsTerm variables) terms term row.terms fits;
       bound = row.bound;
     }
-
--- a row of one term
-pub IsRow-one : (variables : ℕ) (a : Term) (bound : ℤ) → IsTerm variables a → unsigned_abs bound ≤ MAX_ROW_BOUND → IsRow variables (row_of (a ∷ []) bound)
-IsRow-one variables a bound fits small =
-    IsRow-push variables [] bound a (IsRow-nil variables bound small) fits (All-nil (λ t. t.var < a.var))
-
--- a row of two terms
-pub IsRow-two : (variables : ℕ) (a b : Term) (bound : ℤ) → IsTerm variables a → IsTerm variables b → a.var < b.var → unsigned_abs bound ≤ MAX_ROW_BOUND → IsRow variables (row_of (a ∷ b ∷ []) bound)
-IsRow-two variables a b bound fits fits' rise small =
-    IsRow-push variables (a ∷ []) bound b (IsRow-one variables a bound fits small) fits' (All-push (λ t. t.var < b.var) [] a (All-nil (λ t. t.var < b.var)) rise)
