@@ -1,0 +1,4 @@
+pub mod Handlers
+pub mod Leaves
+pub mod Sentences
+pub mod Thresholds
