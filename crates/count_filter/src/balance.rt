@@ -26,7 +26,14 @@ impl Balance {
             ObName::B1 => self.sees,
             ObName::B2 => self.spares,
             ObName::B3 => self.narrows,
-            _ => true,
+            ObName::H1Enqueue
+            | ObName::H2Enqueue
+            | ObName::H1Tick
+            | ObName::H2Tick
+            | ObName::H1Yield
+            | ObName::H2Yield
+            | ObName::H1Block
+            | ObName::H2Block => true,
         }
     }
 
