@@ -10,7 +10,7 @@ use crate::systems::{narrows_system, sees_system, spares_system};
 use linear_cert::Mult;
 use std::alloc::{AllocError, Global};
 
-/// The greatest threshold.
+/// The greatest threshold, the greatest number of four decimal digits.
 pub const MAX_THRESHOLD: u32 = 9999;
 
 /// Why the obligations weren't judged.
