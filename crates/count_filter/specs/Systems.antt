@@ -26,27 +26,27 @@ system_of_cores rows = record {
   rows = fit_rows SELF_COUNT SELF_LOAD ++ fit_rows VICTIM_COUNT VICTIM_LOAD ++ rows;
 }
 
--- the filter lets self steal: victim has at least the threshold more threads
-abbrev pub let_row : ℕ → Row
-let_row threshold = difference_at_most SELF_COUNT VICTIM_COUNT (neg_ℤ (pos threshold))
+-- the filter lets self steal: victim has at least so many threads more
+abbrev pub filter_row : ℕ → Row
+filter_row threshold = difference_at_most SELF_COUNT VICTIM_COUNT (neg_ℤ (pos threshold))
 
--- the filter doesn't let self steal: victim has less than the threshold more
-abbrev pub unlet_row : ℕ → Row
-unlet_row threshold = difference_at_most VICTIM_COUNT SELF_COUNT (pos threshold -ℤ pos 1)
+-- the filter doesn't let self steal: victim has fewer threads more
+abbrev pub negated_filter_row : ℕ → Row
+negated_filter_row threshold = difference_at_most VICTIM_COUNT SELF_COUNT (pos threshold -ℤ pos 1)
 
 -- an idle core that doesn't see an overloaded one
 abbrev pub sees_system : ℕ → LinearSystem
 sees_system threshold =
-    system_of_cores (at_most SELF_COUNT (pos 0) ∷ at_least VICTIM_COUNT (pos 2) ∷ unlet_row threshold ∷ [])
+    system_of_cores (at_most SELF_COUNT (pos 0) ∷ at_least VICTIM_COUNT (pos 2) ∷ negated_filter_row threshold ∷ [])
 
 -- a victim that isn't overloaded
 abbrev pub spares_system : ℕ → LinearSystem
-spares_system threshold = system_of_cores (at_most VICTIM_COUNT (pos 1) ∷ let_row threshold ∷ [])
+spares_system threshold = system_of_cores (at_most VICTIM_COUNT (pos 1) ∷ filter_row threshold ∷ [])
 
 -- a move that doesn't narrow the gap: the thread weighs 1, and the loads differ by no more
 abbrev pub narrows_system : ℕ → LinearSystem
 narrows_system threshold =
     system_of_cores (
     difference_at_most VICTIM_COUNT VICTIM_LOAD (pos 0) ∷ difference_at_most VICTIM_LOAD SELF_LOAD (pos 1)
-    ∷ let_row threshold ∷ []
+    ∷ filter_row threshold ∷ []
     )

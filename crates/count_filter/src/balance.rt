@@ -2,8 +2,8 @@
 
 use crate::obligations::ObName;
 
-/// Which of the balance obligations hold. Those of the handlers hold of every policy whose filter is the only
-/// thing that it chooses: its handlers are the defaults.
+/// Which of the balance obligations hold. Those of the handlers have no field, since they hold of the default
+/// handlers.
 #[derive(Clone, Copy)]
 pub struct Balance {
     /// An idle core sees every overloaded one.

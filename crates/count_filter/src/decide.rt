@@ -10,11 +10,11 @@ use crate::systems::{narrows_system, sees_system, spares_system};
 use linear_cert::Mult;
 use std::alloc::{AllocError, Global};
 
-/// The greatest threshold.
+/// The greatest threshold, the greatest number of four decimal digits.
 pub const MAX_THRESHOLD: u32 = 9999;
 
 /// Why the obligations weren't judged.
-#[derive(Clone, Copy, Debug, PartialEq, Eq)]
+#[derive(Clone, Copy, Debug)]
 pub enum JudgeMemory {
     /// There was no memory for a system, a certificate or a point.
     Memory,
@@ -31,10 +31,10 @@ impl From<AllocError> for JudgeMemory {
     }
 }
 
-/// Which obligations hold of the filter `victim.nr - self.nr >= threshold` where each thread weighs 1.
+/// Which obligations hold of the filter `victim.nr - self.nr >= threshold`, where each thread weighs 1.
 ///
-/// An obligation is said to hold after the checker of certificates has accepted a reason why its system has no
-/// solution, and to fail after a point has been put into all ranges and rows.
+/// A balance obligation is said to hold after the checker of certificates has accepted a reason why no two cores
+/// break it, and to fail after two cores that break it were put into all ranges and rows of its system.
 pub fn judge(alloc: Global, threshold: u32) -> Result<Balance, JudgeMemory>
     requires { threshold ≤ MAX_THRESHOLD }
     ensures { IfOk result (Judges threshold) }
@@ -46,27 +46,30 @@ pub fn judge(alloc: Global, threshold: u32) -> Result<Balance, JudgeMemory>
     })
 }
 
-// Idle, overloaded and not let: these three rows add up to `0 <= threshold - 3`.
-const SEES_ROWS: [Mult; 3] = [
+// Rows are numbered in the order in which `systems` adds them: those of the loads are 0 to 3. Points give
+// `self.nr`, `self.load`, `victim.nr` and `victim.load`.
+
+// Self is idle, victim is overloaded, and the filter doesn't let: together `0 <= threshold - 3`.
+const SEES_LEAF: [Mult; 3] = [
     Mult { row: 4, by: 1 },
     Mult { row: 5, by: 1 },
     Mult { row: 6, by: 1 },
 ];
 
-// From a threshold of 3 on no idle core sees two threads.
+// From a threshold of 3 on an idle core doesn't see two threads.
 const UNSEEN_POINT: [i64; 4] = [0, 0, 2, 2];
 
 fn idle_sees_overloaded(alloc: Global, threshold: u32) -> Result<bool, JudgeMemory>
     ensures { IfOk result (λ holds. IsTrue holds ↔ IdleSeesOverloaded threshold) }
 {
     let system = sees_system(alloc, threshold)?;
-    let cert = leaf_of(alloc, &SEES_ROWS)?;
+    let cert = leaf_of(alloc, &SEES_LEAF)?;
     let point = point_of(alloc, &UNSEEN_POINT)?;
     Ok(has_no_solution(&system, &cert, &point))
 }
 
-// At most one thread, let, and the range of `self.nr` from below: together `0 <= 1 - threshold`.
-const SPARES_ROWS: [Mult; 3] = [
+// Victim has at most one thread, the filter lets, and `self.nr` is at least 0: together `0 <= 1 - threshold`.
+const SPARES_LEAF: [Mult; 3] = [
     Mult { row: 4, by: 1 },
     Mult { row: 5, by: 1 },
     Mult { row: 6, by: 1 },
@@ -79,13 +82,14 @@ fn victim_is_overloaded(alloc: Global, threshold: u32) -> Result<bool, JudgeMemo
     ensures { IfOk result (λ holds. IsTrue holds ↔ VictimIsOverloaded threshold) }
 {
     let system = spares_system(alloc, threshold)?;
-    let cert = leaf_of(alloc, &SPARES_ROWS)?;
+    let cert = leaf_of(alloc, &SPARES_LEAF)?;
     let point = point_of(alloc, &LAST_THREAD_POINT)?;
     Ok(has_no_solution(&system, &cert, &point))
 }
 
-// The loads are the counts, differ by at most 1, and the filter lets: together `0 <= 1 - threshold`.
-const NARROWS_ROWS: [Mult; 4] = [
+// Self's load is at most its count, victim's at least, they differ by at most 1, and the filter lets: together
+// `0 <= 1 - threshold`.
+const NARROWS_LEAF: [Mult; 4] = [
     Mult { row: 1, by: 1 },
     Mult { row: 2, by: 1 },
     Mult { row: 5, by: 1 },
@@ -96,7 +100,7 @@ fn move_narrows_gap(alloc: Global, threshold: u32) -> Result<bool, JudgeMemory>
     ensures { IfOk result (λ holds. IsTrue holds ↔ MoveNarrowsGap threshold) }
 {
     let system = narrows_system(alloc, threshold)?;
-    let cert = leaf_of(alloc, &NARROWS_ROWS)?;
+    let cert = leaf_of(alloc, &NARROWS_LEAF)?;
     let point = point_of(alloc, &LAST_THREAD_POINT)?;
     Ok(has_no_solution(&system, &cert, &point))
 }

@@ -1,6 +1,5 @@
 -- The reason is right for the system, and the system for the sentence.
-use Rattle.count_filter.proofs.Sentences.{sees_without_solution}
-use Rattle.count_filter.proofs.Thresholds.{sees_reason}
+use Rattle.count_filter.proofs.Sees.{sees_reason, sees_without_solution}
 use Rattle.count_filter.proofs.decide.idle_sees_overloaded.Goals as goal
 
 pub has_no_solution-requires : goal.has_no_solution-requires

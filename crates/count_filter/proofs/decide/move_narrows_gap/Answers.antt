@@ -1,6 +1,5 @@
 -- The reason is right for the system, and the system for the sentence.
-use Rattle.count_filter.proofs.Sentences.{narrows_without_solution}
-use Rattle.count_filter.proofs.Thresholds.{narrows_reason}
+use Rattle.count_filter.proofs.Narrows.{narrows_reason, narrows_without_solution}
 use Rattle.count_filter.proofs.decide.move_narrows_gap.Goals as goal
 
 pub has_no_solution-requires : goal.has_no_solution-requires

@@ -1,6 +1,5 @@
 -- The reason is right for the system, and the system for the sentence.
-use Rattle.count_filter.proofs.Sentences.{spares_without_solution}
-use Rattle.count_filter.proofs.Thresholds.{spares_reason}
+use Rattle.count_filter.proofs.Spares.{spares_reason, spares_without_solution}
 use Rattle.count_filter.proofs.decide.victim_is_overloaded.Goals as goal
 
 pub has_no_solution-requires : goal.has_no_solution-requires
