@@ -1,6 +1,6 @@
 //! Which obligations hold of a filter that asks for at least so many threads more.
 
-ghost use Rattle.std.specs.Prelude.{◌↔◌, ◌≤◌, IfOk, IsTrue};
+ghost use Rattle.std.specs.Prelude.{◌↔◌, IfOk, IsTrue};
 ghost use Rattle.count_filter.specs.Judged.{Judges};
 ghost use Rattle.count_filter.specs.Obligations.{IdleSeesOverloaded, MoveNarrowsGap, VictimIsOverloaded};
 
@@ -9,9 +9,6 @@ use crate::reasons::{has_no_solution, leaf_of, point_of};
 use crate::systems::{narrows_system, sees_system, spares_system};
 use linear_cert::Mult;
 use std::alloc::{AllocError, Global};
-
-/// The greatest threshold, the greatest number of four decimal digits.
-pub const MAX_THRESHOLD: u32 = 9999;
 
 /// Why the obligations weren't judged.
 #[derive(Clone, Copy, Debug)]
@@ -36,7 +33,6 @@ impl From<AllocError> for JudgeMemory {
 /// A balance obligation is said to hold after the checker of certificates has accepted a reason why no two cores
 /// break it, and to fail after two cores that break it were put into all ranges and rows of its system.
 pub fn judge(alloc: Global, threshold: u32) -> Result<Balance, JudgeMemory>
-    requires { threshold ≤ MAX_THRESHOLD }
     ensures { IfOk result (Judges threshold) }
 {
     Ok(Balance {

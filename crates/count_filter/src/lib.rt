@@ -9,5 +9,5 @@ mod rows;
 mod systems;
 
 pub use balance::Balance;
-pub use decide::{JudgeMemory, MAX_THRESHOLD, judge};
+pub use decide::{JudgeMemory, judge};
 pub use obligations::{MAX_THREADS, NAMES, OB_NAME_ROOM, ObName};

@@ -5,8 +5,6 @@ ghost use Rattle.std.specs.Char.{is_ascii_digit};
 ghost use Rattle.std.specs.List.{list_all, prefix_len};
 ghost use Rattle.ipanema_cli.specs.FirstForm.{BeginsWithNumber, IsFirstForm, IsName, IsNumeral, NamesPolicy, begins_with_letter, is_among, is_reserved_word, is_word_byte, number_of};
 
-use count_filter::MAX_THRESHOLD;
-
 /// The most bytes of a name.
 pub const NAME_ROOM: usize = 32;
 
@@ -23,7 +21,6 @@ const RESERVED: [&str; 34] = [
 /// The threshold of a policy of the first form, `None` for every other text.
 pub fn threshold_of(text: &[u8]) -> Option<u32>
     ensures found { IfSome result (IsFirstForm text.now) }
-    ensures small { IfSome result (λ threshold. threshold ≤ MAX_THRESHOLD) }
     ensures none { IfNone result ((threshold : ℕ) → IsFirstForm text.now threshold → ⊥) }
 {
     let rest = after_name(text)?;
@@ -113,7 +110,7 @@ fn is_among(words: &[&str], word: &[u8]) -> bool
 fn numeral(text: &[u8]) -> Option<(u32, &[u8])>
     ensures { MatchOption result
         ((value : ℕ) (rest : List ℕ) → BeginsWithNumber text.now value rest → ⊥)
-        (λ found. BeginsWithNumber text.now found.0 found.1.now × (found.0 ≤ MAX_THRESHOLD)) }
+        (λ found. BeginsWithNumber text.now found.0 found.1.now) }
 {
     let len = digits_len(text);
     if len == 0 || len > NUMERAL_ROOM {
@@ -134,8 +131,7 @@ fn digits_len(text: &[u8]) -> usize
 /// The number that the digits stand for.
 fn number_of(digits: &[u8]) -> u32
     requires { IsNumeral digits.now }
-    ensures value { result ≡ number_of digits.now }
-    ensures small { result ≤ MAX_THRESHOLD }
+    ensures { result ≡ number_of digits.now }
 {
     let mut number = 0;
     for digit in digits {

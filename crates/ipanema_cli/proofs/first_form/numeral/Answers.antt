@@ -21,14 +21,11 @@ number_of-requires c = rw c.split_at.ensures.front
     (numeral_taken c.args.text.now c.digits_len-len.result c.digits_len-len.ensures.len c.digits_len-len.ensures.within (omega arith) (omega arith))
 
 pub returns : goal.returns
-returns c = (
-  record {
-    digits = c.split_at.result.0.now;
-    is_numeral = rw c.split_at.ensures.front
-        (numeral_taken c.args.text.now c.digits_len-len.result c.digits_len-len.ensures.len c.digits_len-len.ensures.within (omega arith) (omega arith));
-    is_value = sym c.number_of.ensures.value;
-    ends = rw (c.split_at.ensures.back, c.digits_len-len.ensures.len) (rest_stops is_ascii_digit c.args.text.now);
-    spelling = rw (c.split_at.ensures.front, c.split_at.ensures.back) (sym (take-append-drop c.digits_len-len.result c.args.text.now));
-  },
-  c.number_of.ensures.small,
-)
+returns c = record {
+  digits = c.split_at.result.0.now;
+  is_numeral = rw c.split_at.ensures.front
+      (numeral_taken c.args.text.now c.digits_len-len.result c.digits_len-len.ensures.len c.digits_len-len.ensures.within (omega arith) (omega arith));
+  is_value = sym c.number_of.ensures;
+  ends = rw (c.split_at.ensures.back, c.digits_len-len.ensures.len) (rest_stops is_ascii_digit c.args.text.now);
+  spelling = rw (c.split_at.ensures.front, c.split_at.ensures.back) (sym (take-append-drop c.digits_len-len.result c.args.text.now));
+}

@@ -37,7 +37,7 @@ returns-then-eq-clause-found c =
     record {
       rest = c.in_ok-rest-2.rest.now;
       head = subst Heads split c.in_ok-rest.ensures;
-      number = subst Ends (ends ∙ c.as_slice-2.ensures) c.in_ok-threshold.ensures.0;
+      number = subst Ends (ends ∙ c.as_slice-2.ensures) c.in_ok-threshold.ensures;
     }
 
 pub returns-else-eq-clause-none : goal.returns-else-eq-clause-none
@@ -48,6 +48,6 @@ returns-else-eq-clause-none c threshold h =
     (sym split ∙ one_rest c.args.text.now c.in_ok-rest.rest.now (middle ++ h.rest) c.in_ok-rest.ensures h.head) in
     let Q : List ℕ → Type 0 = λ text. BeginsWithNumber text threshold ending in
     let number = subst Q (sym same) h.number in
-    let ends = one_end c.in_ok-rest-2.rest.now c.in_ok-threshold.rest.now ending c.in_ok-threshold.threshold threshold c.in_ok-threshold.ensures.0 number in
+    let ends = one_end c.in_ok-rest-2.rest.now c.in_ok-threshold.rest.now ending c.in_ok-threshold.threshold threshold c.in_ok-threshold.ensures number in
     let equal = (slice_eq-Decides Decides-eqb c.in_ok-threshold.rest.now c.as_slice-2.result.now false c.if-eq.ensures).1 (ends ∙ sym c.as_slice-2.ensures) in
     cc
