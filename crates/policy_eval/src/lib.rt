@@ -1,0 +1,6 @@
+//! What policies mean: values, conditions, orders, events, and what a policy owes.
+#![tactic(auto)]
+
+pub mod env;
+
+pub use crate::env::{CoreValues, Env};
