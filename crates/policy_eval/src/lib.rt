@@ -2,5 +2,7 @@
 #![tactic(auto)]
 
 pub mod env;
+pub mod evaluation;
 
 pub use crate::env::{CoreValues, Env};
+pub use crate::evaluation::{holds, value};
