@@ -1,4 +1,5 @@
 pub mod Bounds
+pub mod Filling
 pub mod Forms
 pub mod Operations
 pub mod Products
