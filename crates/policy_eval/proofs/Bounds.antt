@@ -1,13 +1,12 @@
 -- The value of a linear expression fits: its magnitude stays far below what 128 bits hold.
-use Rattle.std.proofs.Common.{◌≡◌, ℕ, zero, suc, ◌+◌, ◌*◌, ◌^◌, ◌<◌, ◌≤◌, ℤ, pos, negsuc, ◌+ℤ◌, ◌*ℤ◌, neg_ℤ, ◌≤ℤ◌, int_le, Bool, true, false, ◌&&◌, List, [], ◌∷◌, length, refl, sym, ap, ◌∙◌, arith, unsigned_abs, FitsSigned, subst}
+use Rattle.std.proofs.Common.{◌≡◌, ℕ, zero, suc, ◌+◌, ◌*◌, ◌^◌, ◌<◌, ◌≤◌, ℤ, pos, ◌+ℤ◌, ◌*ℤ◌, neg_ℤ, ◌≤ℤ◌, int_le, Bool, true, false, ◌&&◌, List, [], ◌∷◌, length, refl, sym, ap, arith, unsigned_abs, FitsSigned, subst}
 use Rattle.std.specs.Int.{w128}
-use Rattle.std.specs.List.{AllZip, list_all}
 use Rattle.std.proofs.lemmas.Int.{ints, unsigned_abs-mul, fits_signed_from_abs}
 use Rattle.std.proofs.lemmas.Nat.{mul-le}
-use Rattle.sched_base.specs.declared.limits.TheConstants.{MAX_COEFFICIENT, MAX_LOAD}
+use Rattle.sched_base.specs.declared.limits.TheConstants.{MAX_LOAD}
 use Rattle.policy_tree.specs.Trees.{ExprTree, number, variable, negation, plus, minus, times}
 use Rattle.policy_eval.specs.Forms.{HasSmallForm, IsLinear, IsSmall, coefficient_of, constant_of}
-use Rattle.policy_eval.specs.Ranges.{AreIn, IsIn, Range, range, wide_ranges, within}
+use Rattle.policy_eval.specs.Ranges.{AreIn, IsIn, Range, wide_ranges, within}
 use Rattle.policy_eval.specs.Values.{Assignment, value_of, variable_of}
 use Rattle.policy_eval.proofs.Forms.{value_of-form, variable_part, weighted}
 

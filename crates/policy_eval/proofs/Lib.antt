@@ -1,5 +1,9 @@
+pub mod Assigning
 pub mod Bounds
+pub mod Evaluable
 pub mod Filling
 pub mod Forms
+pub mod Handling
 pub mod Operations
 pub mod Products
+pub mod Wide

@@ -1,5 +1,5 @@
 -- What the operators of the code give, at operands that were computed exactly.
-use Rattle.std.proofs.Common.{◌≡◌, ℤ, pos, ◌+ℤ◌, ◌-ℤ◌, ◌*ℤ◌, neg_ℤ, sym, ap, ◌∙◌, arith, FitsSigned, subst, to_z, of_z}
+use Rattle.std.proofs.Common.{◌≡◌, ℤ, pos, ◌+ℤ◌, ◌-ℤ◌, ◌*ℤ◌, neg_ℤ, sym, ap, ◌∙◌, FitsSigned, subst, to_z, of_z}
 use Rattle.std.specs.Int.{w128}
 use Rattle.std.proofs.Math.IntN.{+ℤ_idl}
 use Rattle.std.proofs.lemmas.Int.{to_z-of_z}
@@ -29,7 +29,7 @@ module _ (xs : Assignment) (wide : AreIn wide_ranges xs) where
 
   -- at an operator of two sides
   both_sides : (op : ℤ → ℤ → ℤ) (e l r : ExprTree) → IsLinear e → IsLinear l → IsLinear r → op (value_of xs l) (value_of xs r) ≡ value_of xs e
-    → (a b : ℤ) → a ≡ value_of xs l → b ≡ value_of xs r → Computes xs e (op (read a) (read b))
+      → (a b : ℤ) → a ≡ value_of xs l → b ≡ value_of xs r → Computes xs e (op (read a) (read b))
   both_sides op e l r linear left right meant a b at_left at_right =
       Computes-exact e linear (op (read a) (read b)) (ap (λ z. op z (read b)) (read_exact l left a at_left) ∙ (ap (λ z. op (value_of xs l) z) (read_exact r right b at_right) ∙ meant))
 
@@ -52,4 +52,4 @@ module _ (xs : Assignment) (wide : AreIn wide_ranges xs) where
   negation_computes e inner is linear a at =
       let parts = subst IsLinear is linear in
       Computes-exact e linear (pos 0 -ℤ read a)
-          (ap (λ z. pos 0 -ℤ z) (read_exact inner parts.0 a at) ∙ (+ℤ_idl (neg_ℤ (value_of xs inner)) ∙ ap (value_of xs) (sym is)))
+      (ap (λ z. pos 0 -ℤ z) (read_exact inner parts.0 a at) ∙ (+ℤ_idl (neg_ℤ (value_of xs inner)) ∙ ap (value_of xs) (sym is)))

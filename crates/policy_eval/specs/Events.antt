@@ -1,11 +1,12 @@
 -- What an event does to the thread that meets it.
-use Rattle.std.specs.Prelude.{ℕ, ℤ, Bool, List, map, filter, fold, slice_get, slice_set, Option, Some, None}
+use Rattle.std.specs.Prelude.{ℕ, ◌<◌, ℤ, Bool, List, length, map, filter, fold, slice_get, slice_set, Option, Some, None}
 use Rattle.std.specs.Int.{int_max, int_min}
 use Rattle.sched_base.specs.declared.task.Task.{Task}
 use Rattle.policy_tree.specs.declared.typed.Attr.{Attr}
 use Rattle.policy_tree.specs.declared.typed.Event.{Event}
 use Rattle.policy_tree.specs.declared.typed.Put.{Put}
 use Rattle.policy_tree.specs.Meaning.{CaseTree, Meaning, SetTree, cases_on}
+use Rattle.policy_eval.specs.Forms.{IsEvaluable}
 use Rattle.policy_eval.specs.Sights.{event_values}
 use Rattle.policy_eval.specs.Values.{Assignment, holds, value_of}
 
@@ -42,3 +43,8 @@ outcome_of_case p fresh consts t c = (task_after_case p fresh consts t c, c.put)
 -- what comes of the event: one outcome for each case that holds, in order. None loses the thread, two double it
 unfoldable pub outcomes_of : Meaning → Event → Bool → List ℤ → Task → List (Task × Put)
 outcomes_of p e fresh consts t = map (outcome_of_case p fresh consts t) (holding_cases p e fresh consts t)
+
+-- an assignment that can be carried out: its attribute is declared, and its value can be computed
+pub record IsSettable (p : Meaning) (s : SetTree) : Type 0 where
+  pub declared : s.attr < length p.thread_attrs
+  pub evaluable : IsEvaluable s.expr

@@ -29,14 +29,7 @@ impl Env {
         requires victim { victim.now.load ≤ MAX_LOAD }
         ensures { result.vals ≡ pair_values own.now victim.now }
     {
-        let numbers = [
-            own.nr,
-            own.load as u32,
-            victim.nr,
-            victim.load as u32,
-            1,
-            0,
-        ];
+        let numbers = [own.nr, own.load as u32, victim.nr, victim.load as u32, 1, 0];
         assigned(&numbers, &own.consts, &victim.consts, &NO_ATTRIBUTES)
     }
 

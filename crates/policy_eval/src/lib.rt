@@ -3,6 +3,10 @@
 
 pub mod env;
 pub mod evaluation;
+pub mod events;
+pub mod orders;
 
 pub use crate::env::{CoreValues, Env};
 pub use crate::evaluation::{holds, value};
+pub use crate::events::apply_case;
+pub use crate::orders::better;

@@ -12,6 +12,6 @@ loop-at-preserved c =
     let room : 0 + n < length old = omega (arith, c.fill-3.array_long) in
     let small : number < 2 ^ 32 = omega (arith, c.fits-numbers n) in
     let read : to_z w64 (of_z w64 c.from.result) ≡ get_or (map pos numbers) n (pos 0) =
-        ap (λ z. to_z w64 (of_z w64 z)) c.from.ensures ∙ (to_z_pos w64 number (omega arith) ∙ sym (get_or-map pos numbers n 0 (pos 0) (omega arith))) in
+    ap (λ z. to_z w64 (of_z w64 z)) c.from.ensures ∙ (to_z_pos w64 number (omega arith) ∙ sym (get_or-map pos numbers n 0 (pos 0) (omega arith))) in
     ap (λ xs. set xs n (to_z w64 (of_z w64 c.from.result))) c.loop-at.invariant
-  ∙ filled_more old 0 (map pos numbers) n n (pos 0) (to_z w64 (of_z w64 c.from.result)) inside room (omega arith) read
+    ∙ filled_more old 0 (map pos numbers) n n (pos 0) (to_z w64 (of_z w64 c.from.result)) inside room (omega arith) read

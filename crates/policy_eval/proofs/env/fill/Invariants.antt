@@ -1,4 +1,4 @@
-use Rattle.std.proofs.Common.{◌≡◌, ◌≤◌, length}
+use Rattle.std.proofs.Common.{◌≡◌}
 use Rattle.policy_eval.proofs.Filling.{filled}
 use Rattle.policy_eval.proofs.env.fill.Given as goal
 

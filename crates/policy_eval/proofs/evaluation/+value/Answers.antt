@@ -1,7 +1,7 @@
-use Rattle.std.proofs.Common.{◌≡◌, ap, ◌∙◌}
+use Rattle.std.proofs.Common.{ap, ◌∙◌}
 use Rattle.policy_tree.specs.Trees.{expr_tree}
 use Rattle.policy_eval.specs.Values.{value_of}
-use Rattle.policy_eval.proofs.Operations.{Computes, plus_computes, minus_computes, times_computes, negation_computes}
+use Rattle.policy_eval.proofs.Operations.{plus_computes, minus_computes, times_computes, negation_computes}
 use Rattle.policy_eval.proofs.evaluation.+value.Goals as goal
 
 pub overflow_add-result : goal.overflow_add-result

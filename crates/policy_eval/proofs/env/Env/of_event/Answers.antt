@@ -11,4 +11,4 @@ pub returns : goal.returns
 unfolding event_values
 returns c =
     c.assigned.ensures
-  ∙ ap (λ fresh. assigned 0 0 0 0 c.args.task.now.weight fresh c.args.consts.now no_attributes c.args.task.now.attrs) (c.from.ensures ∙ as_number c.args.fresh)
+    ∙ ap (λ fresh. assigned 0 0 0 0 c.args.task.now.weight fresh c.args.consts.now no_attributes c.args.task.now.attrs) (c.from.ensures ∙ as_number c.args.fresh)
