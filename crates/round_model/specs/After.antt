@@ -1,5 +1,5 @@
 -- The state that a history leaves.
-use Rattle.std.specs.Prelude.{ℕ, ◌==◌, Bool, true, false, cond, List, [], ◌∷◌, Option, Some, None, fold}
+use Rattle.std.specs.Prelude.{ℕ, ◌==◌, true, false, cond, List, [], ◌∷◌, Option, Some, None, fold}
 use Rattle.sched_base.specs.declared.task.Task.{Task}
 use Rattle.policy_tree.specs.Meaning.{Meaning}
 use Rattle.round_model.specs.declared.entry.Entry.{Entry}
@@ -37,13 +37,13 @@ entered p (Some t) core = admitted p true (entering_task p t) core
 abbrev pub woken : Meaning → (by at c : ℕ) → Option Blocked → ModelCore → ModelCore
 woken p by at c None core = core
 woken p by at c (Some b) core =
-  let left = cond (by == c) (released b.task.id core) core in cond (at == c) (admitted p false b.task left) left
+    let left = cond (by == c) (released b.task.id core) core in cond (at == c) (admitted p false b.task left) left
 
 -- the core c of a Steal: the thread leaves the one's queue and comes to the end of the other's
 abbrev pub stolen : (by from c : ℕ) → Option Task → ModelCore → ModelCore
 stolen by from c None core = core
 stolen by from c (Some t) core =
-  let left = cond (from == c) (handed t.id core) core in cond (by == c) (received t left) left
+    let left = cond (from == c) (handed t.id core) core in cond (by == c) (received t left) left
 
 -- what the entry leaves of a core that it touches
 unfoldable pub effect : Meaning → Plan → ℕ → Entry → Cores → ℕ → ModelCore

@@ -26,7 +26,7 @@ steal_or_fail by from reads (Some t) = entry.Steal by from t.id reads
 -- the attempt on the core v, by the cores as they are
 abbrev pub attempt_on : Meaning → Plan → Cores → ℕ → List ℕ → ℕ → Entry
 attempt_on p plan m a reads v =
-  cond (holds (pair_values (present_values plan m a) (present_values plan m v)) p.filter)
+    cond (holds (pair_values (present_values plan m a) (present_values plan m v)) p.filter)
     (steal_or_fail a v reads (best_of (before p.steal) (m v).queue))
     (entry.Fail a v reads)
 

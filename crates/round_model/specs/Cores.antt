@@ -1,5 +1,5 @@
 -- The state of the cores, and what is seen of one.
-use Rattle.std.specs.Prelude.{ℕ, ◌+◌, ℤ, List, [], ◌∷◌, ◌++◌, map, length, sum_by, slice_index_or, option_to_list, None}
+use Rattle.std.specs.Prelude.{ℕ, ℤ, List, [], ◌++◌, map, length, sum_by, slice_index_or, option_to_list, None}
 use Rattle.std.specs.List.{range_with_len}
 use Rattle.sched_base.specs.declared.task.Task.{Task}
 use Rattle.policy_eval.specs.Sights.{no_attributes}

@@ -1,5 +1,5 @@
 -- Legal and whole histories.
-use Rattle.std.specs.Prelude.{◌≡◌, ℕ, ◌+◌, ◌<◌, ◌==◌, nat_lt, Bool, ◌&&◌, ◌||◌, not, List, take, length, count_by, drop, IsTrue, IsFalse}
+use Rattle.std.specs.Prelude.{◌≡◌, ℕ, ◌+◌, ◌<◌, ◌==◌, nat_lt, Bool, ◌&&◌, ◌||◌, not, List, take, count_by, IsTrue, IsFalse}
 use Rattle.std.specs.List.{list_all, list_any}
 use mathlib.Core.Option.{some}
 use lib.ListN.{get_elem?}
@@ -8,7 +8,6 @@ use Rattle.round_model.specs.declared.entry.Entry.{Entry}
 use Rattle.round_model.specs.declared.entry.Entry.TheVariants as entry
 use Rattle.round_model.specs.declared.plan.Plan.{Plan}
 use Rattle.round_model.specs.declared.plan.Planned.{Planned}
-use Rattle.round_model.specs.After.{round_of}
 use Rattle.round_model.specs.Cores.{core_numbers}
 use Rattle.round_model.specs.Entries.{ends, is_round}
 use Rattle.round_model.specs.Rows.{Row}

@@ -7,6 +7,7 @@ pub mod Entries
 pub mod Explains
 pub mod FailsExplained
 pub mod Fits
+pub mod Laws
 pub mod Legal
 pub mod Moves
 pub mod OnePlace

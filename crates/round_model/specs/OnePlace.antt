@@ -18,4 +18,4 @@ pub record OnePlace (p : Meaning) (plan : Plan) (history : List Entry) : Type 0 
 -- the law
 abbrev pub OnePlaceLaw : Type 0
 OnePlaceLaw = (p : Meaning) (plan : Plan) (history : List Entry) → Fits p plan → MeetsHandlerObligations p → Legal p plan history
-  → (k : ℕ) → k ≤ length history → OnePlace p plan (take k history)
+    → (k : ℕ) → k ≤ length history → OnePlace p plan (take k history)

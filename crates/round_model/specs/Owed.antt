@@ -1,9 +1,8 @@
 -- What a core still owes in the open round.
-use Rattle.std.specs.Prelude.{ℕ, ◌+◌, ◌==◌, Bool, cond, List, count_by, map, sum}
+use Rattle.std.specs.Prelude.{ℕ, ◌+◌, ◌==◌, cond, List, count_by, map, sum}
 use Rattle.policy_tree.specs.Meaning.{Meaning}
 use Rattle.round_model.specs.declared.entry.Entry.{Entry}
 use Rattle.round_model.specs.declared.plan.Plan.{Plan}
-use Rattle.round_model.specs.declared.state.ModelCore.{ModelCore}
 use Rattle.round_model.specs.Cores.{core_numbers}
 use Rattle.round_model.specs.Scenes.{Scene, has_attempted, has_worked, is_due_blocked, is_entering, scene_of}
 use Rattle.round_model.specs.Legal.{rounds_begun}

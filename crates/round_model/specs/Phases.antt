@@ -1,5 +1,5 @@
 -- What a history says of a thread, and how often the thread stands at cores.
-use Rattle.std.specs.Prelude.{◌≡◌, ℕ, ◌==◌, cond, List, fold, count_by, sum_by, map, sum}
+use Rattle.std.specs.Prelude.{◌≡◌, ℕ, ◌==◌, cond, List, fold, count_by, map, sum}
 use Rattle.round_model.specs.declared.entry.Did.{Did}
 use Rattle.round_model.specs.declared.entry.Did.TheVariants as did
 use Rattle.round_model.specs.declared.entry.Entry.{Entry}

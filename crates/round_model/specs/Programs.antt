@@ -1,5 +1,5 @@
 -- The programs of threads: what a unit leads to, and how a thread begins.
-use Rattle.std.specs.Prelude.{ℕ, ◌+◌, ◌-◌, ◌==◌, nat_le, ℤ, pos, Bool, true, false, not, ◌&&◌, cond, List, ◌++◌, map, length, replicate, find, slice_get, Option, Some, None, option_and_then}
+use Rattle.std.specs.Prelude.{ℕ, ◌+◌, ◌-◌, ◌==◌, nat_le, ℤ, pos, Bool, true, false, not, ◌&&◌, cond, List, ◌++◌, map, length, replicate, find, slice_get, Option, option_and_then}
 use Rattle.sched_base.specs.declared.limits.TheConstants.{MAX_ATTRIBUTES}
 use Rattle.sched_base.specs.declared.task.Place.{Place}
 use Rattle.sched_base.specs.declared.task.Task.{Task}
@@ -50,7 +50,7 @@ meeting_of b at = cond (is_last_unit b at) (meeting_at_end b.ending) tick
 -- where the thread stands after its next unit: in a burst without end it stays where it is
 abbrev pub place_after : Burst → Place → Place
 place_after b at =
-  cond (is_endless b.ending) at (cond (is_last_unit b at) (record { burst = at.burst + 1; done = 0 }) (record at { done = at.done + 1 }))
+    cond (is_endless b.ending) at (cond (is_last_unit b at) (record { burst = at.burst + 1; done = 0 }) (record at { done = at.done + 1 }))
 
 abbrev pub start_of : Attr → ℤ
 start_of a = a.start

@@ -1,5 +1,5 @@
 -- When an entry of one core is legal next, over a scene.
-use Rattle.std.specs.Prelude.{◌≡◌, ℕ, ◌<◌, List, [], Option, Some, None, IsNone, IsTrue, IsFalse, IfSome, IsSomeAnd}
+use Rattle.std.specs.Prelude.{◌≡◌, ℕ, ◌<◌, List, [], Some, IsNone, IsTrue, IsFalse, IsSomeAnd}
 use Rattle.policy_tree.specs.Meaning.{Meaning, PlaceTree, here, least}
 use Rattle.round_model.specs.declared.entry.Did.{Did}
 use Rattle.round_model.specs.declared.entry.Entry.{Entry}

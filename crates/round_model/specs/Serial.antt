@@ -1,5 +1,5 @@
 -- Serial play: one history of each plan, in which the cores take turns by the order lines.
-use Rattle.std.specs.Prelude.{ℕ, suc, ◌+◌, ◌*◌, ◌==◌, max, Bool, cond, List, [], ◌∷◌, ◌++◌, map, length, fold, replicate, find, flat_map, Option, Some, None, is_some}
+use Rattle.std.specs.Prelude.{ℕ, suc, ◌+◌, ◌*◌, ◌==◌, max, cond, List, [], ◌∷◌, ◌++◌, map, length, fold, replicate, find, flat_map, Option, Some, None}
 use Rattle.std.specs.List.{range_with_len}
 use Rattle.policy_tree.specs.Meaning.{Meaning, PlaceTree, here, least}
 use Rattle.round_model.specs.declared.entry.Did.{Did}
@@ -59,25 +59,25 @@ module _ (p : Meaning) (plan : Plan) (play : Play) (s : Scene) (a : ℕ) where
   -- the step where no thread is left to enter or wake
   abbrev pub late_step : Play
   late_step =
-    cond (has_attempted s.own) play
+      cond (has_attempted s.own) play
       (cond (has_worked s.own) (attempt_step (play.looks a)) (with_work play a (worked p plan s.round (s.cores a)).dids))
 
   -- the step where no thread is left to enter
   abbrev pub wake_step : List ℕ → Option Blocked → Play
   wake_step reads None = late_step
   wake_step reads (Some b) =
-    with_placed play (λ at. entry.Wake b.task.id a at reads) (target_of p plan (read_values plan s.seen reads) a)
+      with_placed play (λ at. entry.Wake b.task.id a at reads) (target_of p plan (read_values plan s.seen reads) a)
 
   abbrev pub enter_step : List ℕ → Option Planned → Play
   enter_step reads None = wake_step reads (waking_next s.round (s.cores a))
   enter_step reads (Some t) =
-    with_placed play (λ at. entry.Enter t.id a at reads) (target_of p plan (read_values plan s.seen reads) a)
+      with_placed play (λ at. entry.Enter t.id a at reads) (target_of p plan (read_values plan s.seen reads) a)
 
 -- the core's next step: a thread enters or wakes, a unit of work, a look, an attempt. A turn that is over has none
 unfoldable pub step_of : Meaning → Plan → Play → ℕ → Play
 step_of p plan play a =
-  let s : Scene = scene_of p plan play.history a in
-  enter_step p plan play s a (placement_reads p.place plan play.history s) (entering_next plan s.round a s.own)
+    let s : Scene = scene_of p plan play.history a in
+    enter_step p plan play s a (placement_reads p.place plan play.history s) (entering_next plan s.round a s.own)
 
 -- the cores of the round's order line
 abbrev pub order_of : Plan → ℕ → List ℕ
@@ -94,8 +94,8 @@ remaining_turns plan = flat_map (λ c. replicate (2 * length plan.threads + 3) c
 -- the history with one round more, where one is due
 unfoldable pub with_round : Meaning → Plan → List Entry → ℕ → List Entry
 with_round p plan history number =
-  let opened : Play = record { history = history ++ entry.Round number ∷ []; looks = λ c. None } in
-  cond (is_due plan history) (fold (step_of p plan) opened (order_of plan number ++ remaining_turns plan)).history history
+    let opened : Play = record { history = history ++ entry.Round number ∷ []; looks = λ c. None } in
+    cond (is_due plan history) (fold (step_of p plan) opened (order_of plan number ++ remaining_turns plan)).history history
 
 -- the serial history of a plan
 abbrev pub serial_history : Meaning → Plan → List Entry

@@ -1,5 +1,5 @@
 -- One unit of work of a core.
-use Rattle.std.specs.Prelude.{ℕ, ◌+◌, Bool, true, false, List, [], ◌∷◌, map, Option, Some, None, Contains}
+use Rattle.std.specs.Prelude.{ℕ, ◌+◌, Bool, false, List, [], ◌∷◌, map, Option, Some, None, Contains}
 use Rattle.sched_base.specs.declared.task.Task.{Task}
 use Rattle.policy_tree.specs.declared.typed.Event.{Event}
 use Rattle.policy_tree.specs.declared.typed.Event.TheVariants as event
@@ -63,7 +63,7 @@ after_meeting p round ending_now t core = record { core = core; dids = did.Ended
 abbrev pub after_unit : Meaning → ℕ → ModelCore → Task → Option Burst → Worked
 after_unit p round core t None = record { core = core; dids = [] }
 after_unit p round core t (Some b) =
-  after_meeting p round (meeting_of b t.place) (record t { place = place_after b t.place }) (record core { current = None })
+    after_meeting p round (meeting_of b t.place) (record t { place = place_after b t.place }) (record core { current = None })
 
 -- a unit of the core, once it has elected
 abbrev pub run_over : Meaning → Plan → ℕ → ModelCore → Option Task → Worked

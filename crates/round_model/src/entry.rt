@@ -25,7 +25,9 @@ pub enum Did {
 #[derive(Clone, Copy)]
 pub enum Entry {
     /// A round begins.
-    Round { number: u32 },
+    Round {
+        number: u32,
+    },
     /// A thread of the plan enters.
     Enter {
         thread: ThreadId,
@@ -41,7 +43,10 @@ pub enum Entry {
         reads: Reads,
     },
     /// A core runs one unit.
-    Work { by: CoreId, did: Did },
+    Work {
+        by: CoreId,
+        did: Did,
+    },
     /// A core takes a queued thread of another.
     Steal {
         by: CoreId,
@@ -56,5 +61,8 @@ pub enum Entry {
         reads: Reads,
     },
     /// A core found none to take from.
-    Pass { by: CoreId, reads: Reads },
+    Pass {
+        by: CoreId,
+        reads: Reads,
+    },
 }

@@ -2,6 +2,7 @@
 #![tactic(auto)]
 
 pub mod entry;
+pub mod laws;
 pub mod plan;
 pub mod state;
 
