@@ -5,8 +5,10 @@ use Rattle.std.proofs.lemmas.Bool.Decides.{nat_tests}
 use Rattle.policy_tree.specs.declared.typed.Event.TheVariants as event
 use Rattle.policy_tree.specs.Trees.{ExprTree, number, variable, negation, plus, minus, times, CondTree, always, negated, both, either, test}
 use Rattle.policy_tree.specs.Meaning.{KeyTree, Meaning}
-use Rattle.policy_eval.specs.Forms.{EachSide, IsEvaluable, IsEvaluableCond, IsEvaluableOrder, RefersTo}
-use Rattle.policy_eval.specs.Resolved.{IsResolved, IsResolvedCond, IsResolvedExpr, IsResolvedOrder, Site, allows, choosing, electing, filtering, handling, placing, stealing}
+use Rattle.policy_eval.specs.Evaluable.{IsEvaluable, IsEvaluableCond, IsEvaluableOrder}
+use Rattle.policy_eval.specs.Forms.{EachSide, RefersTo}
+use Rattle.policy_eval.specs.Resolved.{IsResolved, IsResolvedCond, IsResolvedExpr, IsResolvedOrder}
+use Rattle.policy_eval.specs.Sites.{Site, allows, choosing, electing, filtering, handling, placing, stealing}
 
 -- each variable that may stand somewhere is one of those that there are
 known : (p : Meaning) (site : Site) (at : ℕ) → length p.core_attrs ≤ 8 → length p.thread_attrs ≤ 8 → allows p site at ≡ true → ltb at 30 ≡ true

@@ -7,8 +7,9 @@ use Rattle.policy_tree.specs.declared.typed.Case.{Case}
 use Rattle.policy_tree.specs.declared.typed.Event.{Event}
 use Rattle.policy_tree.specs.Meaning.{CaseTree, Meaning, SetTree, case_tree, cases_on}
 use Rattle.policy_eval.specs.Events.{IsSettable, holding_cases, outcome_of_case, outcomes_of, seen_by_handler}
-use Rattle.policy_eval.specs.Forms.{IsEvaluableCond}
-use Rattle.policy_eval.specs.Resolved.{IsResolved, IsResolvedCase, IsResolvedSet, handling}
+use Rattle.policy_eval.specs.Evaluable.{IsEvaluableCond}
+use Rattle.policy_eval.specs.Resolved.{IsResolved, IsResolvedCase, IsResolvedSet}
+use Rattle.policy_eval.specs.Sites.{handling}
 use Rattle.policy_eval.specs.Values.{holds}
 use Rattle.policy_eval.proofs.Evaluable.{AllByRecursion-each, evaluable_cond, evaluable_expr}
 

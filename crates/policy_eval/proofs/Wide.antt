@@ -8,7 +8,7 @@ use Rattle.policy_tree.specs.declared.typed.Attr.{Attr}
 use Rattle.policy_tree.specs.Meaning.{Meaning, SetTree}
 use Rattle.policy_eval.specs.declared.env.CoreValues.{CoreValues}
 use Rattle.policy_eval.specs.Events.{saturated, seen_by_handler, task_after_set, with_attribute}
-use Rattle.policy_eval.specs.Obligations.{CoreFits, IsTask, IsWeight, LoadsFit}
+use Rattle.policy_eval.specs.Fitting.{CoreFits, IsTask, IsWeight, LoadsFit}
 use Rattle.policy_eval.specs.Ranges.{AreIn, IsIn, Range, attribute_ranges, declared_range, greatest_weight, range, wide_ranges, within}
 use Rattle.policy_eval.specs.Resolved.{AreAttributes, IsAttribute, IsResolved}
 use Rattle.policy_eval.specs.Sights.{assigned, core_values, event_values, no_attributes, pair_values, thread_values}

@@ -6,7 +6,7 @@ use Rattle.policy_tree.specs.declared.typed.Attr.{Attr}
 use Rattle.policy_tree.specs.declared.typed.Event.{Event}
 use Rattle.policy_tree.specs.declared.typed.Put.{Put}
 use Rattle.policy_tree.specs.Meaning.{CaseTree, Meaning, SetTree, cases_on}
-use Rattle.policy_eval.specs.Forms.{IsEvaluable}
+use Rattle.policy_eval.specs.Evaluable.{IsEvaluable}
 use Rattle.policy_eval.specs.Sights.{event_values}
 use Rattle.policy_eval.specs.Values.{Assignment, holds, value_of}
 

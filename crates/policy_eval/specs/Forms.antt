@@ -1,9 +1,7 @@
 -- The linear form of an expression, what it refers to, and how long it is.
-use Rattle.std.specs.Prelude.{ℕ, ◌+◌, ◌==◌, ℤ, pos, ◌+ℤ◌, ◌-ℤ◌, ◌*ℤ◌, neg_ℤ, Bool, true, false, cond, ◌&&◌, ◌||◌, IsFalse, IsTrue, nat_lt, List}
-use Rattle.std.specs.List.{AllByRecursion}
-use Rattle.sched_base.specs.declared.limits.TheConstants.{MAX_COEFFICIENT, VARIABLES}
+use Rattle.std.specs.Prelude.{ℕ, ◌+◌, ◌==◌, ℤ, pos, ◌+ℤ◌, ◌-ℤ◌, ◌*ℤ◌, neg_ℤ, Bool, true, false, cond, ◌&&◌, ◌||◌, IsFalse, IsTrue}
+use Rattle.sched_base.specs.declared.limits.TheConstants.{MAX_COEFFICIENT}
 use Rattle.policy_tree.specs.Trees.{ExprTree, number, variable, negation, plus, minus, times, CondTree, always, negated, both, either, test}
-use Rattle.policy_tree.specs.Meaning.{KeyTree}
 use Rattle.policy_eval.specs.Ranges.{IsIn, within}
 
 -- whether any variable stands in the expression
@@ -88,16 +86,3 @@ EachSide P (negated c) = EachSide P c
 EachSide P (both l r) = EachSide P l × EachSide P r
 EachSide P (either l r) = EachSide P l × EachSide P r
 EachSide P (test how l r) = P l × P r
-
--- what the evaluator takes: a linear expression over the variables that there are
-pub record IsEvaluable (e : ExprTree) : Type 0 where
-  pub linear : IsLinear e
-  pub known : RefersTo (λ (at : ℕ). nat_lt at VARIABLES) e
-
--- a condition that the evaluator takes
-abbrev pub IsEvaluableCond : CondTree → Type 0
-IsEvaluableCond c = EachSide IsEvaluable c
-
--- an order that the evaluator takes
-abbrev pub IsEvaluableOrder : List KeyTree → Type 0
-IsEvaluableOrder keys = AllByRecursion (λ (key : KeyTree). IsEvaluable key.expr) keys

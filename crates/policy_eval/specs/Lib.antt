@@ -1,8 +1,11 @@
+pub mod Evaluable
 pub mod Events
+pub mod Fitting
 pub mod Forms
 pub mod Obligations
 pub mod Orders
 pub mod Ranges
 pub mod Resolved
 pub mod Sights
+pub mod Sites
 pub mod Values

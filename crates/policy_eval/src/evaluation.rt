@@ -2,7 +2,8 @@
 
 ghost use Rattle.std.specs.Prelude.{◌≡◌};
 ghost use Rattle.policy_tree.specs.Trees.{cond_tree, expr_tree};
-ghost use Rattle.policy_eval.specs.Forms.{EachSide, IsEvaluable};
+ghost use Rattle.policy_eval.specs.Evaluable.{IsEvaluable};
+ghost use Rattle.policy_eval.specs.Forms.{EachSide};
 ghost use Rattle.policy_eval.specs.Ranges.{AreIn, wide_ranges};
 ghost use Rattle.policy_eval.specs.Values.{compared, value_of, holds as holds_at};
 

@@ -4,7 +4,7 @@ ghost use Rattle.std.specs.Prelude.{◌≡◌, ◌<◌, ◌≤ℤ◌, [], ◌∷
 ghost use Rattle.std.specs.List.{AllByRecursion};
 ghost use Rattle.policy_tree.specs.Meaning.{meaning_of, set_tree};
 ghost use Rattle.policy_eval.specs.Events.{IsSettable, holding_cases, outcomes_of, saturated, task_after_set};
-ghost use Rattle.policy_eval.specs.Obligations.{IsTask};
+ghost use Rattle.policy_eval.specs.Fitting.{IsTask};
 ghost use Rattle.policy_eval.specs.Ranges.{AreIn, attribute_ranges};
 ghost use Rattle.policy_eval.specs.Resolved.{IsResolved};
 

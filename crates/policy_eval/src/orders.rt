@@ -2,7 +2,7 @@
 
 ghost use Rattle.std.specs.Prelude.{◌≡◌};
 ghost use Rattle.policy_tree.specs.Meaning.{key_tree, order_tree};
-ghost use Rattle.policy_eval.specs.Forms.{IsEvaluable, IsEvaluableOrder};
+ghost use Rattle.policy_eval.specs.Evaluable.{IsEvaluable, IsEvaluableOrder};
 ghost use Rattle.policy_eval.specs.Orders.{key_order as order_by_key, precedes};
 ghost use Rattle.policy_eval.specs.Ranges.{AreIn, wide_ranges};
 

@@ -1,7 +1,7 @@
 -- States in bounds: every number that a policy may ask for lies in the policy's ranges.
 use Rattle.std.specs.Prelude.{ℕ, ◌+◌, ◌<◌, ◌≤◌, length, All, sum, map}
 use Rattle.policy_tree.specs.Meaning.{Meaning}
-use Rattle.policy_eval.specs.Obligations.{IsTask, LoadsFit}
+use Rattle.policy_eval.specs.Fitting.{IsTask, LoadsFit}
 use Rattle.policy_eval.specs.Ranges.{AreIn, attribute_ranges}
 use Rattle.round_model.specs.declared.plan.Plan.{Plan}
 use Rattle.round_model.specs.declared.state.Blocked.{Blocked}

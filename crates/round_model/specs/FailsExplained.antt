@@ -7,7 +7,7 @@ use Rattle.policy_eval.specs.Obligations.{MeetsObligations}
 use Rattle.round_model.specs.declared.entry.Entry.{Entry}
 use Rattle.round_model.specs.declared.entry.Entry.TheVariants as entry
 use Rattle.round_model.specs.declared.plan.Plan.{Plan}
-use Rattle.round_model.specs.Entries.{is_steal}
+use Rattle.round_model.specs.Kinds.{is_steal}
 use Rattle.round_model.specs.Explains.{Explains}
 use Rattle.round_model.specs.Fits.{Fits}
 use Rattle.round_model.specs.Legal.{Legal}

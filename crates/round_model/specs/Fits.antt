@@ -2,7 +2,7 @@
 use Rattle.std.specs.Prelude.{◌≡◌, ◌≢◌, ℕ, ◌<◌, ◌≤◌, List, [], ◌∷◌, length, All, AllPairs}
 use Rattle.sched_base.specs.declared.limits.TheConstants.{MAX_BLOCK_ROUNDS, MAX_BURSTS, MAX_CORES, MAX_ENTRIES, MAX_ORDER_CORES, MAX_ROUNDS, MAX_THREADS, MAX_UNITS}
 use Rattle.policy_tree.specs.Meaning.{Meaning}
-use Rattle.policy_eval.specs.Obligations.{IsWeight}
+use Rattle.policy_eval.specs.Fitting.{IsWeight}
 use Rattle.policy_eval.specs.Ranges.{AreIn, attribute_ranges}
 use Rattle.policy_eval.specs.Resolved.{IsResolved}
 use Rattle.round_model.specs.declared.plan.Burst.{Burst}

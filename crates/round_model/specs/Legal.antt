@@ -9,7 +9,8 @@ use Rattle.round_model.specs.declared.entry.Entry.TheVariants as entry
 use Rattle.round_model.specs.declared.plan.Plan.{Plan}
 use Rattle.round_model.specs.declared.plan.Planned.{Planned}
 use Rattle.round_model.specs.Cores.{core_numbers}
-use Rattle.round_model.specs.Entries.{ends, is_round}
+use Rattle.round_model.specs.Entries.{ends}
+use Rattle.round_model.specs.Kinds.{is_round}
 use Rattle.round_model.specs.Rows.{Row}
 use Rattle.round_model.specs.Scenes.{has_attempted, own_entries, scene_of}
 

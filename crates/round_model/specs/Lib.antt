@@ -7,6 +7,8 @@ pub mod Entries
 pub mod Explains
 pub mod FailsExplained
 pub mod Fits
+pub mod FreshReads
+pub mod Kinds
 pub mod Laws
 pub mod Legal
 pub mod Moves

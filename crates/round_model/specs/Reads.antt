@@ -6,7 +6,7 @@ use Rattle.round_model.specs.declared.entry.Entry.{Entry}
 use Rattle.round_model.specs.declared.plan.Plan.{Plan}
 use Rattle.round_model.specs.After.{after}
 use Rattle.round_model.specs.Cores.{Seen, consts_of, seen_of}
-use Rattle.round_model.specs.Entries.{is_round}
+use Rattle.round_model.specs.Kinds.{is_round}
 
 -- the position just after the last Round of these entries, the first of which stands at k
 abbrev pub start_from : ℕ → ℕ → List Entry → ℕ

@@ -9,7 +9,8 @@ use Rattle.round_model.specs.declared.entry.Entry.{Entry}
 use Rattle.round_model.specs.declared.entry.Entry.TheVariants as entry
 use Rattle.round_model.specs.declared.plan.Plan.{Plan}
 use Rattle.round_model.specs.After.{after, round_of}
-use Rattle.round_model.specs.Entries.{acts, is_attempt}
+use Rattle.round_model.specs.Entries.{acts}
+use Rattle.round_model.specs.Kinds.{is_attempt}
 use Rattle.round_model.specs.Spread.{Beside}
 
 -- the number of the round that is open after the first k entries

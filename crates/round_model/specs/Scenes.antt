@@ -9,7 +9,8 @@ use Rattle.round_model.specs.declared.state.Blocked.{Blocked}
 use Rattle.round_model.specs.declared.state.ModelCore.{ModelCore}
 use Rattle.round_model.specs.After.{after, round_of}
 use Rattle.round_model.specs.Cores.{Cores, Seen}
-use Rattle.round_model.specs.Entries.{acts, is_attempt, is_work, lets_in}
+use Rattle.round_model.specs.Entries.{acts, lets_in}
+use Rattle.round_model.specs.Kinds.{is_attempt, is_work}
 use Rattle.round_model.specs.Reads.{round_start, value_read}
 
 -- a moment of a history, as the acting core of the next entry needs it

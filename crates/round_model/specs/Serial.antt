@@ -1,7 +1,7 @@
 -- Serial play: one history of each plan, in which the cores take turns by the order lines.
-use Rattle.std.specs.Prelude.{ℕ, suc, ◌+◌, ◌*◌, ◌==◌, max, cond, List, [], ◌∷◌, ◌++◌, map, length, fold, replicate, find, flat_map, Option, Some, None}
+use Rattle.std.specs.Prelude.{ℕ, ◌+◌, ◌*◌, ◌==◌, cond, List, [], ◌∷◌, ◌++◌, length, fold, replicate, find, flat_map, Option, Some, None}
 use Rattle.std.specs.List.{range_with_len}
-use Rattle.policy_tree.specs.Meaning.{Meaning, PlaceTree, here, least}
+use Rattle.policy_tree.specs.Meaning.{Meaning}
 use Rattle.round_model.specs.declared.entry.Did.{Did}
 use Rattle.round_model.specs.declared.entry.Entry.{Entry}
 use Rattle.round_model.specs.declared.entry.Entry.TheVariants as entry
@@ -12,25 +12,11 @@ use Rattle.round_model.specs.declared.state.Blocked.{Blocked}
 use Rattle.round_model.specs.Attempts.{attempt_of}
 use Rattle.round_model.specs.Choices.{target_of}
 use Rattle.round_model.specs.Cores.{core_numbers}
-use Rattle.round_model.specs.Entries.{touches}
+use Rattle.round_model.specs.FreshReads.{fresh_reads, placement_reads}
 use Rattle.round_model.specs.Legal.{is_due}
 use Rattle.round_model.specs.Reads.{read_values}
 use Rattle.round_model.specs.Scenes.{Scene, entering_next, has_attempted, has_worked, scene_of, waking_next}
 use Rattle.round_model.specs.Work.{worked}
-
--- one past the last of these entries that touches the core, the first of them standing at k
-abbrev pub touched_from : ℕ → ℕ → ℕ → List Entry → ℕ
-touched_from c k last [] = last
-touched_from c k last (e ∷ es) = touched_from c (suc k) (cond (touches c e) (suc k) last) es
-
--- what a core that looks just now reads: of each core the latest moment at which it changed, or the round's start
-abbrev pub fresh_reads : Plan → List Entry → Scene → List ℕ
-fresh_reads plan history s = map (λ c. max s.start (touched_from c 0 0 history)) (core_numbers plan)
-
--- the reads of a placement
-abbrev pub placement_reads : PlaceTree → Plan → List Entry → Scene → List ℕ
-placement_reads here plan history s = []
-placement_reads (least e) plan history s = fresh_reads plan history s
 
 -- the history so far, and the look of each core that has looked in the open round and made no attempt yet
 pub record Play : Type 0 where

@@ -8,7 +8,7 @@ use Rattle.policy_eval.specs.Obligations.{MeetsObligations}
 use Rattle.round_model.specs.declared.entry.Entry.{Entry}
 use Rattle.round_model.specs.declared.plan.Plan.{Plan}
 use Rattle.round_model.specs.After.{after}
-use Rattle.round_model.specs.Entries.{is_steal}
+use Rattle.round_model.specs.Kinds.{is_steal}
 use Rattle.round_model.specs.Fits.{Fits}
 use Rattle.round_model.specs.Legal.{Legal}
 use Rattle.round_model.specs.Reads.{value_read}

@@ -1,7 +1,8 @@
 use Rattle.std.proofs.Common.{◌≡◌, ◌≤◌}
 use Rattle.policy_tree.specs.declared.trees.Cond.{size-Cond}
 use Rattle.policy_tree.specs.Trees.{cond_tree}
-use Rattle.policy_eval.specs.Forms.{EachSide, IsEvaluable}
+use Rattle.policy_eval.specs.Evaluable.{IsEvaluable}
+use Rattle.policy_eval.specs.Forms.{EachSide}
 use Rattle.policy_eval.specs.Values.{holds as holds_at}
 use Rattle.policy_eval.proofs.evaluation.+holds.Given as goal
 

@@ -4,7 +4,7 @@ use Rattle.std.proofs.lemmas.Int.{to_z-of_z}
 use Rattle.policy_tree.specs.Meaning.{meaning_of, set_tree}
 use Rattle.policy_tree.specs.Trees.{expr_tree}
 use Rattle.policy_eval.specs.Events.{saturated}
-use Rattle.policy_eval.specs.Obligations.{IsTask}
+use Rattle.policy_eval.specs.Fitting.{IsTask}
 use Rattle.policy_eval.specs.Ranges.{AreIn, wide_ranges}
 use Rattle.policy_eval.specs.Values.{value_of}
 use Rattle.policy_eval.proofs.Assigning.{task_after_set-declared}

@@ -2,7 +2,7 @@ use Rattle.std.proofs.Common.{◌≡◌, drop, fold, map}
 use Rattle.std.specs.List.{AllByRecursion}
 use Rattle.policy_tree.specs.Meaning.{meaning_of, set_tree}
 use Rattle.policy_eval.specs.Events.{IsSettable, task_after_set}
-use Rattle.policy_eval.specs.Obligations.{IsTask}
+use Rattle.policy_eval.specs.Fitting.{IsTask}
 use Rattle.policy_eval.proofs.events.apply_sets.Given as goal
 
 -- what is left to assign gives what the whole gives

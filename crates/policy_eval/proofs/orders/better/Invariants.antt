@@ -1,6 +1,6 @@
 use Rattle.std.proofs.Common.{◌≡◌, drop}
 use Rattle.policy_tree.specs.Meaning.{order_tree}
-use Rattle.policy_eval.specs.Forms.{IsEvaluableOrder}
+use Rattle.policy_eval.specs.Evaluable.{IsEvaluableOrder}
 use Rattle.policy_eval.specs.Orders.{precedes}
 use Rattle.policy_eval.proofs.orders.better.Given as goal
 
