@@ -1,3 +1,4 @@
 pub mod Grows
 pub mod Constants
 pub mod Opening
+pub mod Walks

@@ -37,4 +37,4 @@ attempt_with p plan m a reads (Some v) = attempt_on p plan m a reads v
 
 -- the entry of the attempt of the core a, which read these values at these positions
 unfoldable pub attempt_of : Meaning → Plan → Cores → (ℕ → CoreValues) → ℕ → List ℕ → Entry
-attempt_of p plan m values a reads = attempt_with p plan m a reads (choice_of p plan values a)
+attempt_of p plan m values a reads = attempt_with p plan m a reads (choice_of p plan.cores values a)

@@ -21,7 +21,7 @@ PlacementReads (least e) plan s reads = ReadsFit plan.cores s.start s.position r
 -- the core `by` places a thread at `at`, by what it read
 pub record IsPlacement (p : Meaning) (plan : Plan) (s : Scene) (by at : ℕ) (reads : List ℕ) : Type 0 where
   pub read : PlacementReads p.place plan s reads
-  pub target : target_of p plan (read_values plan s.seen reads) by ≡ Some at
+  pub target : target_of p plan.cores (read_values plan s.seen reads) by ≡ Some at
 
 -- the thread is the next that the core lets in
 pub record LegalEnter (p : Meaning) (plan : Plan) (s : Scene) (thread by at : ℕ) (reads : List ℕ) : Type 0 where

@@ -52,12 +52,12 @@ module _ (p : Meaning) (plan : Plan) (play : Play) (s : Scene) (a : ℕ) where
   abbrev pub wake_step : List ℕ → Option Blocked → Play
   wake_step reads None = late_step
   wake_step reads (Some b) =
-      with_placed play (λ at. entry.Wake b.task.id a at reads) (target_of p plan (read_values plan s.seen reads) a)
+      with_placed play (λ at. entry.Wake b.task.id a at reads) (target_of p plan.cores (read_values plan s.seen reads) a)
 
   abbrev pub enter_step : List ℕ → Option Planned → Play
   enter_step reads None = wake_step reads (waking_next s.round (s.cores a))
   enter_step reads (Some t) =
-      with_placed play (λ at. entry.Enter t.id a at reads) (target_of p plan (read_values plan s.seen reads) a)
+      with_placed play (λ at. entry.Enter t.id a at reads) (target_of p plan.cores (read_values plan s.seen reads) a)
 
 -- the core's next step: a thread enters or wakes, a unit of work, a look, an attempt. A turn that is over has none
 unfoldable pub step_of : Meaning → Plan → Play → ℕ → Play

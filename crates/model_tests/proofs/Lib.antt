@@ -1,0 +1,3 @@
+pub mod MissingRows
+pub mod SerialRows
+pub mod WholeRows

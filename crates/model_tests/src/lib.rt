@@ -1,0 +1,5 @@
+//! The worked rows of the model: each a function whose contract is the row.
+#![tactic(auto)]
+
+pub mod legal;
+pub mod serial;
