@@ -2,4 +2,5 @@
 #![tactic(auto)]
 
 pub mod legal;
+pub mod policies;
 pub mod serial;

@@ -6,4 +6,5 @@ pub mod Forms
 pub mod Handling
 pub mod Operations
 pub mod Products
+pub mod Statements
 pub mod Wide
