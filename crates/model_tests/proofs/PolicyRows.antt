@@ -1,10 +1,9 @@
 -- The policies of the worked rows are right, and the changed ones aren't.
-use Rattle.std.proofs.Common.{◌≡◌, ◌≢◌, ◌≤◌, ◌<◌, ◌+◌, ◌*◌, ℕ, ℤ, pos, neg_ℤ, ◌≤ℤ◌, ◌+ℤ◌, ◌-ℤ◌, int_le, Bool, true, false, ◌&&◌, ◌||◌, List, [], ◌∷◌, length, refl, arith, All, AllPairs, sym, ap, subst, ◌∙◌, lit<, get_or, zero, suc}
+use Rattle.std.proofs.Common.{◌≡◌, ◌≢◌, ◌≤◌, ◌<◌, ◌+◌, ℕ, pos, false, List, [], ◌∷◌, refl, arith, All, sym, subst, lit<, get_or, zero, suc}
 use Rattle.std.proofs.lemmas.Int.{ints}
 use Rattle.std.proofs.lemmas.List.Elements.{All-from_recursion, All-nil}
 use Rattle.sched_base.specs.declared.task.Task.{Task}
 use Rattle.policy_tree.specs.declared.typed.Attr.{Attr}
-use Rattle.policy_tree.specs.declared.typed.Put.{Put}
 use Rattle.policy_tree.specs.declared.typed.Put.TheVariants as put
 use Rattle.policy_tree.specs.Trees.{CondTree, always}
 use Rattle.policy_tree.specs.Meaning.{CaseTree, Meaning}
@@ -13,11 +12,9 @@ use Rattle.policy_tree.specs.declared.typed.Event.TheVariants as event
 use Rattle.policy_eval.specs.declared.env.CoreValues.{CoreValues}
 use Rattle.policy_eval.specs.Events.{holding_cases}
 use Rattle.policy_eval.specs.Fitting.{CoreFits, IsTask}
-use Rattle.policy_eval.specs.Forms.{IsSmall}
-use Rattle.policy_eval.specs.Obligations.{MeetsBalanceObligations, MeetsHandlerObligations, MeetsObligations, NoGap, NoOverlap}
+use Rattle.policy_eval.specs.Obligations.{MeetsBalanceObligations, MeetsObligations, NoGap, NoOverlap}
 use Rattle.policy_eval.specs.Ranges.{AreIn, IsIn, attribute_ranges, greatest_weight, least_weight, range}
-use Rattle.policy_eval.specs.Resolved.{IsResolved, IsResolvedHandler}
-use Rattle.policy_eval.specs.Sights.{pair_values, event_values, no_attributes}
+use Rattle.policy_eval.specs.Sights.{pair_values, no_attributes}
 use Rattle.policy_eval.proofs.Statements.{all_obligations}
 use Rattle.round_model.specs.declared.plan.Planned.{Planned}
 use Rattle.round_model.specs.Fits.{Fits, OrderFits, ThreadFits}
@@ -118,15 +115,28 @@ eight_threads_fit = record {
   consts_each = refl;
   consts = All-from_recursion (AreIn (attribute_ranges [])) eight_threads.consts (zeros_fit, (zeros_fit, (zeros_fit, (zeros_fit, tt))));
   few_threads = omega arith;
-  threads = All-from_recursion (ThreadFits basic 4) eight_threads.threads
-      (fit 1 (omega arith) (omega arith), (fit 2 (omega arith) (omega arith), (fit 3 (omega arith) (omega arith), (fit 4 (omega arith) (omega arith),
-      (fit 5 (omega arith) (omega arith), (fit 6 (omega arith) (omega arith), (fit 7 (omega arith) (omega arith), (fit 8 (omega arith) (omega arith), tt))))))));
+  threads = All-from_recursion (ThreadFits basic 4) eight_threads.threads (
+    fit 1 (omega arith) (omega arith),
+    (
+      fit 2 (omega arith) (omega arith),
+      (
+        fit 3 (omega arith) (omega arith),
+        (
+          fit 4 (omega arith) (omega arith),
+          (fit 5 (omega arith) (omega arith), (fit 6 (omega arith) (omega arith), (fit 7 (omega arith) (omega arith), (fit 8 (omega arith) (omega arith), tt)))),
+        ),
+      ),
+    ),
+  );
   distinct = λ i j d below inside same. absurd (omega (arith, numbered i d (omega arith), numbered j d inside));
-  orders = All-from_recursion (OrderFits 4) eight_threads.orders (record {
-    some_cores = omega arith;
-    few_cores = omega arith;
-    each = All-from_recursion (λ c. c < 4) (1 ∷ 1 ∷ 1 ∷ 2 ∷ 2 ∷ 2 ∷ 3 ∷ 3 ∷ 3 ∷ []) (lit< tt, (lit< tt, (lit< tt, (lit< tt, (lit< tt, (lit< tt, (lit< tt, (lit< tt, (lit< tt, tt)))))))));
-  }, tt);
+  orders = All-from_recursion (OrderFits 4) eight_threads.orders (
+    record {
+      some_cores = omega arith;
+      few_cores = omega arith;
+      each = All-from_recursion (λ c. c < 4) (1 ∷ 1 ∷ 1 ∷ 2 ∷ 2 ∷ 2 ∷ 3 ∷ 3 ∷ 3 ∷ []) (lit< tt, (lit< tt, (lit< tt, (lit< tt, (lit< tt, (lit< tt, (lit< tt, (lit< tt, (lit< tt, tt)))))))));
+    },
+    tt,
+  );
   one_order_each = λ i j d below inside. absurd (omega arith);
 }
   where
@@ -142,14 +152,19 @@ block_and_wake_threads = All-from_recursion (ThreadFits fair 2) block_and_wake.t
     weight = record { least = omega arith; greatest = omega arith };
     program = (omega arith, omega arith, (omega arith, omega arith), (omega arith, omega arith, tt));
     few_bursts = omega arith;
-  }, (record {
-    id_positive = omega arith;
-    id_small = omega arith;
-    core = omega arith;
-    weight = record { least = omega arith; greatest = omega arith };
-    program = (omega arith, omega arith, refl);
-    few_bursts = omega arith;
-  }, tt))
+  },
+  (
+    record {
+      id_positive = omega arith;
+      id_small = omega arith;
+      core = omega arith;
+      weight = record { least = omega arith; greatest = omega arith };
+      program = (omega arith, omega arith, refl);
+      few_bursts = omega arith;
+    },
+    tt,
+  ),
+)
 
 two_apart : (i j : ℕ) (d : Planned) → i < j → j < 2 → (get_or block_and_wake.threads i d).id ≢ (get_or block_and_wake.threads j d).id
 two_apart zero zero d below inside same = absurd (omega arith)

@@ -1,16 +1,15 @@
 -- The policies of the worked rows are resolved.
-use Rattle.std.proofs.Common.{◌≡◌, ◌≤◌, ◌<◌, ◌+◌, ℕ, ℤ, pos, neg_ℤ, ◌≤ℤ◌, ◌+ℤ◌, ◌-ℤ◌, Bool, true, false, cond, eqb, List, [], ◌∷◌, length, refl, arith, All}
+use Rattle.std.proofs.Common.{◌≤◌, ℕ, pos, ◌+ℤ◌, ◌-ℤ◌, Bool, true, false, cond, eqb, [], ◌∷◌, refl, arith, All}
 use Rattle.std.proofs.lemmas.Int.{ints}
 use Rattle.std.proofs.lemmas.List.Elements.{All-from_recursion, All-nil}
-use Rattle.policy_tree.specs.declared.typed.Attr.{Attr}
 use Rattle.policy_tree.specs.declared.typed.Event.{Event}
 use Rattle.policy_tree.specs.declared.typed.Event.TheVariants as event
 use Rattle.policy_tree.specs.declared.typed.Put.{Put}
-use Rattle.policy_tree.specs.Trees.{ExprTree, number, variable, plus, minus}
-use Rattle.policy_tree.specs.Meaning.{CaseTree, KeyTree, Meaning, SetTree, cases_on}
-use Rattle.policy_eval.specs.Forms.{HasSmallForm, IsLinear, IsSmall}
-use Rattle.policy_eval.specs.Resolved.{AreAttributes, IsAttribute, IsResolved, IsResolvedCase, IsResolvedCond, IsResolvedExpr, IsResolvedHandler, IsResolvedOrder, IsResolvedSet}
-use Rattle.policy_eval.specs.Sites.{AllowsPut, Site, choosing, electing, filtering, handling, placing, stealing}
+use Rattle.policy_tree.specs.Trees.{number, variable, plus, minus}
+use Rattle.policy_tree.specs.Meaning.{KeyTree, Meaning, cases_on}
+use Rattle.policy_eval.specs.Forms.{IsLinear, IsSmall}
+use Rattle.policy_eval.specs.Resolved.{IsAttribute, IsResolved, IsResolvedCase, IsResolvedExpr, IsResolvedHandler, IsResolvedOrder, IsResolvedSet}
+use Rattle.policy_eval.specs.Sites.{AllowsPut, Site, choosing, electing, stealing}
 use Rattle.model_tests.specs.Policies.{basic, fair, whenever}
 
 -- a coefficient that is 0 or 1, and the sum and the difference of two
@@ -80,13 +79,16 @@ by_variable p site key is =
     record { few = omega arith; keys = All-from_recursion (λ (k : KeyTree). IsResolvedExpr p site k.expr) (key ∷ []) (is, tt) }
 
 fair_tick : All (IsResolvedCase fair event.Tick) (cases_on fair.handlers event.Tick)
-fair_tick = All-from_recursion (IsResolvedCase fair event.Tick) (cases_on fair.handlers event.Tick) (record {
-  guard = record { few = omega arith; sides = tt };
-  few = omega arith;
-  sets = All-from_recursion (IsResolvedSet fair event.Tick) (record { attr = 0; expr = plus (variable 22) (number (pos 1)) } ∷ [])
-      (record { declared = omega arith; value = record { linear = one_more_linear 22; few = omega arith; allowed = (refl, tt) } }, tt);
-  put = tt;
-}, tt)
+fair_tick = All-from_recursion (IsResolvedCase fair event.Tick) (cases_on fair.handlers event.Tick) (
+  record {
+    guard = record { few = omega arith; sides = tt };
+    few = omega arith;
+    sets = All-from_recursion (IsResolvedSet fair event.Tick) (record { attr = 0; expr = plus (variable 22) (number (pos 1)) } ∷ [])
+        (record { declared = omega arith; value = record { linear = one_more_linear 22; few = omega arith; allowed = (refl, tt) } }, tt);
+    put = tt;
+  },
+  tt,
+)
 
 fair_handlers : (e : Event) → IsResolvedHandler fair e
 fair_handlers event.Enqueue = record { few = omega arith; cases = plain_case fair event.Enqueue _ tt }
@@ -109,10 +111,14 @@ fair_resolved = record {
   filter = record {
     few = omega arith;
     sides = (
-      ((record { linear = tt; few = omega arith; allowed = refl }, record { linear = number_linear 0 (omega arith); few = omega arith; allowed = tt }),
-       (record { linear = tt; few = omega arith; allowed = refl }, record { linear = number_linear 2 (omega arith); few = omega arith; allowed = tt })),
-      (record { linear = difference_linear 3 1; few = omega arith; allowed = (refl, refl) },
-       record { linear = number_linear 8 (omega arith); few = omega arith; allowed = tt }),
+      (
+        (record { linear = tt; few = omega arith; allowed = refl }, record { linear = number_linear 0 (omega arith); few = omega arith; allowed = tt }),
+        (record { linear = tt; few = omega arith; allowed = refl }, record { linear = number_linear 2 (omega arith); few = omega arith; allowed = tt }),
+      ),
+      (
+        record { linear = difference_linear 3 1; few = omega arith; allowed = (refl, refl) },
+        record { linear = number_linear 8 (omega arith); few = omega arith; allowed = tt },
+      ),
     );
   };
   choose = by_variable fair choosing _ (record { linear = tt; few = omega arith; allowed = refl });

@@ -33,4 +33,4 @@ fair_blocks_and_wakes = refl
 
 pub eight_threads_spread : EightThreadsSpread
 unfolding with_round step_of spread acts touches effect after_from attempt_of candidates_of choice_of target_of opening_state is_due is_complete core_after_event handed received released scene_of entering_next waking_next worked holding_cases outcomes_of task_after_set pair_values core_values thread_values event_values
-eight_threads_spread = record { entries = refl; second = refl; third = refl; fourth = refl; spreads = refl }
+eight_threads_spread = record { plays = refl; entries = refl; second = refl; third = refl; fourth = refl; spreads = refl }

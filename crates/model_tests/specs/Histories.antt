@@ -58,3 +58,51 @@ block_and_wake_history =
     ∷ entry.Work 1 (did.Queued 2)
     ∷ entry.Pass 1 (11 ∷ 12 ∷ [])
     ∷ []
+
+abbrev pub eight_threads_history : List Entry
+eight_threads_history =
+    entry.Round 1
+    ∷ entry.Work 1 did.Nothing
+    ∷ entry.Pass 1 (1 ∷ 2 ∷ 1 ∷ 1 ∷ [])
+    ∷ entry.Work 2 did.Nothing
+    ∷ entry.Pass 2 (1 ∷ 3 ∷ 4 ∷ 1 ∷ [])
+    ∷ entry.Work 3 did.Nothing
+    ∷ entry.Pass 3 (1 ∷ 3 ∷ 5 ∷ 6 ∷ [])
+    ∷ entry.Enter 1 0 0 []
+    ∷ entry.Enter 2 0 0 []
+    ∷ entry.Enter 3 0 0 []
+    ∷ entry.Enter 4 0 0 []
+    ∷ entry.Enter 5 0 0 []
+    ∷ entry.Enter 6 0 0 []
+    ∷ entry.Enter 7 0 0 []
+    ∷ entry.Enter 8 0 0 []
+    ∷ entry.Work 0 (did.Kept 1)
+    ∷ entry.Pass 0 (16 ∷ 3 ∷ 5 ∷ 7 ∷ [])
+    ∷ entry.Round 2
+    ∷ entry.Work 0 (did.Kept 1)
+    ∷ entry.Pass 0 (19 ∷ 18 ∷ 18 ∷ 18 ∷ [])
+    ∷ entry.Work 1 did.Nothing
+    ∷ entry.Steal 1 0 2 (20 ∷ 21 ∷ 18 ∷ 18 ∷ [])
+    ∷ entry.Work 2 did.Nothing
+    ∷ entry.Steal 2 0 3 (22 ∷ 22 ∷ 23 ∷ 18 ∷ [])
+    ∷ entry.Work 3 did.Nothing
+    ∷ entry.Steal 3 0 4 (24 ∷ 22 ∷ 24 ∷ 25 ∷ [])
+    ∷ entry.Round 3
+    ∷ entry.Work 0 (did.Kept 1)
+    ∷ entry.Pass 0 (28 ∷ 27 ∷ 27 ∷ 27 ∷ [])
+    ∷ entry.Work 1 (did.Kept 2)
+    ∷ entry.Steal 1 0 5 (29 ∷ 30 ∷ 27 ∷ 27 ∷ [])
+    ∷ entry.Work 2 (did.Kept 3)
+    ∷ entry.Steal 2 0 6 (31 ∷ 31 ∷ 32 ∷ 27 ∷ [])
+    ∷ entry.Work 3 (did.Kept 4)
+    ∷ entry.Steal 3 0 7 (33 ∷ 31 ∷ 33 ∷ 34 ∷ [])
+    ∷ entry.Round 4
+    ∷ entry.Work 0 (did.Kept 1)
+    ∷ entry.Pass 0 (37 ∷ 36 ∷ 36 ∷ 36 ∷ [])
+    ∷ entry.Work 1 (did.Kept 2)
+    ∷ entry.Pass 1 (38 ∷ 39 ∷ 36 ∷ 36 ∷ [])
+    ∷ entry.Work 2 (did.Kept 3)
+    ∷ entry.Pass 2 (38 ∷ 40 ∷ 41 ∷ 36 ∷ [])
+    ∷ entry.Work 3 (did.Kept 4)
+    ∷ entry.Pass 3 (38 ∷ 40 ∷ 42 ∷ 43 ∷ [])
+    ∷ []

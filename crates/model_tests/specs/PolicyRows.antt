@@ -1,17 +1,14 @@
 -- Policies that are resolved and meet what they owe, and policies that miss it by one change.
-use Rattle.std.specs.Prelude.{ℕ, ℤ, pos, List, [], ◌∷◌}
-use Rattle.policy_tree.specs.declared.trees.Cmp.{Cmp}
+use Rattle.std.specs.Prelude.{pos, List, [], ◌∷◌}
 use Rattle.policy_tree.specs.declared.trees.Cmp.TheVariants as cmp
-use Rattle.policy_tree.specs.declared.typed.Event.{Event}
 use Rattle.policy_tree.specs.declared.typed.Event.TheVariants as event
-use Rattle.policy_tree.specs.declared.typed.Put.{Put}
 use Rattle.policy_tree.specs.declared.typed.Put.TheVariants as put
-use Rattle.policy_tree.specs.Trees.{CondTree, ExprTree, always, both, either, negation, number, plus, test, times, variable}
-use Rattle.policy_tree.specs.Meaning.{CaseTree, HandlerTrees, Meaning}
+use Rattle.policy_tree.specs.Trees.{CondTree, always, number, test, times, variable}
+use Rattle.policy_tree.specs.Meaning.{CaseTree, Meaning}
 use Rattle.policy_eval.specs.Obligations.{IdleSeesOverloaded, MeetsObligations, MoveNarrowsGap, NoGap, NoOverlap, VictimIsOverloaded}
 use Rattle.policy_eval.specs.Resolved.{IsResolved}
 use Rattle.round_model.specs.Fits.{Fits}
-use Rattle.model_tests.specs.Plans.{block_and_wake, eight_threads, plan_of, run, stale_read, thread, two_cores}
+use Rattle.model_tests.specs.Plans.{block_and_wake, eight_threads, plan_of}
 use Rattle.model_tests.specs.Policies.{basic, fair, gap_of, handlers_with, whenever}
 
 -- the two policies of the worked rows are right, and the plans fit them

@@ -3,4 +3,5 @@
 
 pub mod legal;
 pub mod policies;
+pub mod rounds;
 pub mod serial;

@@ -1,10 +1,10 @@
 -- The statements of a policy are its balance obligations and its handler obligations.
-use Rattle.std.proofs.Common.{◌≤◌, ◌<◌, List, [], ◌∷◌, All, arith}
+use Rattle.std.proofs.Common.{arith}
 use Rattle.std.proofs.lemmas.List.Elements.{All-from_recursion}
 use Rattle.policy_tree.specs.declared.typed.Event.{Event}
 use Rattle.policy_tree.specs.declared.typed.Event.TheVariants as event
 use Rattle.policy_tree.specs.Meaning.{Meaning}
-use Rattle.policy_eval.specs.Obligations.{IsMet, MeetsBalanceObligations, MeetsHandlerObligations, MeetsObligations, NoGap, NoOverlap, Statement, idle_sees_overloaded, move_narrows_gap, no_gap, no_overlap, statements_of, victim_is_overloaded}
+use Rattle.policy_eval.specs.Obligations.{IsMet, MeetsBalanceObligations, MeetsHandlerObligations, MeetsObligations, NoGap, NoOverlap, idle_sees_overloaded, statements_of}
 
 module _ (p : Meaning) where
   pub balance_obligations : MeetsObligations p → MeetsBalanceObligations p
@@ -35,7 +35,25 @@ module _ (p : Meaning) where
   pub all_obligations : MeetsBalanceObligations p → MeetsHandlerObligations p → MeetsObligations p
   unfolding statements_of
   all_obligations balance handlers =
-      All-from_recursion (IsMet p) (statements_of p)
-      (balance.idle_sees_overloaded, (balance.victim_is_overloaded, (balance.move_narrows_gap,
-      (handlers.no_overlap event.Enqueue, (handlers.no_gap event.Enqueue, (handlers.no_overlap event.Tick, (handlers.no_gap event.Tick,
-      (handlers.no_overlap event.Yield, (handlers.no_gap event.Yield, (handlers.no_overlap event.Block, (handlers.no_gap event.Block, tt)))))))))))
+      All-from_recursion (IsMet p) (statements_of p) (
+        balance.idle_sees_overloaded,
+        (
+          balance.victim_is_overloaded,
+          (
+            balance.move_narrows_gap,
+            (
+              handlers.no_overlap event.Enqueue,
+              (
+                handlers.no_gap event.Enqueue,
+                (
+                  handlers.no_overlap event.Tick,
+                  (
+                    handlers.no_gap event.Tick,
+                    (handlers.no_overlap event.Yield, (handlers.no_gap event.Yield, (handlers.no_overlap event.Block, (handlers.no_gap event.Block, tt)))),
+                  ),
+                ),
+              ),
+            ),
+          ),
+        ),
+      )

@@ -1,4 +1,5 @@
-pub mod Grows
 pub mod Constants
+pub mod Grows
 pub mod Opening
+pub mod Stillness
 pub mod Walks
