@@ -1,0 +1,9 @@
+-- What a request asks for.
+use Rattle.std.specs.Prelude.{Option, Some, None}
+use Rattle.ipanema_cli.specs.Command.{Asked, check}
+use Rattle.ipanema_cli.specs.declared.command.Request.{Request}
+use Rattle.ipanema_cli.specs.declared.command.Request.TheVariants.{Check, Unknown}
+
+abbrev pub asked : Request → Option Asked
+asked (Check policy) = Some (check policy.now)
+asked Unknown = None

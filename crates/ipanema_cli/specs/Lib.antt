@@ -1,0 +1,8 @@
+pub mod Asks
+pub mod CheckAnswer
+pub mod Command
+pub mod Ends
+pub mod FirstForm
+pub mod Obligations
+pub mod Promises
+pub mod Status

@@ -1,0 +1,61 @@
+-- What a caller may rely on, whatever the call does: when each status comes and what is then written.
+use Rattle.std.specs.Prelude.{◌≡◌, ℕ, ◌<◌, ◌≤◌, ◌⊎◌, List, [], ◌∷◌, Option, Some, None, IsTrue, codes, length, ◌==◌}
+use Rattle.std.specs.List.{list_any}
+use Rattle.sched_io.specs.Told.{Told, MayHold, missing, holds}
+use Rattle.sched_io.specs.Written.{Adds, AddsPrefix}
+use Rattle.ipanema_cli.specs.CheckAnswer.{IsCheckOf, Judges, all_hold, output_of}
+use Rattle.ipanema_cli.specs.Command.{Asked, check}
+use Rattle.ipanema_cli.specs.FirstForm.{IsFirstForm}
+use Rattle.ipanema_cli.specs.Obligations.{MeetsObligations}
+use Rattle.ipanema_cli.specs.declared.answers.TheConstants.{POLICY_ROOM}
+use Rattle.ipanema_cli.specs.declared.answers.CheckAnswer.{CheckAnswer}
+use Rattle.ipanema_cli.specs.declared.answers.CheckAnswer.TheVariants as answer
+use Rattle.ipanema_cli.specs.declared.obligations.Balance.{Balance}
+
+-- the status is one of these
+abbrev pub OneOf : List ℕ → ℕ → Type 0
+OneOf statuses code = IsTrue (list_any (λ status. status == code) statuses)
+
+-- an output that the call might have
+abbrev pub IsOutput : Option Asked → (List ℕ → Told) → List ℕ → Type 0
+IsOutput None told output = output ≡ codes "bad words\n"
+IsOutput (Some (check policy)) told output =
+    (text : List ℕ) × (answer : CheckAnswer) × MayHold (told policy) text × IsCheckOf text answer × (output ≡ output_of answer)
+
+-- nothing was written, or a front of an output that the call might have
+abbrev pub WritesPart : Option Asked → (List ℕ → Told) → Option (List ℕ) → Option (List ℕ) → Type 0
+WritesPart asked told before after =
+    Adds [] before after ⊎ ((output : List ℕ) × IsOutput asked told output × AddsPrefix output before after)
+
+-- Each status has its cause.
+pub record HasCause (asked : Option Asked) (told : List ℕ → Told) (read_fault write_fault : Type 0) (before after : Option (List ℕ)) (code : ℕ) : Type 0 where
+  pub known : OneOf (0 ∷ 1 ∷ 2 ∷ 4 ∷ 5 ∷ 6 ∷ 7 ∷ 10 ∷ []) code
+  -- the outside failed in this call, or the command's file is told to be missing; and nothing is written
+  pub unread : code ≡ 4 → (policy : List ℕ) × (asked ≡ Some (check policy)) × (read_fault ⊎ (told policy ≡ missing)) × Adds [] before after
+  -- the outside failed in this call
+  pub unwritten : code ≡ 5 → write_fault × WritesPart asked told before after
+  -- the one free answer
+  pub no_memory : code ≡ 6 → WritesPart asked told before after
+  -- the words are no command
+  pub bad_words : code ≡ 7 → (asked ≡ None) × Adds (codes "bad words\n") before after
+  pub no_command : asked ≡ None → OneOf (5 ∷ 6 ∷ 7 ∷ []) code
+  -- the file is longer than its limit
+  pub too_long : code ≡ 10 → (policy text : List ℕ) × (asked ≡ Some (check policy)) × MayHold (told policy) text × (POLICY_ROOM < length text) × Adds (codes "too-long policy\n") before after
+  pub past_limit : (policy text : List ℕ) → asked ≡ Some (check policy) → told policy ≡ holds text → POLICY_ROOM < length text → OneOf (4 ∷ 5 ∷ 6 ∷ 10 ∷ []) code
+
+-- The policy of the command's file, as far as it may be known, is of the first form with this threshold.
+abbrev pub AsksOf : Option Asked → (List ℕ → Told) → ℕ → Type 0
+AsksOf asked told threshold =
+    (policy text : List ℕ) × (asked ≡ Some (check policy)) × MayHold (told policy) text × IsFirstForm text threshold
+
+-- What `check` says is true.
+pub record IsTruthful (asked : Option Asked) (told : List ℕ → Told) (before after : Option (List ℕ)) (code : ℕ) : Type 0 where
+  -- an accepted policy has the threshold 2 and meets its obligations
+  pub accepted : code ≡ 0 → AsksOf asked told 2 × MeetsObligations 2
+  -- and every policy of the first form with the threshold 2 is accepted, if the outside lets it be
+  pub accepts : (policy text : List ℕ) → asked ≡ Some (check policy) → told policy ≡ holds text → length text ≤ POLICY_ROOM → IsFirstForm text 2 → OneOf (0 ∷ 4 ∷ 5 ∷ 6 ∷ []) code
+  -- each line that says that an obligation holds or fails is true, and the verdict is that of the lines
+  pub lines : OneOf (0 ∷ 1 ∷ []) code → (threshold : ℕ) × (balance : Balance) × AsksOf asked told threshold × Judges threshold balance × Adds (output_of (answer.Judged balance)) before after × (IsTrue (all_hold balance) → code ≡ 0)
+  -- a text of another form is refused as one that isn't read so far
+  pub other_form : (policy text : List ℕ) → asked ≡ Some (check policy) → told policy ≡ holds text → length text ≤ POLICY_ROOM → ((threshold : ℕ) → IsFirstForm text threshold → ⊥) → OneOf (2 ∷ 4 ∷ 5 ∷ 6 ∷ []) code
+  pub not_built : code ≡ 2 → (policy text : List ℕ) × (asked ≡ Some (check policy)) × MayHold (told policy) text × (length text ≤ POLICY_ROOM) × ((threshold : ℕ) → IsFirstForm text threshold → ⊥) × Adds (codes "policy 0 not-built\n") before after

@@ -1,0 +1,138 @@
+//! What `check` answers, and how it is written.
+
+ghost use Rattle.std.specs.Prelude.{◌≡◌, ◌+◌, ◌≤◌, OnOk, OnErr, IsTrue, length};
+ghost use Rattle.std.specs.List.{flat_map};
+ghost use Rattle.sched_io.specs.Faults.{Rose};
+ghost use Rattle.sched_io.specs.Written.{Adds, AddsPrefix};
+ghost use Rattle.ipanema_cli.specs.CheckAnswer.{IsCheckOf, all_hold, holds_in, line_of, output_of, status_of, verdict_line};
+
+use crate::first_form::threshold_of;
+use crate::obligations::{Balance, NAMES, ObName, judge};
+use crate::status::Status;
+use sched_io::{Line, PutFault, Sink, put_all};
+
+/// The most bytes of a policy's text.
+pub const POLICY_ROOM: u64 = 65536;
+
+/// What `check` answers.
+#[derive(Clone, Copy)]
+pub enum CheckAnswer {
+    /// The obligations were judged.
+    Judged(Balance),
+    /// The text is none of those that are read so far.
+    NotBuilt,
+    /// The text is longer than its limit.
+    TooLong,
+}
+
+/// The answer to a text within its limit.
+pub fn check_text(text: &[u8]) -> CheckAnswer
+    requires { length text.now ≤ POLICY_ROOM }
+    ensures { IsCheckOf text.now result }
+{
+    match threshold_of(text) {
+        Some(threshold) => CheckAnswer::Judged(judge(threshold)),
+        None => CheckAnswer::NotBuilt,
+    }
+}
+
+impl Balance {
+    /// Whether the obligation holds.
+    fn holds(&self, obligation: ObName) -> bool
+        ensures { result ≡ holds_in self.now obligation }
+    {
+        match obligation {
+            ObName::B1 => self.sees,
+            ObName::B2 => self.spares,
+            ObName::B3 => self.narrows,
+            _ => true,
+        }
+    }
+
+    /// Whether all obligations hold.
+    fn all_hold(&self) -> bool
+        ensures { result ≡ all_hold self.now }
+    {
+        self.sees && self.spares && self.narrows
+    }
+}
+
+impl CheckAnswer {
+    /// The status of the answer.
+    pub fn status(&self) -> Status
+        ensures { result ≡ status_of self.now }
+    {
+        match self {
+            CheckAnswer::Judged(balance) if balance.all_hold() => Status::Done,
+            CheckAnswer::Judged(_) => Status::Refused,
+            CheckAnswer::NotBuilt => Status::BadText,
+            CheckAnswer::TooLong => Status::TooMuch,
+        }
+    }
+
+    /// Writes the answer, a line at a time.
+    pub fn put<S: Sink>(&self, out: &mut S) -> Result<(), PutFault>
+        ensures whole { OnOk result (Adds (output_of self.now) (S.written out.old) (S.written out.new)) }
+        ensures prefix { OnErr result (AddsPrefix (output_of self.now) (S.written out.old) (S.written out.new)) }
+        ensures failed { OnErr result (Rose (S.faults out.old) (S.faults out.new)) }
+    {
+        match self {
+            CheckAnswer::Judged(balance) => put_judged(out, balance),
+            CheckAnswer::NotBuilt => put_all(out, b"policy 0 not-built\n"),
+            CheckAnswer::TooLong => put_all(out, b"too-long policy\n"),
+        }
+    }
+}
+
+/// Writes the line of each obligation, and the verdict.
+fn put_judged<S: Sink>(out: &mut S, balance: &Balance) -> Result<(), PutFault>
+    ensures whole { OnOk result (Adds (output_of (CheckAnswer.Judged balance.now)) (S.written out.old) (S.written out.new)) }
+    ensures prefix { OnErr result (AddsPrefix (output_of (CheckAnswer.Judged balance.now)) (S.written out.old) (S.written out.new)) }
+    ensures failed { OnErr result (Rose (S.faults out.old) (S.faults out.new)) }
+{
+    put_lines(out, balance, &NAMES)?;
+    put_all(out, verdict(balance))?;
+    Ok(())
+}
+
+/// The line of the verdict.
+fn verdict(balance: &Balance) -> &'static [u8]
+    ensures { result.now ≡ verdict_line balance.now }
+{
+    if balance.all_hold() {
+        b"accepted\n"
+    } else {
+        b"refused\n"
+    }
+}
+
+/// Writes the lines of these obligations.
+fn put_lines<S: Sink>(
+    out: &mut S,
+    balance: &Balance,
+    obligations: &[ObName],
+) -> Result<(), PutFault>
+    ensures whole { OnOk result (Adds (flat_map (line_of balance.now) obligations.now) (S.written out.old) (S.written out.new)) }
+    ensures prefix { OnErr result (AddsPrefix (flat_map (line_of balance.now) obligations.now) (S.written out.old) (S.written out.new)) }
+    ensures failed { OnErr result (Rose (S.faults out.old) (S.faults out.new)) }
+    ensures later { S.faults out.old ≤ S.faults out.new }
+{
+    for obligation in obligations {
+        put_all(out, answer_line(balance, *obligation).as_bytes())?;
+    }
+    Ok(())
+}
+
+/// The line of an obligation.
+fn answer_line(balance: &Balance, obligation: ObName) -> Line
+    ensures { result ≡ line_of balance.now obligation }
+{
+    let mut line = Line::new();
+    line.add(obligation.text().as_bytes());
+    if balance.holds(obligation) {
+        line.add(b" holds\n");
+    } else {
+        line.add(b" fails\n");
+    }
+    line
+}

@@ -1,0 +1,35 @@
+//! The words of a call, and what they ask for.
+
+ghost use Rattle.std.specs.Prelude.{◌≡◌};
+ghost use Rattle.ipanema_cli.specs.Asks.{asked};
+ghost use Rattle.ipanema_cli.specs.Command.{asked_by, is_plain, words_of};
+
+/// What the words of a call ask for.
+pub enum Request<'a> {
+    /// To check the policy in this file.
+    Check { policy: &'a str },
+    /// Nothing: they are no command.
+    Unknown,
+}
+
+/// What the words ask for.
+pub fn request_of(words: &[String]) -> Request<'_>
+    ensures { asked result ≡ asked_by (words_of words.now) }
+{
+    match words {
+        [verb, policy] if verb.as_str() == "check" && is_plain(policy.as_str()) => Request::Check {
+            policy: policy.as_str(),
+        },
+        _ => Request::Unknown,
+    }
+}
+
+/// Whether the word may name something: it isn't empty and doesn't begin as an option.
+fn is_plain(word: &str) -> bool
+    ensures { result ≡ is_plain word.now }
+{
+    match word.as_bytes() {
+        [first, ..] => *first != b'-',
+        [] => false,
+    }
+}

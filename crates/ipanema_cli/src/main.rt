@@ -1,0 +1,35 @@
+//! The program `ipanema`: it checks scheduling policies.
+#![tactic(auto)]
+
+mod answers;
+mod command;
+mod first_form;
+mod obligations;
+mod serial;
+mod status;
+#[cfg(test)]
+mod tests;
+mod top;
+
+use crate::status::Status;
+use sched_io::{DiskFiles, OpenGate, StdoutSink};
+use std::alloc::AllocError;
+use std::process::ExitCode;
+use std::{env, io};
+
+/// The words of the call without the program's name. Words that are no text are as no words.
+fn words(rt: &HostRuntime) -> Result<Vec<String>, AllocError> {
+    let Ok(args) = env::args(rt) else {
+        return Ok(Vec::new(rt.alloc()));
+    };
+    args.skip(1).collect(rt.alloc())
+}
+
+fn main(rt: HostRuntime) -> ExitCode {
+    let Ok(words) = words(&rt) else {
+        return ExitCode::from(Status::Memory.code());
+    };
+    let mut files = DiskFiles::new(&rt);
+    let mut out = StdoutSink::new(&rt);
+    ExitCode::from(top::ipanema(&rt, rt.alloc(), &words, &mut files, &mut out, &OpenGate))
+}

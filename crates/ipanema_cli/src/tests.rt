@@ -1,0 +1,178 @@
+//! Calls of the program over files and a sink in memory, each with its status and its bytes.
+
+use crate::top::ipanema;
+use sched_io::{MemoryFiles, MemorySink, OpenGate};
+use std::alloc::Global;
+use std::sync::Wait;
+use std::test::Fail;
+use std::thread::Threads;
+
+/// The text of a policy of the first form with that numeral.
+fn policy(alloc: Global, numeral: &str) -> Result<String, Fail> {
+    Ok(format!(in alloc;
+        "policy basic\nload count\nfilter victim.nr - self.nr >= {numeral}\nchoose first\nsteal first\n"
+    )?)
+}
+
+/// What `check` writes where these balance obligations hold.
+fn lines(alloc: Global, balance: [bool; 3]) -> Result<String, Fail> {
+    let mut out = String::new(alloc);
+    let names = [
+        "B1",
+        "B2",
+        "B3",
+        "H1.enqueue",
+        "H2.enqueue",
+        "H1.tick",
+        "H2.tick",
+        "H1.yield",
+        "H2.yield",
+        "H1.block",
+        "H2.block",
+    ];
+    for (at, name) in names.iter().enumerate() {
+        out.push_str(name)?;
+        let holds = at >= 3 || balance[at];
+        out.push_str(if holds { " holds\n" } else { " fails\n" })?;
+    }
+    out.push_str(if balance == [true; 3] {
+        "accepted\n"
+    } else {
+        "refused\n"
+    })?;
+    Ok(out)
+}
+
+/// A call with these words over the file `p` with that text, where these loads and puts fail: its status, and what it
+/// wrote.
+fn call<R: Threads + Wait + Sync>(
+    rt: &R,
+    alloc: Global,
+    words: &[&str],
+    text: &[u8],
+    loads: &[u64],
+    puts: &[u64],
+) -> Result<(u8, Vec<u8>), Fail> {
+    let mut list = Vec::new(alloc);
+    for word in words {
+        list.push(String::from_str(alloc, word)?)?;
+    }
+    let mut held = Vec::new(alloc);
+    held.push((String::from_str(alloc, "p")?, text.to_vec(alloc)?))?;
+    let mut files = MemoryFiles::new(alloc, held, loads.to_vec(alloc)?);
+    let mut out = MemorySink::new(alloc, 4096, puts.to_vec(alloc)?)?;
+    let status = ipanema(rt, alloc, &list, &mut files, &mut out, &OpenGate);
+    Ok((status, out.bytes().to_vec(alloc)?))
+}
+
+#[test]
+fn words_and_texts(rt: HostRuntime) -> Result<(), Fail> {
+    let alloc = rt.alloc();
+    let basic = policy(alloc, "2")?;
+    let wrong_words: [&[&str]; 9] = [
+        &[],
+        &["check"],
+        &["check", "p", "p"],
+        &["Check", "p"],
+        &["-h"],
+        &["--help"],
+        &["check", ""],
+        &["check", "-p"],
+        &["run", "p"],
+    ];
+    for words in wrong_words {
+        let (status, out) = call(&rt, alloc, words, basic.as_bytes(), &[], &[])?;
+        assert_eq!(rt; status, 7, "at {words:?}");
+        assert_eq!(rt; out.as_slice(), b"bad words\n".as_slice(), "at {words:?}");
+    }
+
+    let thresholds = [
+        ("2", 0, [true, true, true]),
+        ("0002", 0, [true, true, true]),
+        ("3", 1, [false, true, true]),
+        ("9999", 1, [false, true, true]),
+        ("1", 1, [true, false, false]),
+        ("0", 1, [true, false, false]),
+    ];
+    for (numeral, status, balance) in thresholds {
+        let answer = call(
+            &rt,
+            alloc,
+            &["check", "p"],
+            policy(alloc, numeral)?.as_bytes(),
+            &[],
+            &[],
+        )?;
+        assert_eq!(rt; answer.0, status, "at {numeral}");
+        assert_eq!(rt;
+            answer.1.as_slice(),
+            lines(alloc, balance)?.as_bytes(),
+            "at {numeral}"
+        );
+    }
+
+    let near_misses = [
+        "",
+        "policy basic\nload count\nfilter victim.nr - self.nr >= 2\nchoose first\nsteal first",
+        "policy basic\nload count\nfilter victim.nr - self.nr >= 2\nchoose first\nsteal first\n\n",
+        "policy basic\nload count\nfilter victim.nr - self.nr >= 10000\nchoose first\nsteal first\n",
+        "policy basic\nload count\nfilter victim.nr - self.nr >= 00002\nchoose first\nsteal first\n",
+        "policy basic\nload count\nfilter victim.nr - self.nr >= \nchoose first\nsteal first\n",
+        "policy basic\nload count\nfilter victim.nr - self.nr >  2\nchoose first\nsteal first\n",
+        "policy basic\nload count\nfilter self.nr - victim.nr >= 2\nchoose first\nsteal first\n",
+        "policy steal\nload count\nfilter victim.nr - self.nr >= 2\nchoose first\nsteal first\n",
+        "policy 2fast\nload count\nfilter victim.nr - self.nr >= 2\nchoose first\nsteal first\n",
+        "policy \nload count\nfilter victim.nr - self.nr >= 2\nchoose first\nsteal first\n",
+        "policy basic \nload count\nfilter victim.nr - self.nr >= 2\nchoose first\nsteal first\n",
+        "policy abcdefghijklmnopqrstuvwxyz1234567\nload count\nfilter victim.nr - self.nr >= 2\nchoose first\nsteal first\n",
+        "policy basic\nload weight 1..2\nfilter victim.nr - self.nr >= 2\nchoose first\nsteal first\n",
+        "policy b\u{e9}sic\nload count\nfilter victim.nr - self.nr >= 2\nchoose first\nsteal first\n",
+    ];
+    for text in near_misses {
+        let (status, out) = call(&rt, alloc, &["check", "p"], text.as_bytes(), &[], &[])?;
+        assert_eq!(rt; status, 2, "at {text:?}");
+        assert_eq!(rt;
+            out.as_slice(),
+            b"policy 0 not-built\n".as_slice(),
+            "at {text:?}"
+        );
+    }
+    Ok(())
+}
+
+#[test]
+fn faults_of_the_outside(rt: HostRuntime) -> Result<(), Fail> {
+    let alloc = rt.alloc();
+    let basic = policy(alloc, "2")?;
+    let all = lines(alloc, [true; 3])?;
+
+    let missing = call(&rt, alloc, &["check", "q"], basic.as_bytes(), &[], &[])?;
+    assert_eq!(rt; missing.0, 4);
+    assert!(rt; missing.1.is_empty());
+    let failing = call(&rt, alloc, &["check", "p"], basic.as_bytes(), &[0], &[])?;
+    assert_eq!(rt; failing.0, 4);
+    assert!(rt; failing.1.is_empty());
+
+    for at in 0..13u64 {
+        let (status, out) = call(&rt, alloc, &["check", "p"], basic.as_bytes(), &[], &[at])?;
+        let mut front = Vec::new(alloc);
+        for line in all.lines().take(at as usize) {
+            front.extend_from_slice(line.as_bytes())?;
+            front.push(b'\n')?;
+        }
+        assert_eq!(rt; status, if at < 12 { 5 } else { 0 }, "at put {at}");
+        assert_eq!(rt; out.as_slice(), front.as_slice(), "at put {at}");
+    }
+
+    let longest = vec![in alloc; b'#'; 65536]?;
+    let (status, out) = call(&rt, alloc, &["check", "p"], longest.as_slice(), &[], &[])?;
+    assert_eq!(rt; status, 2);
+    assert_eq!(rt; out.as_slice(), b"policy 0 not-built\n".as_slice());
+    let too_long = vec![in alloc; b'#'; 65537]?;
+    let (status, out) = call(&rt, alloc, &["check", "p"], too_long.as_slice(), &[], &[])?;
+    assert_eq!(rt; status, 10);
+    assert_eq!(rt; out.as_slice(), b"too-long policy\n".as_slice());
+    let unsaid = call(&rt, alloc, &["check"], basic.as_bytes(), &[], &[0])?;
+    assert_eq!(rt; unsaid.0, 5);
+    Ok(())
+}

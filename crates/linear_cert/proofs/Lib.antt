@@ -1,0 +1,5 @@
+pub mod Coefficients
+pub mod Integers
+pub mod Numbered
+pub mod Partial
+pub mod Sound

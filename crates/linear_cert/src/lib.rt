@@ -1,0 +1,11 @@
+//! Certificates that a system of linear rows has no solution, and their checker.
+//!
+//! A certificate is a sum of rows that says `0 <= c` with c negative, as in Farkas' lemma.
+#![tactic(auto)]
+
+mod cert;
+mod checker;
+mod rows;
+
+pub use cert::{Cert, Mult, MultList};
+pub use checker::check;

@@ -1,0 +1,4 @@
+pub mod Build
+pub mod Points
+pub mod Sizes
+pub mod Sums

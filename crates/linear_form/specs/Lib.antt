@@ -1,0 +1,3 @@
+pub mod Sum
+pub mod Solution
+pub mod System

@@ -1,0 +1,12 @@
+//! Systems of linear rows over bounded whole-number variables, and what it means to solve one.
+#![tactic(auto)]
+
+mod form;
+mod system;
+mod value;
+
+pub use form::{
+    Bound, MAX_COEF, MAX_END, MAX_ROW_BOUND, MAX_ROWS, MAX_VARIABLES, Point, Row, Term, TermList,
+    ValueList,
+};
+pub use system::{AtomFault, System};

@@ -1,0 +1,6 @@
+pub mod Faults
+pub mod InMemory
+pub mod MemoryFiles
+pub mod Sinks
+pub mod Told
+pub mod Written

@@ -1,0 +1,22 @@
+//! The edge to the outside world: where files come from, where output goes, and where workers meet.
+#![tactic(auto)]
+
+mod adapters;
+mod faults;
+mod gates;
+mod lines;
+mod memory_files;
+mod memory_sink;
+mod sinks;
+mod sources;
+mod steady_sink;
+
+pub use adapters::{DiskFiles, StdoutSink};
+pub use faults::{IoMemory, LoadFault, MOST_FAULTS, PutFault};
+pub use gates::{Gate, OpenGate};
+pub use lines::{LINE_ROOM, Line, NUMBER_ROOM};
+pub use memory_files::MemoryFiles;
+pub use memory_sink::MemorySink;
+pub use sinks::{Sink, put_all};
+pub use sources::Files;
+pub use steady_sink::SteadySink;

@@ -1,0 +1,76 @@
+//! A sink in memory that never fails.
+
+ghost use Rattle.std.specs.Prelude.{◌≡◌, ◌≤◌, [], IfOk, vec_len, vec_capacity};
+
+use crate::faults::{IoMemory, PutFault};
+use crate::sinks::Sink;
+use std::alloc::Global;
+
+/// A sink in memory that never fails: it keeps the first bytes, as far as it has room, and takes and drops what
+/// comes after them. It tells its bytes while none were dropped.
+#[derive(Drop)]
+pub struct SteadySink {
+    bytes: Vec<u8>,
+    room: usize,
+    overflowed: bool,
+    ghost within: { vec_len bytes ≤ room },
+    ghost reserved: { room ≤ vec_capacity bytes },
+}
+
+impl SteadySink {
+    ghost use Rattle.std.specs.Prelude.{Some};
+    ghost use Rattle.sched_io.specs.Sinks.{kept_by, steady_room_of, told_by_steady};
+
+    /// An empty sink with room for so many bytes.
+    pub fn with_room(alloc: Global, room: u64) -> Result<SteadySink, IoMemory>
+        ensures told { IfOk result (λ sink. told_by_steady sink ≡ Some []) }
+        ensures empty { IfOk result (λ sink. kept_by sink ≡ []) }
+        ensures room { IfOk result (λ sink. steady_room_of sink ≡ room) }
+    {
+        let bytes = Vec::with_capacity(alloc, room as usize)?;
+        Ok(SteadySink {
+            bytes,
+            room: room as usize,
+            overflowed: false,
+        })
+    }
+
+    /// The bytes that were kept.
+    pub fn bytes(&self) -> &[u8]
+        ensures { result.now ≡ kept_by self.now }
+    {
+        self.bytes.as_slice()
+    }
+}
+
+impl Sink for SteadySink {
+    ghost use Rattle.std.specs.Prelude.{◌≡◌, ◌≢◌, ◌++◌, ◌<◌, ◌≤◌, [], IfOk, IsOk, OnErr, OnOk, length, take};
+    ghost use Rattle.sched_io.specs.Faults.{Rose};
+    ghost use Rattle.sched_io.specs.Sinks.{kept_by, steady_room_of, told_by_steady};
+    ghost use Rattle.sched_io.specs.Written.{Adds};
+
+    ghost written = { told_by_steady };
+
+    ghost faults = { λ _. 0 };
+
+    fn put(&mut self, piece: &[u8]) -> Result<u64, PutFault>
+        ensures within { IfOk result (λ count. count ≤ length piece.now) }
+        ensures taken { IfOk result (λ count. Adds (take count piece.now) (told_by_steady self.old) (told_by_steady self.new)) }
+        ensures some { IfOk result (λ count. piece.now ≢ [] → 0 < count) }
+        ensures failed { OnErr result (Rose 0 0) }
+        ensures nothing { OnErr result (Adds [] (told_by_steady self.old) (told_by_steady self.new)) }
+        ensures later { 0 ≤ 0 }
+
+        ensures steady { IsOk result }
+        ensures whole { IfOk result (λ count. count ≡ length piece.now) }
+        ensures kept { kept_by self.new ≡ take (steady_room_of self.old) (kept_by self.old ++ piece.now) }
+        ensures same { steady_room_of self.new ≡ steady_room_of self.old }
+    {
+        let left = self.room - self.bytes.len();
+        let kept = left.min(piece.len());
+        let (front, _) = piece.split_at(kept);
+        self.bytes.extend_from_slice(front).unwrap();
+        self.overflowed = self.overflowed || kept < piece.len();
+        Ok(piece.len() as u64)
+    }
+}
