@@ -1,4 +1,5 @@
 pub mod Assigning
+pub mod Best
 pub mod Bounds
 pub mod Evaluable
 pub mod Filling

@@ -2,6 +2,7 @@ pub mod Evaluable
 pub mod Events
 pub mod Fitting
 pub mod Forms
+pub mod Laws
 pub mod Obligations
 pub mod Orders
 pub mod Ranges

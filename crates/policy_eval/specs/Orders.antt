@@ -1,5 +1,5 @@
 -- Which of two comes first by the keys of an order, and which of many is the best.
-use Rattle.std.specs.Prelude.{Bool, cond, List, [], ◌∷◌, Option, Some, None, option_map}
+use Rattle.std.specs.Prelude.{Bool, cond, List, [], ◌∷◌, Option, Some, None}
 use Rattle.std.specs.declared.cmp.Ordering.{Ordering}
 use Rattle.std.specs.declared.cmp.Ordering.TheVariants.{Equal}
 use Rattle.std.specs.Ordering.{int_cmp, ordering_then, is_lt}
@@ -22,17 +22,22 @@ keys_order (key ∷ keys) a b = ordering_then (key_order key a b) (keys_order ke
 abbrev pub precedes : List KeyTree → Assignment → Assignment → Bool
 precedes keys a b = is_lt (keys_order keys a b)
 
--- the better of an item and the best of those after it, with the others in their order: the later one is better
--- only where it comes strictly before
+-- the better of an item and the best of those after it: the later one only where it comes strictly before
+abbrev pub better_of : {X : Type 0} → (X → X → Bool) → X → Option X → X
+better_of before x None = x
+better_of before x (Some later) = cond (before later x) later x
+
+-- the best of a list, of equals the earliest. None exactly where the list is empty
+abbrev pub best_of : {X : Type 0} → (X → X → Bool) → List X → Option X
+best_of before [] = None
+best_of before (x ∷ xs) = Some (better_of before x (best_of before xs))
+
+-- the same with the others in their order
 abbrev pub better_and_rest : {X : Type 0} → (X → X → Bool) → X → List X → Option (X × List X) → X × List X
 better_and_rest before x xs None = (x, xs)
 better_and_rest before x xs (Some later) = cond (before later.0 x) (later.0, x ∷ later.1) (x, xs)
 
--- the best of a list, of equals the earliest, and the others in their order. None exactly where the list is empty
+-- the best of a list, and the others in their order
 abbrev pub best_and_rest : {X : Type 0} → (X → X → Bool) → List X → Option (X × List X)
 best_and_rest before [] = None
 best_and_rest before (x ∷ xs) = Some (better_and_rest before x xs (best_and_rest before xs))
-
--- the best of a list, of equals the earliest
-abbrev pub best_of : {X : Type 0} → (X → X → Bool) → List X → Option X
-best_of before xs = option_map (λ best. best.0) (best_and_rest before xs)

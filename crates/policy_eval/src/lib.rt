@@ -4,6 +4,7 @@
 pub mod env;
 pub mod evaluation;
 pub mod events;
+pub mod laws;
 pub mod orders;
 
 pub use crate::env::{CoreValues, Env};
