@@ -1,5 +1,6 @@
 pub mod Constants
 pub mod Grows
 pub mod Opening
+pub mod Spreads
 pub mod Stillness
 pub mod Walks

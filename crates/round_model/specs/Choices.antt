@@ -1,12 +1,20 @@
 -- Which core is chosen to steal from, and on which core a thread is placed.
-use Rattle.std.specs.Prelude.{ℕ, ◌==◌, not, ◌&&◌, Bool, List, filter, int_lt, Option, Some}
+use Rattle.std.specs.Prelude.{ℕ, ◌==◌, not, ◌&&◌, Bool, List, filter, int_lt, Option, Some, slice_index_or}
 use Rattle.std.specs.List.{range_with_len}
 use Rattle.policy_tree.specs.Meaning.{Meaning, PlaceTree, here, least}
 use Rattle.policy_tree.specs.Trees.{ExprTree}
 use Rattle.policy_eval.specs.declared.env.CoreValues.{CoreValues}
 use Rattle.policy_eval.specs.Orders.{best_of, precedes}
-use Rattle.policy_eval.specs.Sights.{core_values, pair_values}
+use Rattle.policy_eval.specs.Sights.{core_values, no_attributes, pair_values}
 use Rattle.policy_eval.specs.Values.{holds, value_of}
+
+-- nothing is known of a core that isn't there
+abbrev pub no_values : CoreValues
+no_values = record { nr = 0; load = 0; consts = no_attributes }
+
+-- the values of each core, from the list of all cores
+abbrev pub values_in : List CoreValues → ℕ → CoreValues
+values_in list c = slice_index_or list c no_values
 
 -- whether the core a may steal from the core v, with these values of the cores
 abbrev pub is_candidate : Meaning → (ℕ → CoreValues) → ℕ → ℕ → Bool

@@ -1,5 +1,7 @@
 //! The entries of a history.
 
+ghost use Rattle.std.specs.Prelude.{◌≡◌};
+
 use lists::Items;
 use sched_base::{CoreId, Reads, ThreadId};
 
@@ -65,4 +67,56 @@ pub enum Entry {
         by: CoreId,
         reads: Reads,
     },
+}
+
+impl Entry {
+    ghost use Rattle.round_model.specs.Entries.{acts as acts_in, touches as touches_core};
+    ghost use Rattle.round_model.specs.Kinds.{is_attempt as makes_attempt, is_round as begins_round};
+
+    /// Whether the core acts in the entry. In a round's beginning none does.
+    #[tactic(auto, unfolding(crate::specs::Entries::acts))]
+    pub fn acts(&self, core: CoreId) -> bool
+        ensures { result ≡ acts_in core self.now }
+    {
+        match self {
+            Entry::Round { .. } => false,
+            Entry::Enter { by, .. } | Entry::Wake { by, .. } => *by == core,
+            Entry::Work { by, .. } => *by == core,
+            Entry::Steal { by, .. } | Entry::Fail { by, .. } => *by == core,
+            Entry::Pass { by, .. } => *by == core,
+        }
+    }
+
+    /// Whether the entry touches the core: whatever it changes or decides about stands there.
+    #[tactic(auto, unfolding(crate::specs::Entries::touches))]
+    pub fn touches(&self, core: CoreId) -> bool
+        ensures { result ≡ touches_core core self.now }
+    {
+        match self {
+            Entry::Round { .. } => false,
+            Entry::Enter { at, .. } => *at == core,
+            Entry::Wake { by, at, .. } => *by == core || *at == core,
+            Entry::Work { by, .. } | Entry::Pass { by, .. } => *by == core,
+            Entry::Steal { by, from, .. } | Entry::Fail { by, from, .. } => {
+                *by == core || *from == core
+            }
+        }
+    }
+
+    /// Whether a round begins.
+    pub fn is_round(&self) -> bool
+        ensures { result ≡ begins_round self.now }
+    {
+        matches!(self, Entry::Round { .. })
+    }
+
+    /// Whether it is a core's attempt of the round: a steal, a fail or a pass.
+    pub fn is_attempt(&self) -> bool
+        ensures { result ≡ makes_attempt self.now }
+    {
+        matches!(
+            self,
+            Entry::Steal { .. } | Entry::Fail { .. } | Entry::Pass { .. }
+        )
+    }
 }
