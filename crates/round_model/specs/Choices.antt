@@ -1,10 +1,12 @@
 -- Which core is chosen to steal from, and on which core a thread is placed.
-use Rattle.std.specs.Prelude.{ℕ, ◌==◌, not, ◌&&◌, Bool, List, filter, int_lt, Option, Some, slice_index_or}
+use Rattle.std.specs.Prelude.{ℕ, ◌≤◌, ◌==◌, not, ◌&&◌, Bool, List, filter, int_lt, Option, Some, slice_index_or}
 use Rattle.std.specs.List.{range_with_len}
+use Rattle.sched_base.specs.declared.limits.TheConstants.{MAX_LOAD}
 use Rattle.policy_tree.specs.Meaning.{Meaning, PlaceTree, here, least}
 use Rattle.policy_tree.specs.Trees.{ExprTree}
 use Rattle.policy_eval.specs.declared.env.CoreValues.{CoreValues}
 use Rattle.policy_eval.specs.Orders.{best_of, precedes}
+use Rattle.policy_eval.specs.Ranges.{AreIn, wide_ranges}
 use Rattle.policy_eval.specs.Sights.{core_values, no_attributes, pair_values}
 use Rattle.policy_eval.specs.Values.{holds, value_of}
 
@@ -43,3 +45,8 @@ target_by (least e) cores values a = best_of (is_less e values) (range_with_len 
 
 unfoldable pub target_of : Meaning → ℕ → (ℕ → CoreValues) → ℕ → Option ℕ
 target_of p cores values a = target_by p.place cores values a
+
+-- the values of a core that placement can be asked about
+pub record IsSeenWidely (seen : CoreValues) : Type 0 where
+  pub load : seen.load ≤ MAX_LOAD
+  pub values : AreIn wide_ranges (core_values seen)

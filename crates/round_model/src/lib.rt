@@ -9,7 +9,7 @@ pub mod plan;
 pub mod state;
 pub mod windows;
 
-pub use crate::choices::choice;
+pub use crate::choices::{choice, target};
 pub use crate::entry::{Did, Entry, History};
 pub use crate::measures::spread_of;
 pub use crate::plan::{
