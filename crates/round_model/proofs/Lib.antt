@@ -1,4 +1,5 @@
 pub mod Constants
+pub mod Finding
 pub mod Grows
 pub mod Opening
 pub mod Spreads

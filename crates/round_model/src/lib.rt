@@ -5,6 +5,7 @@ pub mod choices;
 pub mod entry;
 pub mod laws;
 pub mod measures;
+pub mod moves;
 pub mod plan;
 pub mod state;
 pub mod windows;
@@ -12,6 +13,7 @@ pub mod windows;
 pub use crate::choices::{choice, target};
 pub use crate::entry::{Did, Entry, History};
 pub use crate::measures::spread_of;
+pub use crate::moves::steal;
 pub use crate::plan::{
     Burst, BurstList, ConstList, CoreList, Ending, OrderLine, OrderList, Plan, Planned, PlannedList,
 };
