@@ -232,5 +232,5 @@ policy_misses = record {
   weight_in_a_filter = λ is. absurd (let allowed = is.filter.sides.0.allowed in cc);
   wide_number = λ is. absurd (let small = is.filter.sides.1.linear.below in omega (arith, ints));
   queue_in_a_block = λ is. absurd ((is.handlers event.Block).cases 0 queued_case (omega arith)).put;
-  core_out_of_range = λ fits. absurd (let some = fits.some_cores in omega arith);
+  no_cores = λ fits. absurd (let some = fits.some_cores in omega arith);
 }

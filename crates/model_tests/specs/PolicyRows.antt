@@ -43,4 +43,4 @@ pub record PolicyMisses : Type 0 where
   pub weight_in_a_filter : ¬ IsResolved (with_filter (test cmp.Ge (variable 4) (number (pos 2))))
   pub wide_number : ¬ IsResolved (with_filter (test cmp.Ge (variable 2) (number (pos 1099511627777))))
   pub queue_in_a_block : ¬ IsResolved (record basic { handlers = record basic.handlers { on_block = whenever [] put.Queue } })
-  pub core_out_of_range : ¬ Fits basic (plan_of 0 1 [] [])
+  pub no_cores : ¬ Fits basic (plan_of 0 1 [] [])

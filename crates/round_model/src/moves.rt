@@ -1,6 +1,6 @@
 //! How a steal moves a thread.
 
-ghost use Rattle.std.specs.Prelude.{◌≡◌, ◌<◌, IfOk, IfSome, IsSome, Some, find, length, remove, slice_get};
+ghost use Rattle.std.specs.Prelude.{◌≡◌, ◌<◌, ◌≤◌, IfOk, IfSome, IsSome, Some, find, length, remove, slice_get, vec_len};
 ghost use Rattle.round_model.specs.Moves.{handed, is_task, queued_of, received, without_first};
 
 use crate::state::{ModelCore, TaskList};
@@ -38,7 +38,7 @@ fn hand_over(victim: ModelCore, thread: ThreadId) -> (ModelCore, Task)
     } = victim;
     let mut tasks = queue.into_vec();
     let at = place_of(tasks.as_slice(), thread);
-    let task = tasks.remove(at);
+    let task = take_out(&mut tasks, at);
     let queue = TaskList::from_vec(tasks);
     let rest = ModelCore {
         current,
@@ -47,6 +47,16 @@ fn hand_over(victim: ModelCore, thread: ThreadId) -> (ModelCore, Task)
         consts,
     };
     (rest, task)
+}
+
+/// The task in that place, taken out.
+fn take_out(tasks: &mut Vec<Task>, at: usize) -> Task
+    requires { at < vec_len tasks.old }
+    ensures task { slice_get tasks.old.items at ≡ Some result }
+    ensures rest { tasks.new.items ≡ remove tasks.old.items at }
+    ensures len { vec_len tasks.new ≤ vec_len tasks.old }
+{
+    tasks.remove(at)
 }
 
 /// The place of the earliest task of that number.

@@ -10,5 +10,5 @@ unfolding handed
 returns-clause-rest c =
     let first = is_task c.args.thread in
     ap (λ (queue : List Task). let rest : ModelCore = record c.args.victim { queue = queue } in rest)
-        (c.from_vec-queue.ensures ∙ (c.remove-task.ensures.items ∙ (ap (λ tasks. remove tasks c.place_of-at.result) (sym c.as_slice.ensures.value)
+        (c.from_vec-queue.ensures ∙ (c.take_out-task.ensures.rest ∙ (ap (λ tasks. remove tasks c.place_of-at.result) (sym c.as_slice.ensures.value)
       ∙ (sym c.place_of-at.ensures.rest ∙ ap (without_first first) (c.as_slice.ensures.value ∙ c.into_vec-tasks.ensures.items)))))
