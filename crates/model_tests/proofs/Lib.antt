@@ -1,0 +1,7 @@
+pub mod Beginnings
+pub mod MissingRows
+pub mod PolicyRows
+pub mod ResolvedRows
+pub mod RoundRows
+pub mod SerialRows
+pub mod WholeRows

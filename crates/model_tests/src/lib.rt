@@ -1,0 +1,7 @@
+//! The worked rows of the model: each a function whose contract is the row.
+#![tactic(auto)]
+
+pub mod legal;
+pub mod policies;
+pub mod rounds;
+pub mod serial;

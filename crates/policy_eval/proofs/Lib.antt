@@ -1,0 +1,11 @@
+pub mod Assigning
+pub mod Best
+pub mod Bounds
+pub mod Evaluable
+pub mod Filling
+pub mod Forms
+pub mod Handling
+pub mod Operations
+pub mod Products
+pub mod Statements
+pub mod Wide

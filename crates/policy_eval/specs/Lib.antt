@@ -1,0 +1,12 @@
+pub mod Evaluable
+pub mod Events
+pub mod Fitting
+pub mod Forms
+pub mod Laws
+pub mod Obligations
+pub mod Orders
+pub mod Ranges
+pub mod Resolved
+pub mod Sights
+pub mod Sites
+pub mod Values

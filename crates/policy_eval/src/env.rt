@@ -1,0 +1,92 @@
+//! The values under which a part of a policy is evaluated.
+
+ghost use Rattle.std.specs.Prelude.{◌≡◌, ◌+◌, ◌≤◌, ◌++◌, pos, map, take, drop};
+ghost use Rattle.policy_eval.specs.Sights.{core_values, event_values, pair_values, thread_values};
+
+use sched_base::{MAX_ATTRIBUTES, MAX_LOAD, Task, VARIABLES};
+
+/// A value for each variable, by the variable's number.
+#[derive(Clone, Copy)]
+pub struct Env {
+    pub vals: [i64; VARIABLES],
+}
+
+/// What a policy may ask of a core.
+#[derive(Clone, Copy)]
+pub struct CoreValues {
+    /// The number of its threads, the current one counted and the blocked ones not.
+    pub nr: u32,
+    /// The sum of their weights, at most `MAX_LOAD`.
+    pub load: u64,
+    /// The values of its attributes in the order of their declaration, 0 past the last.
+    pub consts: [i32; MAX_ATTRIBUTES],
+}
+
+impl Env {
+    /// What filter and choice see: the acting core, and the core that they are asked about.
+    pub fn of_pair(own: &CoreValues, victim: &CoreValues) -> Env
+        requires own { own.now.load ≤ MAX_LOAD }
+        requires victim { victim.now.load ≤ MAX_LOAD }
+        ensures { result.vals ≡ pair_values own.now victim.now }
+    {
+        let numbers = [own.nr, own.load as u32, victim.nr, victim.load as u32, 1, 0];
+        assigned(&numbers, &own.consts, &victim.consts, &NO_ATTRIBUTES)
+    }
+
+    /// What placement sees of a core.
+    pub fn of_core(core: &CoreValues) -> Env
+        requires { core.now.load ≤ MAX_LOAD }
+        ensures { result.vals ≡ core_values core.now }
+    {
+        let numbers = [0, 0, core.nr, core.load as u32, 1, 0];
+        assigned(&numbers, &NO_ATTRIBUTES, &core.consts, &NO_ATTRIBUTES)
+    }
+
+    /// What the orders of threads see of a thread.
+    pub fn of_thread(task: &Task) -> Env
+        ensures { result.vals ≡ thread_values task.now.weight task.now.attrs }
+    {
+        let numbers = [0, 0, 0, 0, task.weight, 0];
+        assigned(&numbers, &NO_ATTRIBUTES, &NO_ATTRIBUTES, &task.attrs)
+    }
+
+    /// What a handler sees: whether the thread enters just now, the core that holds it, and the thread.
+    pub fn of_event(fresh: bool, consts: &[i32; MAX_ATTRIBUTES], task: &Task) -> Env
+        ensures { result.vals ≡ event_values fresh consts.now task.now.weight task.now.attrs }
+    {
+        let numbers = [0, 0, 0, 0, task.weight, u32::from(fresh)];
+        assigned(&numbers, consts, &NO_ATTRIBUTES, &task.attrs)
+    }
+}
+
+const NO_ATTRIBUTES: [i32; MAX_ATTRIBUTES] = [0; MAX_ATTRIBUTES];
+
+/// All variables in the order of their numbers: those before the attributes, then the attributes of
+/// the core itself, of the other core and of the thread.
+fn assigned(
+    numbers: &[u32; 6],
+    own: &[i32; MAX_ATTRIBUTES],
+    victims: &[i32; MAX_ATTRIBUTES],
+    attrs: &[i32; MAX_ATTRIBUTES],
+) -> Env
+    ensures { result.vals ≡ map pos numbers.now ++ (own.now ++ victims.now ++ attrs.now) }
+{
+    let mut vals = [0; VARIABLES];
+    fill(&mut vals, 22, attrs);
+    fill(&mut vals, 14, victims);
+    fill(&mut vals, 6, own);
+    for at in 0..6 {
+        vals[at] = i64::from(numbers[at]);
+    }
+    Env { vals }
+}
+
+/// Writes the values of the attributes, the first of them to that place.
+fn fill(vals: &mut [i64; VARIABLES], first: usize, attrs: &[i32; MAX_ATTRIBUTES])
+    requires { first + MAX_ATTRIBUTES ≤ VARIABLES }
+    ensures { vals.new ≡ take first vals.old ++ (attrs.now ++ drop (first + MAX_ATTRIBUTES) vals.old) }
+{
+    for at in 0..MAX_ATTRIBUTES {
+        vals[first + at] = i64::from(attrs[at]);
+    }
+}

@@ -1,0 +1,7 @@
+pub mod Constants
+pub mod Finding
+pub mod Grows
+pub mod Opening
+pub mod Spreads
+pub mod Stillness
+pub mod Walks

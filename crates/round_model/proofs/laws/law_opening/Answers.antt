@@ -1,0 +1,5 @@
+use Rattle.round_model.proofs.Opening.{opening_bounds}
+use Rattle.round_model.proofs.laws.law_opening.Goals as goal
+
+pub returns : goal.returns
+returns c = opening_bounds

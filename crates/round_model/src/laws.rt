@@ -1,0 +1,33 @@
+//! Laws of the model, each a function without parameters whose contract is the law.
+
+ghost use Rattle.round_model.specs.Laws.{ConstantsLaw, LegalGrows, OneMoreLaw, OpeningLaw, PrefixLaw, UntouchedLaw};
+
+/// One more entry moves the state by its own effect.
+pub fn law_one_more()
+    ensures { OneMoreLaw }
+{}
+
+/// An entry leaves the cores that it doesn't touch.
+pub fn law_untouched()
+    ensures { UntouchedLaw }
+{}
+
+/// A legal history with an entry more is legal exactly where that entry is legal next.
+pub fn law_legal_grows()
+    ensures { LegalGrows }
+{}
+
+/// The first entries of a legal history are a legal history.
+pub fn law_prefix()
+    ensures { PrefixLaw }
+{}
+
+/// No entry changes the constants of a core.
+pub fn law_constants()
+    ensures { ConstantsLaw }
+{}
+
+/// The opening state is in bounds, with no thread.
+pub fn law_opening()
+    ensures { OpeningLaw }
+{}

@@ -1,0 +1,21 @@
+//! The model: what plans, states and histories mean, and which histories are legal.
+#![tactic(auto)]
+
+pub mod choices;
+pub mod entry;
+pub mod laws;
+pub mod measures;
+pub mod moves;
+pub mod plan;
+pub mod state;
+pub mod windows;
+
+pub use crate::choices::{choice, target};
+pub use crate::entry::{Did, Entry, History};
+pub use crate::measures::spread_of;
+pub use crate::moves::steal;
+pub use crate::plan::{
+    Burst, BurstList, ConstList, CoreList, Ending, OrderLine, OrderList, Plan, Planned, PlannedList,
+};
+pub use crate::state::{Blocked, BlockedList, ModelCore, State, TaskList};
+pub use crate::windows::{reads_fit, round_start};

@@ -1,0 +1,17 @@
+//! What every crate about cores and threads shares: the numbers that name them, a thread's record,
+//! the positions that were read, and the limits.
+#![tactic(auto)]
+
+pub mod limits;
+pub mod reads;
+pub mod task;
+
+pub use crate::limits::{
+    CHECK_BUDGET, DEFAULT_ENTRIES, MAX_ATTRIBUTE, MAX_ATTRIBUTES, MAX_BLOCK_ROUNDS, MAX_BURSTS,
+    MAX_CASES, MAX_COEFFICIENT, MAX_COMPARISONS, MAX_CORES, MAX_ENTRIES, MAX_HISTORY_BYTES,
+    MAX_KEYS, MAX_LOAD, MAX_NESTING, MAX_OPERATORS, MAX_ORDER_CORES, MAX_POLICY_BYTES, MAX_ROUNDS,
+    MAX_ROWS, MAX_SETS, MAX_SYSTEM_CASES, MAX_THREADS, MAX_TRACE_BYTES, MAX_UNITS, MAX_WEIGHT,
+    VARIABLES,
+};
+pub use crate::reads::Reads;
+pub use crate::task::{CoreId, Place, Pos, Task, ThreadId, Turned};

@@ -1,0 +1,85 @@
+//! The limits of the project. No other crate writes one of these numbers.
+
+/// The most cores of a plan. A plan has at least one.
+pub const MAX_CORES: usize = 32;
+
+/// The most threads of a plan, and the greatest number of a thread. The least number is 1.
+pub const MAX_THREADS: u32 = 1_023;
+
+/// The greatest weight of a thread. The least is 1.
+pub const MAX_WEIGHT: u32 = 1_048_575;
+
+/// The greatest load of a core: as many threads as there can be, each of the greatest weight.
+pub const MAX_LOAD: u32 = 1_072_692_225;
+
+/// The most rounds of a plan, and the greatest number of a round. The least number is 1.
+pub const MAX_ROUNDS: u32 = 4_096;
+
+/// The most entries of a history.
+pub const MAX_ENTRIES: u32 = 65_536;
+
+/// The limit on entries of a plan that names none.
+pub const DEFAULT_ENTRIES: u32 = 8_192;
+
+/// The most bursts of a thread's program. A program has at least one.
+pub const MAX_BURSTS: usize = 16;
+
+/// The most units of a burst. A burst has at least one.
+pub const MAX_UNITS: u32 = 1_048_575;
+
+/// The most rounds that a burst blocks its thread for. The fewest are 1.
+pub const MAX_BLOCK_ROUNDS: u32 = 4_096;
+
+/// The most core numbers of an order line. A line has at least one.
+pub const MAX_ORDER_CORES: usize = 256;
+
+/// The most attributes of one kind that a policy declares, and so the values that a core or a
+/// thread has room for.
+pub const MAX_ATTRIBUTES: usize = 8;
+
+/// The greatest magnitude of an attribute's value.
+pub const MAX_ATTRIBUTE: i32 = 1_048_575;
+
+/// The most cases of a handler.
+pub const MAX_CASES: usize = 8;
+
+/// The most assignments of a case.
+pub const MAX_SETS: usize = 8;
+
+/// The most keys of an order.
+pub const MAX_KEYS: usize = 4;
+
+/// The most comparisons of a condition.
+pub const MAX_COMPARISONS: usize = 16;
+
+/// The most operators of an expression.
+pub const MAX_OPERATORS: usize = 32;
+
+/// The deepest nesting of parentheses, `not` and unary `-` in a policy's text.
+pub const MAX_NESTING: usize = 32;
+
+/// The greatest magnitude of a coefficient or a constant in an expression's linear form.
+pub const MAX_COEFFICIENT: i64 = 1_099_511_627_776;
+
+/// The variables of an expression are numbered from 0 and below this.
+pub const VARIABLES: usize = 30;
+
+/// The most conjunctive cases of an obligation.
+pub const MAX_SYSTEM_CASES: u32 = 256;
+
+/// The most rows of a system.
+pub const MAX_ROWS: usize = 256;
+
+/// The most points of a system that the checker promises to decide.
+pub const CHECK_BUDGET: u64 = 65_536;
+
+/// The most bytes of a policy's text.
+pub const MAX_POLICY_BYTES: u64 = 65_536;
+
+/// The most bytes of a trace's text.
+pub const MAX_TRACE_BYTES: u64 = 4_194_304;
+
+/// The most bytes of a history's text.
+pub const MAX_HISTORY_BYTES: u64 = 33_554_432;
+
+const _: () = prove!(MAX_LOAD == MAX_THREADS * MAX_WEIGHT);

@@ -1,0 +1,41 @@
+//! Threads, and the numbers that name cores, threads and entries.
+
+use crate::limits::MAX_ATTRIBUTES;
+
+/// The number of a core, from 0.
+pub type CoreId = u32;
+
+/// The number of a thread, from 1.
+pub type ThreadId = u32;
+
+/// A position in a history: position `p` names the state after the first `p` entries.
+pub type Pos = u32;
+
+/// How far a thread has come in its program.
+#[derive(Clone, Copy)]
+pub struct Place {
+    /// The burst that it runs next, from 0. After its last burst it is the number of bursts.
+    pub burst: u32,
+    /// The units of that burst that are done. In a burst without end this stays as it is.
+    pub done: u32,
+}
+
+/// What one turn of a core added.
+#[derive(Clone, Copy)]
+pub struct Turned {
+    /// The entries that it added to the history.
+    pub entries: u32,
+    /// The threads that ended in it.
+    pub ended: u32,
+}
+
+/// A thread that has entered.
+#[derive(Clone, Copy)]
+pub struct Task {
+    pub id: ThreadId,
+    /// What the thread adds to its core's load: 1 where loads are counts.
+    pub weight: u32,
+    /// The values of the thread's attributes in the order of their declaration, 0 past the last.
+    pub attrs: [i32; MAX_ATTRIBUTES],
+    pub place: Place,
+}
