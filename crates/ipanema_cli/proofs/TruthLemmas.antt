@@ -1,10 +1,9 @@
 -- From how a call ends to the truth of what it says.
-use Rattle.std.proofs.Common.{◌≡◌, ◌≢◌, ℕ, ◌≤◌, inl, inr, List, [], ◌∷◌, Option, Some, None, Bool, true, false, ◌&&◌, codes, refl, sym, ◌∙◌, ap, arith, length, if◌then◌else◌, subst}
+use Rattle.std.proofs.Common.{◌≡◌, ◌≢◌, ℕ, ◌≤◌, inl, inr, List, [], ◌∷◌, Option, Some, None, Bool, true, false, codes, refl, sym, ◌∙◌, ap, arith, length, if◌then◌else◌, subst}
 use Rattle.std.specs.Prelude.{IsTrue, ◌↔◌}
-use Rattle.std.proofs.lemmas.Bool.{leb-true}
 use Rattle.sched_io.specs.Told.{Told, MayHold, holds}
 use Rattle.sched_io.specs.Written.{Adds}
-use Rattle.count_filter.specs.Judged.{Judges, all_hold, holds_in}
+use Rattle.count_filter.specs.Judged.{Judges, all_hold}
 use Rattle.ipanema_cli.specs.CheckAnswer.{IsCheckOf, output_of, status_of}
 use Rattle.ipanema_cli.specs.Command.{Asked, check}
 use Rattle.ipanema_cli.specs.Ends.{Writes, answered, unread, no_memory, Ends}
@@ -19,8 +18,6 @@ use Rattle.ipanema_cli.specs.declared.answers.TheConstants.{POLICY_ROOM}
 use Rattle.ipanema_cli.specs.declared.answers.CheckAnswer.{CheckAnswer}
 use Rattle.ipanema_cli.specs.declared.answers.CheckAnswer.TheVariants as answer
 use Rattle.count_filter.specs.declared.balance.Balance.{Balance}
-use Rattle.count_filter.specs.declared.obligations.ObName.{ObName}
-use Rattle.count_filter.specs.declared.obligations.ObName.TheVariants as name
 use Rattle.ipanema_cli.specs.declared.status.Status.TheVariants as status
 use Rattle.ipanema_cli.proofs.FormLemmas.{one_threshold}
 use Rattle.ipanema_cli.proofs.WritesLemmas.{code_among, whole}

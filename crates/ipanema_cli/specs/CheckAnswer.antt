@@ -1,5 +1,5 @@
 -- What `check` answers: a line for each obligation and the verdict, or one line where the text isn't judged.
-use Rattle.std.specs.Prelude.{ℕ, ◌<◌, ◌≤◌, ◌&&◌, ◌↔◌, List, [], ◌∷◌, ◌++◌, Bool, true, IsTrue, codes, if◌then◌else◌, length}
+use Rattle.std.specs.Prelude.{ℕ, ◌<◌, ◌≤◌, List, ◌++◌, codes, if◌then◌else◌, length}
 use Rattle.std.specs.List.{flat_map}
 use Rattle.policy_tree.specs.Meaning.{Meaning}
 use Rattle.ipanema_cli.specs.FirstForm.{IsFirstForm, SpellsPolicy}

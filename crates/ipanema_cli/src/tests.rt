@@ -77,6 +77,7 @@ fn words_and_texts(rt: HostRuntime) -> Result<(), Fail> {
         &["-h"],
         &["--help"],
         &["check", ""],
+        &[""],
         &["check", "-p"],
         &["run", "p"],
     ];
