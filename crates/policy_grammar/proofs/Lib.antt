@@ -1,0 +1,4 @@
+pub mod Steps
+pub mod CompleteExpressions
+pub mod CompleteConditions
+pub mod CompletePolicies
