@@ -2,3 +2,4 @@ pub mod Steps
 pub mod CompleteExpressions
 pub mod CompleteConditions
 pub mod CompletePolicies
+pub mod Viable
