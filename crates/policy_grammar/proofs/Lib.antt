@@ -3,3 +3,4 @@ pub mod CompleteExpressions
 pub mod CompleteConditions
 pub mod CompletePolicies
 pub mod Viable
+pub mod Reached

@@ -108,7 +108,7 @@ module _ (text : List ℕ) (ts : List Lexeme) where
     are_more : {symbol : Symbol} {below : List Symbol} {at to : ℕ} (mid : ℕ) → Means symbol at mid → Are below mid to → Are (symbol ∷ below) at to
 
   -- a factor before what follows it is an expression
-  operand-further : {at mid to : ℕ} {v : OperandSyntax} → IsOperand text ts at v mid → Further mid to → (e : ExprSyntax) × IsExpr text ts at e to
+  pub operand-further : {at mid to : ℕ} {v : OperandSyntax} → IsOperand text ts at v mid → Further mid to → (e : ExprSyntax) × IsExpr text ts at e to
   operand-further d f = (_, expr_of (term_of (factor_plain d) f.are) f.sums)
 
   signed-expr : {at to : ℕ} {e : ExprSyntax} → kind_at ts at ≡ code Minus → IsExpr text ts (at + 1) e to → (w : ExprSyntax) × IsExpr text ts at w to
@@ -120,7 +120,7 @@ module _ (text : List ℕ) (ts : List Lexeme) where
   sign-expr : {at to : ℕ} {e : ExprSyntax} (minus : Bool) → kind_at ts at ≡ sign_word minus → IsExpr text ts (at + 1) e to → Further at to
   sign-expr minus k (expr_of t added) = record { times = []; added = _; mid = _; are = times_none; sums = added_more minus k t added }
 
-  reference-further : {from mid at to : ℕ} (o : Owner) → Token (owner_word o) from mid → Token (code Dot) mid at → is_word (kind_at ts at) ≡ true →
+  pub reference-further : {from mid at to : ℕ} (o : Owner) → Token (owner_word o) from mid → Token (code Dot) mid at → is_word (kind_at ts at) ≡ true →
       Further (at + 1) to → (e : ExprSyntax) × IsExpr text ts from e to
   reference-further {from = from} {to = to} o (token k) (token d) w f =
       let two : from + 1 + 1 ≡ from + 2 = omega arith in
