@@ -4,3 +4,5 @@ pub mod CompleteConditions
 pub mod CompletePolicies
 pub mod Viable
 pub mod Reached
+pub mod Places
+pub mod Exact
