@@ -63,7 +63,7 @@ module _ (limits : Limits) (text : List ℕ) (ts : List Lexeme) where
   range_read (range_of low k high) below =
       int_read low (the Range ∷ int ∷ below) ∙ the-read _ 0 (int ∷ below) Range k (lit< tt) refl ∙ int_read high below
 
-  owner-read : (at count base depth before : ℕ) (below : List Symbol) (o : Owner) → kind_at ts at ≡ owner_word o →
+  pub owner-read : (at count base depth before : ℕ) (below : List Symbol) (o : Owner) → kind_at ts at ≡ owner_word o →
       go limits ts at count (operand base depth before ∷ below) ≡ go limits ts (at + 1) count (dot base before ∷ below)
   owner-read at count base depth before below owner.Itself e = go-move limits ts at 30 count count (operand base depth before ∷ below) _ None e (lit< tt) refl
   owner-read at count base depth before below owner.Victim e = go-move limits ts at 31 count count (operand base depth before ∷ below) _ None e (lit< tt) refl

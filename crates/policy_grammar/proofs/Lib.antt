@@ -6,3 +6,4 @@ pub mod Viable
 pub mod Reached
 pub mod Places
 pub mod Exact
+pub mod Tags

@@ -48,6 +48,19 @@ pub data Move : Type 0 where
   refuses : Move
   goes : Option ParseFault → State → Move
 
+-- the owner of a reference
+abbrev pub is_owner : ℕ → Bool
+is_owner kind = (kind == code Itself || kind == code Victim) || (kind == code Core || kind == code Task)
+
+abbrev pub is_event : ℕ → Bool
+is_event kind = (kind == code Enqueue || kind == code Tick) || (kind == code Yield || kind == code Block)
+
+abbrev pub is_put : ℕ → Bool
+is_put kind = kind == code Queue || kind == code Keep || kind == code Block
+
+abbrev pub is_key : ℕ → Bool
+is_key kind = kind == code Min || kind == code Max
+
 -- a symbol of comparisons
 abbrev pub is_compare : ℕ → Bool
 is_compare kind =
@@ -61,7 +74,7 @@ module _ (limits : Limits) where
       if kind == code Minus then
           goes (first_of (many limits.operators at operators_before) (deep limits at depth))
               (state count (operand base (depth + 1) (operators_before + 1) ∷ below)) else
-      if kind == code Itself || kind == code Victim || (kind == code Core || kind == code Task) then
+      if is_owner kind then
           goes None (state count (dot base operators_before ∷ below)) else refuses
 
   abbrev pub unit_move : ℕ → ℕ → ℕ → List Symbol → ℕ → Move
@@ -74,7 +87,7 @@ module _ (limits : Limits) where
 
   abbrev pub key_move : ℕ → ℕ → List Symbol → ℕ → Move
   key_move before at below kind =
-      if kind == code Min || kind == code Max then
+      if is_key kind then
           goes (many limits.keys at before) (state 0 (operand 0 0 0 ∷ keys (before + 1) ∷ below)) else refuses
 
   abbrev pub case_move : ℕ → ℕ → List Symbol → ℕ → Move → Move
@@ -109,7 +122,7 @@ module _ (limits : Limits) where
       if kind == code On then
           goes None (state 0 (event ∷ the Begin ∷ case 0 ∷ the Finish ∷ handlers ∷ below)) else outer
   symbol_move count at event below kind outer =
-      if kind == code Enqueue || kind == code Tick || (kind == code Yield || kind == code Block) then
+      if is_event kind then
           goes None (state 0 below) else refuses
   symbol_move count at (case before) below kind outer = case_move before at below kind refuses
   symbol_move count at (cases before) below kind outer = case_move before at below kind outer
@@ -117,7 +130,7 @@ module _ (limits : Limits) where
       if kind == code Task then
           goes (many limits.sets at before)
               (state 0 (the Dot ∷ field ∷ the Gets ∷ operand 0 0 0 ∷ the Comma ∷ actions (before + 1) ∷ below)) else
-      if kind == code Queue || kind == code Keep || kind == code Block then goes None (state 0 below) else refuses
+      if is_put kind then goes None (state 0 below) else refuses
   symbol_move count at field below kind outer = if is_word kind then goes None (state 0 below) else refuses
   symbol_move count at order below kind outer =
       if kind == code First then goes None (state 0 below) else key_move 0 at below kind

@@ -1,7 +1,7 @@
 //! The tokens as the grammar tells them apart.
 
 ghost use Rattle.std.specs.Prelude.{◌≡◌, ◌==◌};
-ghost use Rattle.policy_grammar.specs.Terminals.{code};
+ghost use Rattle.policy_grammar.specs.Terminals.{code, is_word};
 
 /// What a token is to the grammar. The order matters to no caller.
 #[derive(Clone, Copy)]
@@ -122,6 +122,13 @@ impl Terminal {
         ensures { result ≡ (code self == code other) }
     {
         self as u8 == other as u8
+    }
+
+    /// Whether it is a word, reserved or not.
+    pub fn is_word(self) -> bool
+        ensures { result ≡ is_word (code self) }
+    {
+        Terminal::Policy as u8 <= self as u8 && self as u8 <= Terminal::Name as u8
     }
 }
 

@@ -1,0 +1,220 @@
+-- What one token does, as the parser tests it.
+use Rattle.std.proofs.Common.{◌≡◌, ◌≢◌, ◌<◌, ◌≤◌, ◌⊎◌, inl, inr, ℕ, zero, suc, ◌+◌, ◌==◌, ◌||◌, List, [], ◌∷◌, length, refl, sym, ap, subst, arith, lit<, lt-ltb, eq-eqb, Bool, true, false, Option, Some, None, ◌∙◌}
+use Rattle.std.proofs.lemmas.Bool.{le-ltb}
+use Rattle.std.proofs.lemmas.Bool.Decides.{eqb_tells}
+use Rattle.policy_grammar.specs.declared.terminal.Lexeme.{Lexeme}
+use Rattle.policy_grammar.specs.declared.limits.Limits.{Limits}
+use Rattle.policy_grammar.specs.declared.fault.ParseFault.{ParseFault}
+use Rattle.policy_grammar.specs.declared.fault.ParseFault.TheVariants.{Unexpected, Deep, Many, Memory}
+use Rattle.policy_grammar.specs.declared.terminal.Terminal.TheVariants.{First, Comma, And, Or, Not, Always, Open, Close, Plus, Minus, Star}
+use Rattle.policy_tree.specs.declared.trees.Cmp.{Cmp}
+use Rattle.policy_grammar.specs.Words.{sign_word, key_word, compare_word}
+use Rattle.policy_grammar.specs.Terminals.{code, kind_at, is_word}
+use Rattle.policy_grammar.specs.Breaks.{deep, many, first_of}
+use Rattle.policy_grammar.specs.Machine.{Symbol, word, field, order, key, keys, unit, ands, ors, close, compare, operand, operators, is_key, is_compare, go}
+use Rattle.policy_grammar.proofs.Steps.{judged, go-stuck, go-same, go-move}
+use Rattle.policy_grammar.proofs.CompleteConditions.{compares}
+use Rattle.policy_parser.specs.Answers.{Fails, IsWordFault}
+
+-- a test of the parser says what stands there, or what doesn't
+pub yes : {b : Bool} {k c : ℕ} → b ≡ (k == c) → b ≡ true → k ≡ c
+yes {b = b} {k = k} {c = c} is test = by (eqb_tells k c)
+  where
+    by : (((k == c) ≡ true) × (k ≡ c)) ⊎ (((k == c) ≡ false) × (k ≢ c)) → k ≡ c
+    by (inl p) = p.1
+    by (inr p) = let clash = sym p.0 ∙ sym is ∙ test in cc
+
+pub isnt : {b x : Bool} → b ≡ x → b ≡ false → x ≡ false
+isnt is test = sym is ∙ test
+
+-- a fault is passed on
+pub passes : {read now : Option ParseFault} (e : ParseFault) → read ≡ now → Fails now e → Fails read e
+passes (Unexpected at) same h = same ∙ h
+passes (Deep at) same h = same ∙ h
+passes (Many at limit) same h = same ∙ h
+passes Memory same h = tt
+
+-- where the limit isn't reached, or is
+pub within-deep : (limits : Limits) (at n : ℕ) → n < limits.nesting → deep limits at n ≡ None
+within-deep limits at n less = rw (lt-ltb n limits.nesting less) refl
+
+pub past-deep : (limits : Limits) (at n : ℕ) → limits.nesting ≤ n → deep limits at n ≡ Some (Deep at)
+past-deep limits at n most = rw (le-ltb n limits.nesting most) refl
+
+pub within-many : (limit at n : ℕ) → n < limit → many limit at n ≡ None
+within-many limit at n less = rw (lt-ltb n limit less) refl
+
+pub past-many : (limit at n : ℕ) → limit ≤ n → many limit at n ≡ Some (Many at limit)
+past-many limit at n most = rw (le-ltb n limit most) refl
+
+-- reading goes on past a limit that is kept, or ends there
+pub kept : {o r : Option ParseFault} (now : Option ParseFault) → r ≡ judged o now → o ≡ None → r ≡ now
+kept now e none = e ∙ ap (λ x. judged x now) none
+
+pub broken : {o r : Option ParseFault} (now : Option ParseFault) {f : ParseFault} → r ≡ judged o now → o ≡ Some f → r ≡ Some f
+broken now e some = e ∙ ap (λ x. judged x now) some
+
+pub fails-at : (read : Option ParseFault) {e f : ParseFault} → e ≡ f → Fails read f → Fails read e
+fails-at read same h = subst (Fails read) (sym same) h
+
+pub go-from : (limits : Limits) (ts : List Lexeme) {m n : ℕ} (count : ℕ) (stack : List Symbol) → m ≡ n → go limits ts m count stack ≡ go limits ts n count stack
+go-from limits ts count stack e = ap (λ i. go limits ts i count stack) e
+
+-- no word stands there
+pub word-fails : (ts : List Lexeme) (at : ℕ) (read : Option ParseFault) → (is_word (kind_at ts at) ≡ false → read ≡ Some (Unexpected at)) →
+    (e : ParseFault) → IsWordFault ts at e → Fails read e
+word-fails ts at read stuck (Unexpected place) h = stuck h.1 ∙ ap (λ n. Some (Unexpected n)) (sym h.0)
+word-fails ts at read stuck (Deep place) h = absurd h
+word-fails ts at read stuck (Many place limit) h = absurd h
+word-fails ts at read stuck Memory h = tt
+
+pub word-stuck : (limits : Limits) (ts : List Lexeme) (at count base before : ℕ) (below : List Symbol) → is_word (kind_at ts at) ≡ false →
+    go limits ts at count (word base before ∷ below) ≡ Some (Unexpected at)
+word-stuck limits ts at count base before below isnt = go-stuck limits ts at count (word base before ∷ below) refl (rw isnt refl)
+
+pub field-stuck : (limits : Limits) (ts : List Lexeme) (at count : ℕ) (below : List Symbol) → is_word (kind_at ts at) ≡ false →
+    go limits ts at count (field ∷ below) ≡ Some (Unexpected at)
+field-stuck limits ts at count below isnt = go-stuck limits ts at count (field ∷ below) refl (rw isnt refl)
+
+module _ (limits : Limits) (ts : List Lexeme) (at : ℕ) where
+  -- a unary sign
+  sign-move : (count base depth before : ℕ) (below : List Symbol) → kind_at ts at ≡ code Minus →
+      go limits ts at count (operand base depth before ∷ below)
+          ≡ judged (first_of (many limits.operators at before) (deep limits at depth)) (go limits ts (at + 1) count (operand base (depth + 1) (before + 1) ∷ below))
+  sign-move count base depth before below k =
+      go-move limits ts at 45 count count (operand base depth before ∷ below) _ (first_of (many limits.operators at before) (deep limits at depth)) k (lit< tt) refl
+
+  sign-within : (depth before : ℕ) → before < limits.operators → depth < limits.nesting → first_of (many limits.operators at before) (deep limits at depth) ≡ None
+  sign-within depth before few open_few = rw (within-many limits.operators at before few, within-deep limits at depth open_few) refl
+
+  pub sign-goes : (count base depth before : ℕ) (below : List Symbol) → kind_at ts at ≡ code Minus → before < limits.operators → depth < limits.nesting →
+      go limits ts at count (operand base depth before ∷ below) ≡ go limits ts (at + 1) count (operand base (depth + 1) (before + 1) ∷ below)
+  sign-goes count base depth before below k few open_few = kept _ (sign-move count base depth before below k) (sign-within depth before few open_few)
+
+  pub sign-many : (count base depth before : ℕ) (below : List Symbol) → kind_at ts at ≡ code Minus → limits.operators ≤ before →
+      go limits ts at count (operand base depth before ∷ below) ≡ Some (Many at limits.operators)
+  sign-many count base depth before below k most =
+      broken _ (sign-move count base depth before below k) (ap (λ o. first_of o (deep limits at depth)) (past-many limits.operators at before most))
+
+  pub sign-deep : (count base depth before : ℕ) (below : List Symbol) → kind_at ts at ≡ code Minus → before < limits.operators → limits.nesting ≤ depth →
+      go limits ts at count (operand base depth before ∷ below) ≡ Some (Deep at)
+  sign-deep count base depth before below k few most =
+      broken _ (sign-move count base depth before below k)
+          (ap (λ o. first_of o (deep limits at depth)) (within-many limits.operators at before few) ∙ past-deep limits at depth most)
+
+  -- an operator between factors or terms
+  star-move : (count base before : ℕ) (below : List Symbol) → kind_at ts at ≡ code Star →
+      go limits ts at count (operators base before ∷ below)
+          ≡ judged (many limits.operators at before) (go limits ts (at + 1) count (operand base base (before + 1) ∷ below))
+  star-move count base before below k =
+      go-move limits ts at 46 count count (operators base before ∷ below) _ (many limits.operators at before) k (lit< tt) refl
+
+  pub star-goes : (count base before : ℕ) (below : List Symbol) → kind_at ts at ≡ code Star → before < limits.operators →
+      go limits ts at count (operators base before ∷ below) ≡ go limits ts (at + 1) count (operand base base (before + 1) ∷ below)
+  star-goes count base before below k few = kept _ (star-move count base before below k) (within-many limits.operators at before few)
+
+  pub star-many : (count base before : ℕ) (below : List Symbol) → kind_at ts at ≡ code Star → limits.operators ≤ before →
+      go limits ts at count (operators base before ∷ below) ≡ Some (Many at limits.operators)
+  star-many count base before below k most = broken _ (star-move count base before below k) (past-many limits.operators at before most)
+
+  added-move : (count base before : ℕ) (below : List Symbol) (minus : Bool) → kind_at ts at ≡ sign_word minus →
+      go limits ts at count (operators base before ∷ below)
+          ≡ judged (many limits.operators at before) (go limits ts (at + 1) count (operand base base (before + 1) ∷ below))
+  added-move count base before below true k =
+      go-move limits ts at 45 count count (operators base before ∷ below) _ (many limits.operators at before) k (lit< tt) refl
+  added-move count base before below false k =
+      go-move limits ts at 44 count count (operators base before ∷ below) _ (many limits.operators at before) k (lit< tt) refl
+
+  pub added-goes : (count base before : ℕ) (below : List Symbol) (minus : Bool) → kind_at ts at ≡ sign_word minus → before < limits.operators →
+      go limits ts at count (operators base before ∷ below) ≡ go limits ts (at + 1) count (operand base base (before + 1) ∷ below)
+  added-goes count base before below minus k few = kept _ (added-move count base before below minus k) (within-many limits.operators at before few)
+
+  pub added-many : (count base before : ℕ) (below : List Symbol) (minus : Bool) → kind_at ts at ≡ sign_word minus → limits.operators ≤ before →
+      go limits ts at count (operators base before ∷ below) ≡ Some (Many at limits.operators)
+  added-many count base before below minus k most = broken _ (added-move count base before below minus k) (past-many limits.operators at before most)
+
+  pub operators-over : (count base before : ℕ) (below : List Symbol) → (kind_at ts at == code Star) ≡ false → (kind_at ts at == code Plus) ≡ false →
+      (kind_at ts at == code Minus) ≡ false → go limits ts at count (operators base before ∷ below) ≡ go limits ts at count below
+  operators-over count base before below star plus minus =
+      go-same limits ts at count count (operators base before ∷ below) below refl (rw (star, plus, minus) refl)
+
+  -- keys of an order
+  key-move : (before : ℕ) (below : List Symbol) (greatest : Bool) → kind_at ts at ≡ key_word greatest →
+      go limits ts at 0 (key before ∷ below) ≡ judged (many limits.keys at before) (go limits ts (at + 1) 0 (operand 0 0 0 ∷ keys (before + 1) ∷ below))
+  key-move before below true k = go-move limits ts at 12 0 0 (key before ∷ below) _ (many limits.keys at before) k (lit< tt) refl
+  key-move before below false k = go-move limits ts at 11 0 0 (key before ∷ below) _ (many limits.keys at before) k (lit< tt) refl
+
+  pub key-goes : (before : ℕ) (below : List Symbol) (greatest : Bool) → kind_at ts at ≡ key_word greatest → before < limits.keys →
+      go limits ts at 0 (key before ∷ below) ≡ go limits ts (at + 1) 0 (operand 0 0 0 ∷ keys (before + 1) ∷ below)
+  key-goes before below greatest k few = kept _ (key-move before below greatest k) (within-many limits.keys at before few)
+
+  pub key-many : (before : ℕ) (below : List Symbol) (greatest : Bool) → kind_at ts at ≡ key_word greatest → limits.keys ≤ before →
+      go limits ts at 0 (key before ∷ below) ≡ Some (Many at limits.keys)
+  key-many before below greatest k most = broken _ (key-move before below greatest k) (past-many limits.keys at before most)
+
+  pub key-none : (before : ℕ) (below : List Symbol) → is_key (kind_at ts at) ≡ false → go limits ts at 0 (key before ∷ below) ≡ Some (Unexpected at)
+  key-none before below isnt = go-stuck limits ts at 0 (key before ∷ below) refl (rw isnt refl)
+
+  pub order-key : (below : List Symbol) → (kind_at ts at == code First) ≡ false → go limits ts at 0 (order ∷ below) ≡ go limits ts at 0 (key 0 ∷ below)
+  order-key below isnt = go-same limits ts at 0 0 (order ∷ below) (key 0 ∷ below) refl (rw isnt refl)
+
+  pub keys-goes : (before : ℕ) (below : List Symbol) → kind_at ts at ≡ code Comma → go limits ts at 0 (keys before ∷ below) ≡ go limits ts (at + 1) 0 (key before ∷ below)
+  keys-goes before below k = go-move limits ts at 38 0 0 (keys before ∷ below) (key before ∷ below) None k (lit< tt) refl
+
+  pub keys-over : (before : ℕ) (below : List Symbol) → (kind_at ts at == code Comma) ≡ false → go limits ts at 0 (keys before ∷ below) ≡ go limits ts at 0 below
+  keys-over before below isnt = go-same limits ts at 0 0 (keys before ∷ below) below refl (rw isnt refl)
+
+  -- units of a condition
+  not-move : (count depth : ℕ) (below : List Symbol) → kind_at ts at ≡ code Not →
+      go limits ts at count (unit depth ∷ below) ≡ judged (deep limits at depth) (go limits ts (at + 1) count (unit (depth + 1) ∷ below))
+  not-move count depth below k = go-move limits ts at 28 count count (unit depth ∷ below) _ (deep limits at depth) k (lit< tt) refl
+
+  pub not-goes : (count depth : ℕ) (below : List Symbol) → kind_at ts at ≡ code Not → depth < limits.nesting →
+      go limits ts at count (unit depth ∷ below) ≡ go limits ts (at + 1) count (unit (depth + 1) ∷ below)
+  not-goes count depth below k few = kept _ (not-move count depth below k) (within-deep limits at depth few)
+
+  pub not-deep : (count depth : ℕ) (below : List Symbol) → kind_at ts at ≡ code Not → limits.nesting ≤ depth → go limits ts at count (unit depth ∷ below) ≡ Some (Deep at)
+  not-deep count depth below k most = broken _ (not-move count depth below k) (past-deep limits at depth most)
+
+  open-move : (count depth : ℕ) (below : List Symbol) → kind_at ts at ≡ code Open →
+      go limits ts at count (unit depth ∷ below)
+          ≡ judged (deep limits at depth) (go limits ts (at + 1) count (unit (depth + 1) ∷ ands (depth + 1) ∷ ors (depth + 1) ∷ close ∷ below))
+  open-move count depth below k = go-move limits ts at 40 count count (unit depth ∷ below) _ (deep limits at depth) k (lit< tt) refl
+
+  pub open-goes : (count depth : ℕ) (below : List Symbol) → kind_at ts at ≡ code Open → depth < limits.nesting →
+      go limits ts at count (unit depth ∷ below) ≡ go limits ts (at + 1) count (unit (depth + 1) ∷ ands (depth + 1) ∷ ors (depth + 1) ∷ close ∷ below)
+  open-goes count depth below k few = kept _ (open-move count depth below k) (within-deep limits at depth few)
+
+  pub open-deep : (count depth : ℕ) (below : List Symbol) → kind_at ts at ≡ code Open → limits.nesting ≤ depth → go limits ts at count (unit depth ∷ below) ≡ Some (Deep at)
+  open-deep count depth below k most = broken _ (open-move count depth below k) (past-deep limits at depth most)
+
+  pub always-goes : (count depth : ℕ) (below : List Symbol) → kind_at ts at ≡ code Always → go limits ts at count (unit depth ∷ below) ≡ go limits ts (at + 1) count below
+  always-goes count depth below k = go-move limits ts at 29 count count (unit depth ∷ below) below None k (lit< tt) refl
+
+  pub close-goes : (count : ℕ) (below : List Symbol) → kind_at ts at ≡ code Close → go limits ts at count (close ∷ below) ≡ go limits ts (at + 1) count below
+  close-goes count below k = go-move limits ts at 41 count count (close ∷ below) below None k (lit< tt) refl
+
+  pub close-none : (count : ℕ) (below : List Symbol) → (kind_at ts at == code Close) ≡ false → go limits ts at count (close ∷ below) ≡ Some (Unexpected at)
+  close-none count below isnt = go-stuck limits ts at count (close ∷ below) refl (rw isnt refl)
+
+  pub test-begins : (count depth : ℕ) (below : List Symbol) → (kind_at ts at == code Always) ≡ false → (kind_at ts at == code Not) ≡ false → (kind_at ts at == code Open) ≡ false →
+      go limits ts at count (unit depth ∷ below) ≡ go limits ts at count (operand depth depth 0 ∷ compare depth ∷ below)
+  test-begins count depth below a n o =
+      go-same limits ts at count count (unit depth ∷ below) (operand depth depth 0 ∷ compare depth ∷ below) refl (rw (a, n, o) refl)
+
+  pub compare-goes : (text : List ℕ) (count depth : ℕ) (below : List Symbol) (c : Cmp) → kind_at ts at ≡ compare_word c → count < limits.comparisons →
+      go limits ts at count (compare depth ∷ below) ≡ go limits ts (at + 1) (count + 1) (operand depth depth 0 ∷ below)
+  compare-goes text count depth below c k few = kept _ (compares limits text ts at count depth below c k) (within-many limits.comparisons at count few)
+
+  pub compare-many : (text : List ℕ) (count depth : ℕ) (below : List Symbol) (c : Cmp) → kind_at ts at ≡ compare_word c → limits.comparisons ≤ count →
+      go limits ts at count (compare depth ∷ below) ≡ Some (Many at limits.comparisons)
+  compare-many text count depth below c k most = broken _ (compares limits text ts at count depth below c k) (past-many limits.comparisons at count most)
+
+  pub compare-none : (count depth : ℕ) (below : List Symbol) → is_compare (kind_at ts at) ≡ false → go limits ts at count (compare depth ∷ below) ≡ Some (Unexpected at)
+  compare-none count depth below isnt = go-stuck limits ts at count (compare depth ∷ below) refl (rw isnt refl)
+
+  pub ands-goes : (count depth : ℕ) (below : List Symbol) → kind_at ts at ≡ code And → go limits ts at count (ands depth ∷ below) ≡ go limits ts (at + 1) count (unit depth ∷ ands depth ∷ below)
+  ands-goes count depth below k = go-move limits ts at 26 count count (ands depth ∷ below) _ None k (lit< tt) refl
+
+  pub ors-goes : (count depth : ℕ) (below : List Symbol) → kind_at ts at ≡ code Or → go limits ts at count (ors depth ∷ below) ≡ go limits ts (at + 1) count (unit depth ∷ ands depth ∷ ors depth ∷ below)
+  ors-goes count depth below k = go-move limits ts at 27 count count (ors depth ∷ below) _ None k (lit< tt) refl
