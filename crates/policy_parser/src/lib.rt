@@ -4,6 +4,7 @@
 mod conditions;
 mod expressions;
 mod orders;
+mod policies;
 mod source;
 
 pub use policy_grammar::{Limits, ParseFault, POLICY_LIMITS};

@@ -82,7 +82,7 @@ impl<'a> Source<'a> {
     }
 
     /// The bytes of a word.
-    fn name(&self, at: u32) -> Result<Name, ParseFault>
+    pub(crate) fn name(&self, at: u32) -> Result<Name, ParseFault>
         ensures word { IfOk result (λ name. name ≡ word_at self.now.text.now self.now.lexemes.now at) }
         ensures memory { IfErr result (λ e. e ≡ Memory) }
     {

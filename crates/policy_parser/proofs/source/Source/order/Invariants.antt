@@ -1,7 +1,6 @@
-use Rattle.std.proofs.Common.{ℕ, ◌≡◌, ◌≤◌, ◌<◌, ◌-◌, ◌∷◌, [], ◌++◌, List, length, vec_len}
-use Rattle.policy_tree.specs.declared.syntax.KeySyntax.{KeySyntax}
-use Rattle.policy_grammar.specs.Expressions.{IsOrder}
+use Rattle.std.proofs.Common.{ℕ, ◌≡◌, ◌≤◌, ◌<◌, ◌-◌, ◌∷◌, List, length, vec_len}
 use Rattle.policy_grammar.specs.Machine.{Symbol, order, keys, go}
+use Rattle.policy_parser.proofs.Chains.{Keyed}
 use Rattle.policy_parser.proofs.source.Source.order.Given as goal
 
 abbrev pub invariant-keys : goal.invariant-keys
@@ -10,8 +9,7 @@ invariant-keys l = record {
   within : l.next ≤ length l.self.lexemes.now;
   few : l.count ≤ l.next;
   short : vec_len l.keys ≤ l.next;
-  is : IsOrder l.self.text.now l.self.lexemes.now l.at (record { at = l.at; keys = l.keys.items }) l.next;
-  some : (first : KeySyntax) × (rest : List KeySyntax) × (l.keys.items ≡ first ∷ rest);
+  are : Keyed l.self.text.now l.self.lexemes.now l.keys.items l.at l.next;
   reads : (below : List Symbol) →
       go l.self.limits l.self.lexemes.now l.at 0 (order ∷ below) ≡ go l.self.limits l.self.lexemes.now l.next 0 (keys l.count ∷ below);
 }
