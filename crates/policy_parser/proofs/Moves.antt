@@ -1,5 +1,5 @@
 -- What one token does, as the parser tests it.
-use Rattle.std.proofs.Common.{◌≡◌, ◌≢◌, ◌<◌, ◌≤◌, ◌⊎◌, inl, inr, ℕ, zero, suc, ◌+◌, ◌==◌, ◌||◌, List, [], ◌∷◌, length, refl, sym, ap, subst, arith, lit<, lt-ltb, eq-eqb, Bool, true, false, not, IsTrue, Option, Some, None, Result, Ok, Err, ◌∙◌}
+use Rattle.std.proofs.Common.{◌≡◌, ◌≢◌, ◌<◌, ◌≤◌, ◌⊎◌, inl, inr, ℕ, zero, suc, ◌+◌, ◌==◌, ◌||◌, List, [], ◌∷◌, length, drop, refl, sym, ap, subst, arith, lit<, lt-ltb, eq-eqb, Bool, true, false, not, IsTrue, Option, Some, None, Result, Ok, Err, ◌∙◌}
 use Rattle.std.proofs.lemmas.Bool.{le-ltb}
 use Rattle.std.proofs.lemmas.Bool.Decides.{eqb_tells, nat_tests}
 use Rattle.policy_grammar.specs.declared.terminal.Lexeme.{Lexeme}
@@ -15,7 +15,7 @@ use Rattle.policy_tree.specs.declared.typed.Event.{Event}
 use Rattle.policy_tree.specs.declared.typed.Event.TheVariants as event_is
 use Rattle.policy_grammar.specs.Terminals.{code, kind_at, is_word}
 use Rattle.policy_grammar.specs.Breaks.{deep, many, first_of, of_kind, of_cores_more, of_threads_more}
-use Rattle.policy_grammar.specs.Machine.{Symbol, the, int, load_rule, attrs, handlers, event, case, cases, actions, condition, is_put, is_event, place, place_rule, elect, word, field, order, key, keys, unit, ands, ors, close, compare, operand, operators, is_key, is_compare, go}
+use Rattle.policy_grammar.specs.Machine.{Symbol, the, int, load_rule, attrs, handlers, event, case, cases, actions, condition, is_put, is_event, place, place_rule, elect, word, field, order, key, keys, unit, ands, ors, close, compare, operand, operators, is_key, is_compare, state, run, go}
 use Rattle.policy_grammar.proofs.Steps.{judged, go-stuck, go-same, go-move}
 use Rattle.policy_grammar.proofs.CompleteConditions.{compares}
 use Rattle.policy_parser.specs.Answers.{Fails, Answers, IsWordFault}
@@ -397,3 +397,13 @@ at-most-one false more same = let e = same refl in omega (arith, e)
 
 pub plus-two : (at : ℕ) → at + 1 + 1 ≡ at + 2
 plus-two at = omega arith
+
+-- tokens behind the last that a policy has
+past-run : (limits : Limits) (ts : List Lexeme) (n at : ℕ) → n < length ts → run limits at (state 0 []) (drop n ts) ≡ Some (Unexpected at)
+past-run limits [] n at less = absurd (omega (arith, less))
+past-run limits (t ∷ ts) zero at less = refl
+past-run limits (t ∷ ts) (suc n) at less = past-run limits ts n at (omega (arith, less))
+
+pub past-end : (limits : Limits) (ts : List Lexeme) (at : ℕ) → at < length ts → go limits ts at 0 [] ≡ Some (Unexpected at)
+unfolding go
+past-end limits ts at less = past-run limits ts at at less

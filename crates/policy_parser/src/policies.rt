@@ -1,24 +1,48 @@
 //! Reads policies.
 
-ghost use Rattle.std.specs.Prelude.{◌≡◌, ◌==◌, ◌<◌, ◌≤◌, ◌+◌, ◌∷◌, [], ℕ, List, length, IfOk, IfSome, IfNone, IsTrue, false, map, ◌^◌, ◌-◌};
+ghost use Rattle.std.specs.Prelude.{None, ◌≡◌, ◌==◌, ◌<◌, ◌≤◌, ◌+◌, ◌∷◌, [], ℕ, List, length, IfOk, IfSome, IfNone, IsTrue, false, map, ◌^◌, ◌-◌};
 ghost use Rattle.policy_grammar.specs.declared.terminal.Terminal.TheVariants.{Core, Thread, On, Load, Range, In, Start, Name, Task, Dot, Gets, Comma};
 ghost use Rattle.policy_grammar.specs.Terminals.{code, kind_at, word_at};
 ghost use Rattle.policy_grammar.specs.Words.{attr_word, put_word, event_word};
 ghost use Rattle.policy_grammar.specs.Expressions.{IsInt, IsRange};
-ghost use Rattle.policy_grammar.specs.Policies.{IsLoad, IsAttr, IsAttrs, IsCase, IsHandler, IsHandlers, IsPlace, IsElect, IsSets};
-ghost use Rattle.policy_grammar.specs.Machine.{Symbol, the, int, load_rule, attrs, actions, case, cases, handlers, is_put, is_event, place, elect, field, operand, go};
-ghost use Rattle.policy_tree.specs.SyntaxTrees.{case_syntax_tree, handler_syntax_tree};
+ghost use Rattle.policy_grammar.specs.Policies.{IsPolicy, IsLoad, IsAttr, IsAttrs, IsCase, IsHandler, IsHandlers, IsPlace, IsElect, IsSets};
+ghost use Rattle.policy_grammar.specs.Machine.{Symbol, the, int, load_rule, attrs, actions, case, cases, handlers, is_put, is_event, place, elect, field, operand, start, go};
+ghost use Rattle.policy_tree.specs.SyntaxTrees.{case_syntax_tree, handler_syntax_tree, syntax_tree};
 ghost use Rattle.policy_grammar.specs.Breaks.{of_kind};
 ghost use Rattle.policy_parser.specs.Answers.{Answers};
 ghost use Rattle.policy_parser.specs.Cases.{Cased};
 
 use lists::Items;
 use policy_grammar::{ParseFault, Terminal};
-use policy_tree::{AttrSyntax, CaseSyntax, ElectSyntax, Event, HandlerSyntax, IntSyntax, LoadSyntax, Name, PlaceSyntax, Put, RangeSyntax, SetSyntax};
+use policy_tree::{AttrSyntax, CaseSyntax, ElectSyntax, Event, HandlerSyntax, IntSyntax, LoadSyntax, Name, PlaceSyntax, Put, RangeSyntax, SetSyntax, Syntax};
 
 use crate::source::Source;
 
 impl<'a> Source<'a> {
+    /// The policy that the tokens are.
+    pub(crate) fn policy(&self) -> Result<Syntax, ParseFault>
+        ensures is { IfOk result (λ s. IsPolicy self.now.text.now self.now.lexemes.now (syntax_tree s)) }
+        ensures reads { Answers (go self.now.limits self.now.lexemes.now 0 0 start) (λ s. None) result }
+    {
+        let name_at = self.expect(0, Terminal::Policy)?;
+        let (name, load_at) = self.name_at(name_at)?;
+        let (load, attrs_at) = self.load(load_at)?;
+        let (attrs, place_at) = self.attrs(attrs_at)?;
+        let (place, elect_at) = self.place(place_at)?;
+        let (elect, handlers_at) = self.elect(elect_at)?;
+        let (handlers, filter_at) = self.handlers(handlers_at)?;
+        let guard_at = self.expect(filter_at, Terminal::Filter)?;
+        let (filter, choose_at, _count) = self.condition(guard_at, 0, 0)?;
+        let first_at = self.expect(choose_at, Terminal::Choose)?;
+        let (choose, steal_at) = self.order(first_at)?;
+        let second_at = self.expect(steal_at, Terminal::Steal)?;
+        let (steal, end) = self.order(second_at)?;
+        if (end as usize) < self.lexemes.len() {
+            return Err(ParseFault::Unexpected(end));
+        }
+        Ok(Syntax { name, load, attrs, place, elect, handlers, filter_at, filter, choose_at, choose, steal_at, steal })
+    }
+
     /// A number that may have a sign.
     fn int(&self, at: u32) -> Result<(IntSyntax, u32), ParseFault>
         requires within { at ≤ length self.now.lexemes.now }
