@@ -31,7 +31,7 @@ first-unique text k j p q one other =
     let there = sym one.spells ∙ ap (λ n. piece_of (take n text)) same ∙ other.spells in
     (same, cc)
 
-Reads-le : {text : List ℕ} {from to : ℕ} {tokens : List Token} → Reads text from tokens to → from ≤ to
+pub Reads-le : {text : List ℕ} {from to : ℕ} {tokens : List Token} → Reads text from tokens to → from ≤ to
 Reads-le reads_nothing = omega arith
 Reads-le (reads_gap k first more) = omega (arith, Reads-le more)
 Reads-le (reads_token t k starts ends first keeps more) = omega (arith, Reads-le more)

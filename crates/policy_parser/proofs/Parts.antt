@@ -182,7 +182,7 @@ pub policy-parts : {text : List ℕ} {ts : List Lexeme} {name_at load_at attrs_a
       name = name; load = load; attrs = attrs; place = place; elect = elect; handlers = handlers;
       filter_at = filter_at; filter = filter; choose_at = choose_at; choose = choose; steal_at = steal_at; steal = steal })
 policy-parts {text = text} {ts = ts} {attrs_at = attrs_at} {place_at = place_at} {elect_at = elect_at} {handlers_at = handlers_at} {filter_at = filter_at}
-    {choose_at = choose_at} {steal_at = steal_at} {end = end} {name = name} {load = load} {attrs = attrs} {place = place} {elect = elect} {handlers = handlers}
+    {choose_at = choose_at} {steal_at = steal_at} {second_at = second_at} {end = end} {name = name} {load = load} {attrs = attrs} {place = place} {elect = elect} {handlers = handlers}
     {filter = filter} {choose = choose} {steal = steal}
     k0 e1 k1 w e2 dl da dp de dh kf e3 df kc e4 dc ks e5 ds e6 =
     let two : _ ≡ 2 = omega (arith, e1, e2) in
@@ -192,4 +192,4 @@ policy-parts {text = text} {ts = ts} {attrs_at = attrs_at} {place_at = place_at}
       (sym (w ∙ ap (word_at text ts) e1))
       (policy_of k0 (subst (λ n. kind_at ts n ≡ code Name) e1 k1) (subst (λ n. IsLoad ts n load attrs_at) two dl) da dp de dh
         kf (subst (λ n. IsCondition text ts n filter choose_at) e3 df) kc (subst (λ n. IsOrder text ts n choose steal_at) e4 dc) ks
-        (subst (λ n. IsOrder text ts n steal (length ts)) e5 (subst (λ m. IsOrder text ts _ steal m) e6 ds)))
+        (subst (λ n. IsOrder text ts n steal (length ts)) e5 (subst (λ m. IsOrder text ts second_at steal m) e6 ds)))

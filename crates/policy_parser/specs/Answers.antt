@@ -35,3 +35,11 @@ IsWordFault ts at (Unexpected place) = (place ≡ at) × (is_word (kind_at ts at
 IsWordFault ts at (Deep place) = ⊥
 IsWordFault ts at (Many place limit) = ⊥
 IsWordFault ts at Memory = Unit {0}
+
+-- it is read, or memory ran out
+abbrev pub IsReadUnlessMemory : {X : Type 0} → Result X ParseFault → Type 0
+IsReadUnlessMemory (Ok part) = Unit {0}
+IsReadUnlessMemory (Err (Unexpected at)) = ⊥
+IsReadUnlessMemory (Err (Deep at)) = ⊥
+IsReadUnlessMemory (Err (Many at limit)) = ⊥
+IsReadUnlessMemory (Err Memory) = Unit {0}
