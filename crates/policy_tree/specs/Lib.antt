@@ -1,3 +1,4 @@
 pub mod Chains
 pub mod Meaning
 pub mod Trees
+pub mod SyntaxTrees

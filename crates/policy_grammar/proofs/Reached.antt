@@ -1,0 +1,196 @@
+-- What is read begins some policy.
+use Rattle.std.proofs.Common.{◌≡◌, ◌≢◌, ◌<◌, ℕ, zero, suc, ◌+◌, ◌==◌, ◌||◌, ◌⊎◌, inl, inr, List, [], ◌∷◌, ◌++◌, length, refl, sym, ap, subst, arith, Bool, true, false, cond, Option, Some, None, ◌∙◌, if◌then◌else◌, append_assoc, append-nil, length-append}
+use Rattle.std.proofs.lemmas.Bool.Decides.{eqb_tells}
+use Rattle.policy_tree.specs.declared.trees.Cmp.{Cmp}
+use Rattle.policy_tree.specs.declared.trees.Cmp.TheVariants as cmp
+use Rattle.policy_tree.specs.declared.typed.Event.{Event}
+use Rattle.policy_tree.specs.declared.typed.Event.TheVariants as event_is
+use Rattle.policy_tree.specs.declared.typed.Put.{Put}
+use Rattle.policy_tree.specs.declared.typed.Put.TheVariants as put_is
+use Rattle.policy_tree.specs.declared.syntax.Owner.{Owner}
+use Rattle.policy_tree.specs.declared.syntax.Owner.TheVariants as owner
+use Rattle.policy_tree.specs.declared.syntax.IntSyntax.{IntSyntax}
+use Rattle.policy_tree.specs.declared.syntax.LoadSyntax.{LoadSyntax}
+use Rattle.policy_tree.specs.declared.syntax.AttrSyntax.{AttrSyntax}
+use Rattle.policy_tree.specs.declared.syntax.PlaceSyntax.{PlaceSyntax}
+use Rattle.policy_tree.specs.declared.syntax.ElectSyntax.{ElectSyntax}
+use Rattle.policy_tree.specs.declared.syntax.OrderSyntax.{OrderSyntax}
+use Rattle.policy_tree.specs.declared.syntax.KeySyntax.{KeySyntax}
+use Rattle.policy_tree.specs.declared.syntax.SetSyntax.{SetSyntax}
+use Rattle.policy_tree.specs.declared.syntax.ExprSyntax.{ExprSyntax}
+use Rattle.policy_tree.specs.declared.syntax.TimesSyntax.{TimesSyntax}
+use Rattle.policy_tree.specs.declared.syntax.AddedSyntax.{AddedSyntax}
+use Rattle.policy_tree.specs.declared.syntax.OperandSyntax.{OperandSyntax}
+use Rattle.policy_tree.specs.SyntaxTrees.{ConditionTree, ConditionTrees, CaseSyntaxTree, HandlerSyntaxTree, SyntaxTree}
+use Rattle.policy_grammar.specs.declared.terminal.Lexeme.{Lexeme}
+use Rattle.policy_grammar.specs.declared.terminal.Terminal.{Terminal}
+use Rattle.policy_grammar.specs.declared.terminal.Terminal.TheVariants.{Policy, Load, Count, Weight, Core, Thread, In, Start, Place, Here, Min, Max, Elect, Choose, Steal, First, On, Enqueue, Tick, Yield, Block, When, Queue, Keep, Filter, And, Or, Not, Always, Itself, Victim, Task, Name, Number, Dot, Range, Comma, Colon, Open, Close, Begin, Finish, Plus, Minus, Star, Gets, Equal, Unequal, Less, AtMost, More, AtLeast}
+use Rattle.policy_grammar.specs.declared.limits.Limits.{Limits}
+use Rattle.policy_grammar.specs.declared.fault.ParseFault.{ParseFault}
+use Rattle.policy_grammar.specs.Terminals.{code, kind_at, is_word}
+use Rattle.policy_grammar.specs.Words.{attr_word, key_word, sign_word, owner_word, event_word, put_word, compare_word}
+use Rattle.policy_grammar.specs.Expressions.{IsInt, int_plain, int_signed, IsRange, range_of, IsOperand, operand_number, operand_reference, IsFactor, factor_plain, factor_signed, IsTimes, times_none, times_more, IsTerm, term_of, IsAdded, added_none, added_more, IsExpr, expr_of, IsKey, key_of, IsKeys, keys_none, keys_more, IsOrder, order_first, order_keys}
+use Rattle.policy_grammar.specs.Conditions.{IsUnit, unit_always, unit_not, unit_group, unit_test, IsAnds, ands_none, ands_more, IsConjunction, conjunction_of, IsOrs, ors_none, ors_more, IsCondition, condition_of}
+use Rattle.policy_grammar.specs.Policies.{IsLoad, load_count, load_weight, IsAttr, attr_of, IsAttrs, attrs_none, attrs_more, IsPlace, place_none, place_here, place_least, IsElect, elect_none, elect_some, IsSets, sets_none, sets_more, IsCase, case_of, IsCases, cases_none, cases_more, IsHandler, handler_of, IsHandlers, handlers_none, handlers_more, IsPolicy, policy_of}
+use Rattle.policy_grammar.specs.Machine.{Symbol, the, load_rule, int, attrs, place, place_rule, elect, handlers, event, case, cases, actions, field, order, key, keys, condition, unit, ands, ors, close, compare, operand, dot, word, operators, State, state, Move, refuses, goes, is_compare, factor_move, unit_move, key_move, case_move, attr_move, symbol_move, moves, start}
+
+use Rattle.policy_grammar.specs.Terminals.{lexeme_at}
+use Rattle.policy_grammar.specs.Machine.{is_nothing, all_nothing, kind_of}
+use Rattle.policy_grammar.specs.Correct.{Begins}
+use Rattle.policy_grammar.proofs.Viable.{Token, token, Word, any_word, Actions, acts, Cases, Keys, Compared, Further, Means, Are, are_none, are_more, Pulls, pulls, reference-further, operand-further}
+
+-- a lexeme of that kind
+abbrev named : Terminal → Lexeme
+named terminal = record { terminal = terminal; start = 0; end = 0; value = 0 }
+
+kind-seam : (xs ws : List Lexeme) (i : ℕ) → kind_at (xs ++ ws) (length xs + i) ≡ kind_at ws i
+kind-seam [] ws i = ap (kind_at ws) (let e : 0 + i ≡ i = omega arith in e)
+kind-seam (x ∷ xs) ws i =
+    let e : suc (length xs) + i ≡ suc (length xs + i) = omega arith in
+    ap (kind_at (x ∷ (xs ++ ws))) e ∙ kind-seam xs ws i
+
+kind-first : (xs ws : List Lexeme) → kind_at (xs ++ ws) (length xs) ≡ kind_at ws 0
+kind-first xs ws = ap (kind_at (xs ++ ws)) (let e : length xs ≡ length xs + 0 = omega arith in e) ∙ kind-seam xs ws 0
+
+-- the shortest tokens of a symbol
+abbrev short : Symbol → List Lexeme
+short (the terminal) = named terminal ∷ []
+short load_rule = named Count ∷ []
+short int = named Number ∷ []
+short (attrs cores threads) = []
+short place = []
+short place_rule = named Here ∷ []
+short elect = []
+short handlers = []
+short event = named Enqueue ∷ []
+short (case before) = named When ∷ named Always ∷ named Colon ∷ named Queue ∷ []
+short (cases before) = []
+short (actions before) = named Queue ∷ []
+short field = named Name ∷ []
+short order = named First ∷ []
+short (key before) = named Min ∷ named Number ∷ []
+short (keys before) = []
+short condition = named Always ∷ []
+short (unit depth) = named Always ∷ []
+short (ands depth) = []
+short (ors depth) = []
+short close = named Close ∷ []
+short (compare depth) = named Equal ∷ named Number ∷ []
+short (operand base depth before) = named Number ∷ []
+short (dot base before) = named Dot ∷ named Name ∷ []
+short (word base before) = named Name ∷ []
+short (operators base before) = []
+
+module _ (text : List ℕ) (ts : List Lexeme) where
+  number-expr : {at : ℕ} → kind_at ts at ≡ code Number → (e : ExprSyntax) × IsExpr text ts at e (at + 1)
+  number-expr k = (_, expr_of (term_of (factor_plain (operand_number k)) times_none) added_none)
+
+  nothing-further : (at : ℕ) → Further text ts at at
+  nothing-further at = record { times = []; added = []; mid = at; are = times_none; sums = added_none }
+
+  always-condition : {at : ℕ} → kind_at ts at ≡ code Always → (v : ConditionTree) × IsCondition text ts at v (at + 1)
+  always-condition k = (_, condition_of _ _ (conjunction_of _ _ (unit_always k) ands_none) ors_none)
+
+  load-word : {from at : ℕ} → kind_at ts at ≡ code Count → Token text ts (code Load) from at → (v : LoadSyntax) × IsLoad ts from v (at + 1)
+  load-word {from = from} k (token l) =
+      let there : from + 2 ≡ from + 1 + 1 = omega arith in
+      subst (λ n. (v : LoadSyntax) × IsLoad ts from v n) there (_, load_count l k)
+
+  place-word : {from at : ℕ} → kind_at ts at ≡ code Here → Token text ts (code Place) from at → (p : Option PlaceSyntax) × IsPlace text ts from p (at + 1)
+  place-word {from = from} k (token l) =
+      let there : from + 2 ≡ from + 1 + 1 = omega arith in
+      subst (λ n. (p : Option PlaceSyntax) × IsPlace text ts from p n) there (_, place_here l k)
+
+  case-short : {at : ℕ} → kind_at ts at ≡ code When → kind_at ts (at + 1) ≡ code Always → kind_at ts (at + 1 + 1) ≡ code Colon →
+      kind_at ts (at + 1 + 1 + 1) ≡ code Queue → Cases text ts at (at + 1 + 1 + 1 + 1)
+  case-short w a c q =
+      record { first = _; rest = []; mid = _; is = case_of put_is.Queue w (always-condition a).1 c sets_none q; are = cases_none }
+
+  -- a symbol by the tokens from a place on
+  short-one : (at : ℕ) (s : Symbol) (ws : List Lexeme) → ((i : ℕ) → kind_at ts (at + i) ≡ kind_at (short s ++ ws) i) →
+      kind_at ts at ≡ kind_at (short s ++ ws) 0 → Means text ts s at (at + length (short s))
+  short-one at (the terminal) ws k z = token z
+  short-one at load_rule ws k z = λ from l. load-word z l
+  short-one at int ws k z = (_, int_plain z)
+  short-one at (attrs cores threads) ws k z = let e : at ≡ at + 0 = omega arith in subst (λ n. Means text ts (attrs cores threads) at n) e ([], attrs_none)
+  short-one at place ws k z = let e : at ≡ at + 0 = omega arith in subst (λ n. Means text ts place at n) e (None, place_none)
+  short-one at place_rule ws k z = λ from l. place-word z l
+  short-one at elect ws k z = let e : at ≡ at + 0 = omega arith in subst (λ n. Means text ts elect at n) e (None, elect_none)
+  short-one at handlers ws k z = let e : at ≡ at + 0 = omega arith in subst (λ n. Means text ts handlers at n) e ([], handlers_none)
+  short-one at event ws k z = (event_is.Enqueue, token z)
+  short-one at (case before) ws k z =
+      let two : at + 2 ≡ at + 1 + 1 = omega arith in
+      let three : at + 3 ≡ at + 1 + 1 + 1 = omega arith in
+      let four : at + 1 + 1 + 1 + 1 ≡ at + 4 = omega arith in
+      subst (λ n. Cases text ts at n) four
+          (case-short z (k 1) (subst (λ n. kind_at ts n ≡ code Colon) two (k 2)) (subst (λ n. kind_at ts n ≡ code Queue) three (k 3)))
+  short-one at (cases before) ws k z = let e : at ≡ at + 0 = omega arith in subst (λ n. Means text ts (cases before) at n) e ([], cases_none)
+  short-one at (actions before) ws k z = acts put_is.Queue sets_none z
+  short-one at field ws k z = any_word (rw z refl)
+  short-one at order ws k z = (_, order_first z)
+  short-one at (key before) ws k z =
+      let two : at + 1 + 1 ≡ at + 2 = omega arith in
+      subst (λ n. Keys text ts at n) two
+          (record { first = _; rest = []; mid = _; is = key_of false z (number-expr (k 1)).1; are = keys_none })
+  short-one at (keys before) ws k z = let e : at ≡ at + 0 = omega arith in subst (λ n. Means text ts (keys before) at n) e ([], keys_none)
+  short-one at condition ws k z = always-condition z
+  short-one at (unit depth) ws k z = (_, unit_always z)
+  short-one at (ands depth) ws k z = let e : at ≡ at + 0 = omega arith in subst (λ n. Means text ts (ands depth) at n) e (_, ands_none)
+  short-one at (ors depth) ws k z = let e : at ≡ at + 0 = omega arith in subst (λ n. Means text ts (ors depth) at n) e (_, ors_none)
+  short-one at close ws k z = token z
+  short-one at (compare depth) ws k z =
+      let two : at + 1 + 1 ≡ at + 2 = omega arith in
+      subst (λ n. Compared text ts at n) two
+          (record { by = cmp.Eq; right = _; sign = z; is = (number-expr (k 1)).1 })
+  short-one at (operand base depth before) ws k z = number-expr z
+  short-one at (dot base before) ws k z = λ from o l.
+      let two : at + 1 + 1 ≡ at + 2 = omega arith in
+      subst (λ n. (e : ExprSyntax) × IsExpr text ts from e n) two
+          (reference-further text ts o l (token z) (rw (k 1) refl) (nothing-further (at + 1 + 1)))
+  short-one at (word base before) ws k z = λ from mid o l d. reference-further text ts o l d (rw z refl) (nothing-further (at + 1))
+  short-one at (operators base before) ws k z = let e : at ≡ at + 0 = omega arith in subst (λ n. Further text ts at n) e (nothing-further at)
+
+-- each stack can be completed
+completes : (text : List ℕ) (stack : List Symbol) → (ys : List Lexeme) × ((xs : List Lexeme) → Are text (xs ++ ys) stack (length xs) (length (xs ++ ys)))
+completes text [] = ([], λ xs. subst (λ n. Are text (xs ++ []) [] (length xs) n) (sym (ap length (append-nil xs))) are_none)
+completes text (s ∷ below) =
+    let c = completes text below in
+    (short s ++ c.0, λ xs. at_front xs c.0 (c.1 (xs ++ short s)))
+  where
+    at_front : (xs ys : List Lexeme) → Are text ((xs ++ short s) ++ ys) below (length (xs ++ short s)) (length ((xs ++ short s) ++ ys)) →
+        Are text (xs ++ (short s ++ ys)) (s ∷ below) (length xs) (length (xs ++ (short s ++ ys)))
+    at_front xs ys rest =
+        let same = append_assoc xs (short s) ys in
+        let later = subst (λ ts. Are text ts below (length (xs ++ short s)) (length ts)) same rest in
+        let one = short-one text (xs ++ (short s ++ ys)) (length xs) s ys (kind-seam xs (short s ++ ys)) (kind-first xs (short s ++ ys)) in
+        are_more (length (xs ++ short s))
+            (subst (λ n. Means text (xs ++ (short s ++ ys)) s (length xs) n) (sym (length-append xs (short s))) one) later
+
+-- what completes the stack behind these tokens is a policy with them
+abbrev pub Reach : List ℕ → List Lexeme → List Symbol → Type 0
+Reach text ps stack = (ts rest : List Lexeme) (to : ℕ) → ts ≡ ps ++ rest → Are text ts stack (length ps) to → Are text ts start 0 to
+
+pub reach-start : (text : List ℕ) → Reach text [] start
+reach-start text = λ ts rest to e means. means
+
+pub reach-step : (limits : Limits) (text : List ℕ) (ps : List Lexeme) (t : Lexeme) (count next : ℕ) (stack to : List Symbol) (o : Option ParseFault) →
+    Reach text ps stack → moves limits count (length ps) stack (kind_of t) ≡ goes o (state next to) → Reach text (ps ++ t ∷ []) to
+reach-step limits text ps t count next stack to o reach e = λ ts rest last same means.
+    let split : ts ≡ ps ++ (t ∷ rest) = same ∙ append_assoc ps (t ∷ []) rest in
+    let kind : kind_at ts (length ps) ≡ kind_of t = ap (λ x. kind_at x (length ps)) split ∙ kind-first ps (t ∷ rest) in
+    let one : length (ps ++ t ∷ []) ≡ length ps + 1 = length-append ps (t ∷ []) in
+    let pull = subst (Pulls text ts stack (length ps) last) (ap (moves limits count (length ps) stack) kind ∙ e) (pulls limits text ts (length ps) last count stack) in
+    reach ts (t ∷ rest) last split (pull (subst (λ n. Are text ts to n last) one means))
+
+-- the symbols of a whole policy are a policy
+policy-from : (text : List ℕ) (ts : List Lexeme) → Are text ts start 0 (length ts) → (s : SyntaxTree) × IsPolicy text ts s
+policy-from text ts
+    (are_more m0 (token k0) (are_more m1 (token k1) (are_more m2 (token kl) (are_more m3 load (are_more m4 us (are_more m5 p (are_more m6 e (are_more m7 hs
+        (are_more m8 (token kf) (are_more m9 f (are_more m10 (token kc) (are_more m11 c (are_more m12 (token ks) (are_more m13 s are_none)))))))))))))) =
+    (_, policy_of k0 k1 (load 2 (token kl)).1 us.1 p.1 e.1 hs.1 kf f.1 kc c.1 ks s.1)
+
+pub reach-begins : (text : List ℕ) (ps : List Lexeme) (stack : List Symbol) → Reach text ps stack → Begins text ps
+reach-begins text ps stack reach =
+    let c = completes text stack in
+    let w = policy-from text (ps ++ c.0) (reach (ps ++ c.0) c.0 (length (ps ++ c.0)) refl (c.1 ps)) in
+    record { rest = c.0; syntax = w.0; is = w.1 }

@@ -1,0 +1,473 @@
+-- What is read begins some policy: each stack of what is still to come can be completed, and what completes it
+-- completes the tokens before it.
+use Rattle.std.proofs.Common.{◌≡◌, ◌≢◌, ◌<◌, ℕ, zero, suc, ◌+◌, ◌==◌, ◌||◌, ◌⊎◌, inl, inr, List, [], ◌∷◌, ◌++◌, length, refl, sym, ap, subst, arith, Bool, true, false, cond, Option, Some, None, ◌∙◌, if◌then◌else◌, append_assoc, append-nil, length-append}
+use Rattle.std.proofs.lemmas.Bool.Decides.{eqb_tells}
+use Rattle.policy_tree.specs.declared.trees.Cmp.{Cmp}
+use Rattle.policy_tree.specs.declared.trees.Cmp.TheVariants as cmp
+use Rattle.policy_tree.specs.declared.typed.Event.{Event}
+use Rattle.policy_tree.specs.declared.typed.Event.TheVariants as event_is
+use Rattle.policy_tree.specs.declared.typed.Put.{Put}
+use Rattle.policy_tree.specs.declared.typed.Put.TheVariants as put_is
+use Rattle.policy_tree.specs.declared.syntax.Owner.{Owner}
+use Rattle.policy_tree.specs.declared.syntax.Owner.TheVariants as owner
+use Rattle.policy_tree.specs.declared.syntax.IntSyntax.{IntSyntax}
+use Rattle.policy_tree.specs.declared.syntax.LoadSyntax.{LoadSyntax}
+use Rattle.policy_tree.specs.declared.syntax.AttrSyntax.{AttrSyntax}
+use Rattle.policy_tree.specs.declared.syntax.PlaceSyntax.{PlaceSyntax}
+use Rattle.policy_tree.specs.declared.syntax.ElectSyntax.{ElectSyntax}
+use Rattle.policy_tree.specs.declared.syntax.OrderSyntax.{OrderSyntax}
+use Rattle.policy_tree.specs.declared.syntax.KeySyntax.{KeySyntax}
+use Rattle.policy_tree.specs.declared.syntax.SetSyntax.{SetSyntax}
+use Rattle.policy_tree.specs.declared.syntax.ExprSyntax.{ExprSyntax}
+use Rattle.policy_tree.specs.declared.syntax.TimesSyntax.{TimesSyntax}
+use Rattle.policy_tree.specs.declared.syntax.AddedSyntax.{AddedSyntax}
+use Rattle.policy_tree.specs.declared.syntax.OperandSyntax.{OperandSyntax}
+use Rattle.policy_tree.specs.SyntaxTrees.{ConditionTree, ConditionTrees, CaseSyntaxTree, HandlerSyntaxTree, SyntaxTree}
+use Rattle.policy_grammar.specs.declared.terminal.Lexeme.{Lexeme}
+use Rattle.policy_grammar.specs.declared.terminal.Terminal.{Terminal}
+use Rattle.policy_grammar.specs.declared.terminal.Terminal.TheVariants.{Policy, Load, Count, Weight, Core, Thread, In, Start, Place, Here, Min, Max, Elect, Choose, Steal, First, On, Enqueue, Tick, Yield, Block, When, Queue, Keep, Filter, And, Or, Not, Always, Itself, Victim, Task, Name, Number, Dot, Range, Comma, Colon, Open, Close, Begin, Finish, Plus, Minus, Star, Gets, Equal, Unequal, Less, AtMost, More, AtLeast}
+use Rattle.policy_grammar.specs.declared.limits.Limits.{Limits}
+use Rattle.policy_grammar.specs.declared.fault.ParseFault.{ParseFault}
+use Rattle.policy_grammar.specs.Terminals.{code, kind_at, is_word}
+use Rattle.policy_grammar.specs.Words.{attr_word, key_word, sign_word, owner_word, event_word, put_word, compare_word}
+use Rattle.policy_grammar.specs.Expressions.{IsInt, int_plain, int_signed, IsRange, range_of, IsOperand, operand_number, operand_reference, IsFactor, factor_plain, factor_signed, IsTimes, times_none, times_more, IsTerm, term_of, IsAdded, added_none, added_more, IsExpr, expr_of, IsKey, key_of, IsKeys, keys_none, keys_more, IsOrder, order_first, order_keys}
+use Rattle.policy_grammar.specs.Conditions.{IsUnit, unit_always, unit_not, unit_group, unit_test, IsAnds, ands_none, ands_more, IsConjunction, conjunction_of, IsOrs, ors_none, ors_more, IsCondition, condition_of}
+use Rattle.policy_grammar.specs.Policies.{IsLoad, load_count, load_weight, IsAttr, attr_of, IsAttrs, attrs_none, attrs_more, IsPlace, place_none, place_here, place_least, IsElect, elect_none, elect_some, IsSets, sets_none, sets_more, IsCase, case_of, IsCases, cases_none, cases_more, IsHandler, handler_of, IsHandlers, handlers_none, handlers_more, IsPolicy, policy_of}
+use Rattle.policy_grammar.specs.Machine.{Symbol, the, load_rule, int, attrs, place, place_rule, elect, handlers, event, case, cases, actions, field, order, key, keys, condition, unit, ands, ors, close, compare, operand, dot, word, operators, State, state, Move, refuses, goes, is_compare, factor_move, unit_move, key_move, case_move, attr_move, symbol_move, moves, start}
+
+module _ (text : List ℕ) (ts : List Lexeme) where
+  -- a token of that kind stands there
+  pub data Token (kind : ℕ) : ℕ → ℕ → Type 0 where
+    token : {at : ℕ} → kind_at ts at ≡ kind → Token kind at (at + 1)
+
+  pub data Word : ℕ → ℕ → Type 0 where
+    any_word : {at : ℕ} → is_word (kind_at ts at) ≡ true → Word at (at + 1)
+
+  -- an assignment's part of a case, and where the thread is put
+  pub data Actions : ℕ → ℕ → Type 0 where
+    acts : {at last : ℕ} {sets : List SetSyntax} (put : Put) → IsSets text ts at sets last → kind_at ts last ≡ put_word put → Actions at (last + 1)
+
+  pub record Cases (at to : ℕ) : Type 0 where
+    pub first : CaseSyntaxTree
+    pub rest : List CaseSyntaxTree
+    pub mid : ℕ
+    pub is : IsCase text ts at first mid
+    pub are : IsCases text ts mid rest to
+
+  pub record Keys (at to : ℕ) : Type 0 where
+    pub first : KeySyntax
+    pub rest : List KeySyntax
+    pub mid : ℕ
+    pub is : IsKey text ts at first mid
+    pub are : IsKeys text ts mid rest to
+
+  pub record Compared (at to : ℕ) : Type 0 where
+    pub by : Cmp
+    pub right : ExprSyntax
+    pub sign : kind_at ts at ≡ compare_word by
+    pub is : IsExpr text ts (at + 1) right to
+
+  pub record Further (at to : ℕ) : Type 0 where
+    pub times : List TimesSyntax
+    pub added : List AddedSyntax
+    pub mid : ℕ
+    pub are : IsTimes text ts at times mid
+    pub sums : IsAdded text ts mid added to
+
+  -- the tokens between two places are the symbol
+  abbrev pub Means : Symbol → ℕ → ℕ → Type 0
+  Means (the terminal) at to = Token (code terminal) at to
+  Means load_rule at to = (from : ℕ) → Token (code Load) from at → (v : LoadSyntax) × IsLoad ts from v to
+  Means int at to = (v : IntSyntax) × IsInt ts at v to
+  Means (attrs cores threads) at to = (us : List AttrSyntax) × IsAttrs text ts at us to
+  Means place at to = (p : Option PlaceSyntax) × IsPlace text ts at p to
+  Means place_rule at to = (from : ℕ) → Token (code Place) from at → (p : Option PlaceSyntax) × IsPlace text ts from p to
+  Means elect at to = (e : Option ElectSyntax) × IsElect text ts at e to
+  Means handlers at to = (hs : List HandlerSyntaxTree) × IsHandlers text ts at hs to
+  Means event at to = (e : Event) × Token (event_word e) at to
+  Means (case before) at to = Cases at to
+  Means (cases before) at to = (cs : List CaseSyntaxTree) × IsCases text ts at cs to
+  Means (actions before) at to = Actions at to
+  Means field at to = Word at to
+  Means order at to = (o : OrderSyntax) × IsOrder text ts at o to
+  Means (key before) at to = Keys at to
+  Means (keys before) at to = (ks : List KeySyntax) × IsKeys text ts at ks to
+  Means condition at to = (v : ConditionTree) × IsCondition text ts at v to
+  Means (unit depth) at to = (v : ConditionTree) × IsUnit text ts at v to
+  Means (ands depth) at to = (us : ConditionTrees) × IsAnds text ts at us to
+  Means (ors depth) at to = (cs : ConditionTrees) × IsOrs text ts at cs to
+  Means close at to = Token (code Close) at to
+  Means (compare depth) at to = Compared at to
+  Means (operand base depth before) at to = (e : ExprSyntax) × IsExpr text ts at e to
+  Means (dot base before) at to = (from : ℕ) (o : Owner) → Token (owner_word o) from at → (e : ExprSyntax) × IsExpr text ts from e to
+  Means (word base before) at to = (from mid : ℕ) (o : Owner) → Token (owner_word o) from mid → Token (code Dot) mid at → (e : ExprSyntax) × IsExpr text ts from e to
+  Means (operators base before) at to = Further at to
+
+  pub data Are : List Symbol → ℕ → ℕ → Type 0 where
+    are_none : {at : ℕ} → Are [] at at
+    are_more : {symbol : Symbol} {below : List Symbol} {at to : ℕ} (mid : ℕ) → Means symbol at mid → Are below mid to → Are (symbol ∷ below) at to
+
+  -- a factor before what follows it is an expression
+  pub operand-further : {at mid to : ℕ} {v : OperandSyntax} → IsOperand text ts at v mid → Further mid to → (e : ExprSyntax) × IsExpr text ts at e to
+  operand-further d f = (_, expr_of (term_of (factor_plain d) f.are) f.sums)
+
+  signed-expr : {at to : ℕ} {e : ExprSyntax} → kind_at ts at ≡ code Minus → IsExpr text ts (at + 1) e to → (w : ExprSyntax) × IsExpr text ts at w to
+  signed-expr k (expr_of (term_of {first = first} d times) added) = (_, expr_of (term_of (factor_signed first k d) times) added)
+
+  star-expr : {at to : ℕ} {e : ExprSyntax} → kind_at ts at ≡ code Star → IsExpr text ts (at + 1) e to → Further at to
+  star-expr k (expr_of {rest = rest} (term_of d times) added) = record { times = _; added = rest; mid = _; are = times_more k d times; sums = added }
+
+  sign-expr : {at to : ℕ} {e : ExprSyntax} (minus : Bool) → kind_at ts at ≡ sign_word minus → IsExpr text ts (at + 1) e to → Further at to
+  sign-expr minus k (expr_of t added) = record { times = []; added = _; mid = _; are = times_none; sums = added_more minus k t added }
+
+  pub reference-further : {from mid at to : ℕ} (o : Owner) → Token (owner_word o) from mid → Token (code Dot) mid at → is_word (kind_at ts at) ≡ true →
+      Further (at + 1) to → (e : ExprSyntax) × IsExpr text ts from e to
+  reference-further {from = from} {to = to} o (token k) (token d) w f =
+      let two : from + 1 + 1 ≡ from + 2 = omega arith in
+      let three : from + 1 + 1 + 1 ≡ from + 3 = omega arith in
+      operand-further (operand_reference o k d (subst (λ n. is_word (kind_at ts n) ≡ true) two w)) (subst (λ n. Further n to) three f)
+
+  -- what completes the tokens behind a move completes them before it
+  abbrev pub Pulls : List Symbol → ℕ → ℕ → Move → Type 0
+  Pulls stack at to refuses = Unit {0}
+  Pulls stack at to (goes o (state count next)) = Are next (at + 1) to → Are stack at to
+
+  if-pulls : (stack : List Symbol) (at to k c : ℕ) (x y : Move) → (k ≡ c → Pulls stack at to x) → Pulls stack at to y →
+      Pulls stack at to (if k == c then x else y)
+  if-pulls stack at to k c x y f h = by (eqb_tells k c)
+    where
+      by : (((k == c) ≡ true) × (k ≡ c)) ⊎ (((k == c) ≡ false) × (k ≢ c)) → Pulls stack at to (if k == c then x else y)
+      by (inl p) = rw p.0 (f p.1)
+      by (inr p) = rw p.0 h
+
+  -- a test by several kinds
+  any-pulls : (stack : List Symbol) (at to : ℕ) (b : Bool) (x y : Move) → (b ≡ true → Pulls stack at to x) → Pulls stack at to y →
+      Pulls stack at to (if b then x else y)
+  any-pulls stack at to true x y f h = f refl
+  any-pulls stack at to false x y f h = h
+
+  -- the token is the whole symbol
+  takes : (stack below : List Symbol) (at to count k c : ℕ) (y : Move) → (k ≡ c → Are below (at + 1) to → Are stack at to) → Pulls stack at to y →
+      Pulls stack at to (if k == c then goes None (state count below) else y)
+  takes stack below at to count k c y f h = if-pulls stack at to k c (goes None (state count below)) y f h
+
+  any-takes : (stack below : List Symbol) (at to count : ℕ) (b : Bool) (y : Move) → (b ≡ true → Are below (at + 1) to → Are stack at to) → Pulls stack at to y →
+      Pulls stack at to (if b then goes None (state count below) else y)
+  any-takes stack below at to count b y f h = any-pulls stack at to b (goes None (state count below)) y f h
+
+  -- a symbol that may be nothing leaves the token to those below
+  lift-pulls : (stack below : List Symbol) (at to : ℕ) (m : Move) → (Are below at to → Are stack at to) → Pulls below at to m → Pulls stack at to m
+  lift-pulls stack below at to refuses f h = tt
+  lift-pulls stack below at to (goes o (state count next)) f h = λ means. f (h means)
+
+or-cases : (a b : Bool) → (a || b) ≡ true → (a ≡ true) ⊎ (b ≡ true)
+or-cases true b e = inl refl
+or-cases false b e = inr e
+
+eqb-same : (k c : ℕ) → (k == c) ≡ true → k ≡ c
+eqb-same k c e = by (eqb_tells k c)
+  where
+    by : (((k == c) ≡ true) × (k ≡ c)) ⊎ (((k == c) ≡ false) × (k ≢ c)) → k ≡ c
+    by (inl p) = p.1
+    by (inr p) = let clash = sym p.0 ∙ e in cc
+
+owner-by : (k : ℕ) → (((k == code Itself) || (k == code Victim)) || ((k == code Core) || (k == code Task))) ≡ true → (o : Owner) × (k ≡ owner_word o)
+owner-by k e = by (or-cases _ _ e)
+  where
+    one : ((k == code Itself) ≡ true) ⊎ ((k == code Victim) ≡ true) → (o : Owner) × (k ≡ owner_word o)
+    one (inl p) = (owner.Itself, eqb-same k _ p)
+    one (inr p) = (owner.Victim, eqb-same k _ p)
+    other : ((k == code Core) ≡ true) ⊎ ((k == code Task) ≡ true) → (o : Owner) × (k ≡ owner_word o)
+    other (inl p) = (owner.Core, eqb-same k _ p)
+    other (inr p) = (owner.Thread, eqb-same k _ p)
+    by : (((k == code Itself) || (k == code Victim)) ≡ true) ⊎ (((k == code Core) || (k == code Task)) ≡ true) → (o : Owner) × (k ≡ owner_word o)
+    by (inl p) = one (or-cases _ _ p)
+    by (inr p) = other (or-cases _ _ p)
+
+event-by : (k : ℕ) → (((k == code Enqueue) || (k == code Tick)) || ((k == code Yield) || (k == code Block))) ≡ true → (e : Event) × (k ≡ event_word e)
+event-by k e = by (or-cases _ _ e)
+  where
+    one : ((k == code Enqueue) ≡ true) ⊎ ((k == code Tick) ≡ true) → (e : Event) × (k ≡ event_word e)
+    one (inl p) = (event_is.Enqueue, eqb-same k _ p)
+    one (inr p) = (event_is.Tick, eqb-same k _ p)
+    other : ((k == code Yield) ≡ true) ⊎ ((k == code Block) ≡ true) → (e : Event) × (k ≡ event_word e)
+    other (inl p) = (event_is.Yield, eqb-same k _ p)
+    other (inr p) = (event_is.Block, eqb-same k _ p)
+    by : (((k == code Enqueue) || (k == code Tick)) ≡ true) ⊎ (((k == code Yield) || (k == code Block)) ≡ true) → (e : Event) × (k ≡ event_word e)
+    by (inl p) = one (or-cases _ _ p)
+    by (inr p) = other (or-cases _ _ p)
+
+put-by : (k : ℕ) → (((k == code Queue) || (k == code Keep)) || (k == code Block)) ≡ true → (p : Put) × (k ≡ put_word p)
+put-by k e = by (or-cases _ _ e)
+  where
+    one : ((k == code Queue) ≡ true) ⊎ ((k == code Keep) ≡ true) → (p : Put) × (k ≡ put_word p)
+    one (inl p) = (put_is.Queue, eqb-same k _ p)
+    one (inr p) = (put_is.Keep, eqb-same k _ p)
+    by : (((k == code Queue) || (k == code Keep)) ≡ true) ⊎ ((k == code Block) ≡ true) → (p : Put) × (k ≡ put_word p)
+    by (inl p) = one (or-cases _ _ p)
+    by (inr p) = (put_is.Block, eqb-same k _ p)
+
+compare-by : (k : ℕ) → is_compare k ≡ true → (c : Cmp) × (k ≡ compare_word c)
+compare-by k e = by (or-cases _ _ e)
+  where
+    low : ((k == code Equal) ≡ true) ⊎ ((k == code Unequal) ≡ true) → (c : Cmp) × (k ≡ compare_word c)
+    low (inl p) = (cmp.Eq, eqb-same k _ p)
+    low (inr p) = (cmp.Ne, eqb-same k _ p)
+    one : (((k == code Equal) || (k == code Unequal)) ≡ true) ⊎ ((k == code Less) ≡ true) → (c : Cmp) × (k ≡ compare_word c)
+    one (inl p) = low (or-cases _ _ p)
+    one (inr p) = (cmp.Lt, eqb-same k _ p)
+    high : ((k == code AtMost) ≡ true) ⊎ ((k == code More) ≡ true) → (c : Cmp) × (k ≡ compare_word c)
+    high (inl p) = (cmp.Le, eqb-same k _ p)
+    high (inr p) = (cmp.Gt, eqb-same k _ p)
+    other : (((k == code AtMost) || (k == code More)) ≡ true) ⊎ ((k == code AtLeast) ≡ true) → (c : Cmp) × (k ≡ compare_word c)
+    other (inl p) = high (or-cases _ _ p)
+    other (inr p) = (cmp.Ge, eqb-same k _ p)
+    by : ((((k == code Equal) || (k == code Unequal)) || (k == code Less)) ≡ true) ⊎ ((((k == code AtMost) || (k == code More)) || (k == code AtLeast)) ≡ true) → (c : Cmp) × (k ≡ compare_word c)
+    by (inl p) = one (or-cases _ _ p)
+    by (inr p) = other (or-cases _ _ p)
+
+operator-by : (k : ℕ) → (((k == code Star) || (k == code Plus)) || (k == code Minus)) ≡ true → (k ≡ code Star) ⊎ ((m : Bool) × (k ≡ sign_word m))
+operator-by k e = by (or-cases _ _ e)
+  where
+    one : ((k == code Star) ≡ true) ⊎ ((k == code Plus) ≡ true) → (k ≡ code Star) ⊎ ((m : Bool) × (k ≡ sign_word m))
+    one (inl p) = inl (eqb-same k _ p)
+    one (inr p) = inr (false, eqb-same k _ p)
+    by : (((k == code Star) || (k == code Plus)) ≡ true) ⊎ ((k == code Minus) ≡ true) → (k ≡ code Star) ⊎ ((m : Bool) × (k ≡ sign_word m))
+    by (inl p) = one (or-cases _ _ p)
+    by (inr p) = inr (true, eqb-same k _ p)
+
+key-by : (k : ℕ) → ((k == code Min) || (k == code Max)) ≡ true → (g : Bool) × (k ≡ key_word g)
+key-by k e = by (or-cases _ _ e)
+  where
+    by : ((k == code Min) ≡ true) ⊎ ((k == code Max) ≡ true) → (g : Bool) × (k ≡ key_word g)
+    by (inl p) = (false, eqb-same k _ p)
+    by (inr p) = (true, eqb-same k _ p)
+
+module _ (limits : Limits) (text : List ℕ) (ts : List Lexeme) where
+  two : (at : ℕ) → at + 1 + 1 ≡ at + 2
+  two at = omega arith
+
+  load-count : {from at to : ℕ} → kind_at ts at ≡ code Count → Token text ts (code Load) from at → to ≡ at + 1 → (v : LoadSyntax) × IsLoad ts from v to
+  load-count {from = from} k (token l) e =
+      let there : from + 2 ≡ from + 1 + 1 = omega arith in
+      subst (λ n. (v : LoadSyntax) × IsLoad ts from v n) (there ∙ sym e) (_, load_count l k)
+
+  load-weight : {from at to : ℕ} {low high : IntSyntax} {mid last : ℕ} → kind_at ts at ≡ code Weight → IsInt ts (at + 1) low mid → Token text ts (code Range) mid last →
+      IsInt ts last high to → Token text ts (code Load) from at → (v : LoadSyntax) × IsLoad ts from v to
+  load-weight {from = from} {low = low} {mid = mid} k d (token r) h (token l) =
+      (_, load_weight l k (range_of (subst (λ n. IsInt ts n low mid) (two from) d) r h))
+
+  place-here : {from at to : ℕ} → kind_at ts at ≡ code Here → Token text ts (code Place) from at → to ≡ at + 1 → (p : Option PlaceSyntax) × IsPlace text ts from p to
+  place-here {from = from} k (token l) e =
+      let there : from + 2 ≡ from + 1 + 1 = omega arith in
+      subst (λ n. (p : Option PlaceSyntax) × IsPlace text ts from p n) (there ∙ sym e) (_, place_here l k)
+
+  place-least : {from at to : ℕ} {e : ExprSyntax} → kind_at ts at ≡ code Min → IsExpr text ts (at + 1) e to → Token text ts (code Place) from at →
+      (p : Option PlaceSyntax) × IsPlace text ts from p to
+  place-least {from = from} {to = to} {e = e} k d (token l) = (_, place_least l k (subst (λ n. IsExpr text ts n e to) (two from) d))
+
+  factor-pulls : (at to count base depth before : ℕ) (below stack : List Symbol) →
+      ((e : ExprSyntax) (mid : ℕ) → IsExpr text ts at e mid → Are text ts below mid to → Are text ts stack at to) →
+      Pulls text ts stack at to (factor_move limits count base depth before at below (kind_at ts at))
+  factor-pulls at to count base depth before below stack whole =
+      if-pulls text ts stack at to _ 35 _ _ (λ k. number k)
+          (if-pulls text ts stack at to _ 45 _ _ (λ k. sign k)
+              (any-pulls text ts stack at to _ _ _ (λ e. refers (owner-by _ e)) tt))
+    where
+      number : kind_at ts at ≡ code Number → Are text ts (operators base before ∷ below) (at + 1) to → Are text ts stack at to
+      number k (are_more mid f rest) = let w = operand-further text ts (operand_number k) f in whole w.0 mid w.1 rest
+      sign : kind_at ts at ≡ code Minus → Are text ts (operand base (depth + 1) (before + 1) ∷ below) (at + 1) to → Are text ts stack at to
+      sign k (are_more mid f rest) = let w = signed-expr text ts k f.1 in whole w.0 mid w.1 rest
+      refers : ((o : Owner) × (kind_at ts at ≡ owner_word o)) → Are text ts (dot base before ∷ below) (at + 1) to → Are text ts stack at to
+      refers o (are_more mid f rest) = let w = f at o.0 (token o.1) in whole w.0 mid w.1 rest
+
+  unit-pulls : (at to count depth : ℕ) (below stack : List Symbol) →
+      ((v : ConditionTree) (mid : ℕ) → IsUnit text ts at v mid → Are text ts below mid to → Are text ts stack at to) →
+      Pulls text ts stack at to (unit_move limits count depth at below (kind_at ts at))
+  unit-pulls at to count depth below stack whole =
+      takes text ts stack below at to _ _ 29 _ (λ k rest. whole _ (at + 1) (unit_always k) rest)
+          (if-pulls text ts stack at to _ 28 _ _ (λ k. negates k)
+              (if-pulls text ts stack at to _ 40 _ _ (λ k. groups k)
+                  (factor-pulls at to count depth depth 0 (compare depth ∷ below) stack (λ e mid d. tests e mid d))))
+    where
+      negates : kind_at ts at ≡ code Not → Are text ts (unit (depth + 1) ∷ below) (at + 1) to → Are text ts stack at to
+      negates k (are_more mid f rest) = whole _ mid (unit_not k f.1) rest
+      groups : kind_at ts at ≡ code Open → Are text ts (unit (depth + 1) ∷ ands (depth + 1) ∷ ors (depth + 1) ∷ close ∷ below) (at + 1) to → Are text ts stack at to
+      groups k (are_more m1 u (are_more m2 us (are_more m3 cs (are_more m4 (token c) rest)))) =
+          whole _ m4 (unit_group k (condition_of _ cs.0 (conjunction_of u.0 us.0 u.1 us.1) cs.1) c) rest
+      tests : (e : ExprSyntax) (mid : ℕ) → IsExpr text ts at e mid → Are text ts (compare depth ∷ below) mid to → Are text ts stack at to
+      tests e mid d (are_more m1 r rest) = whole _ m1 (unit_test r.by d r.sign r.is) rest
+
+  key-pulls : (at to before : ℕ) (below stack : List Symbol) →
+      ((mid : ℕ) → Keys text ts at mid → Are text ts below mid to → Are text ts stack at to) →
+      Pulls text ts stack at to (key_move limits before at below (kind_at ts at))
+  key-pulls at to before below stack whole =
+      any-pulls text ts stack at to _ _ _ (λ e. keyed (key-by _ e)) tt
+    where
+      keyed : ((g : Bool) × (kind_at ts at ≡ key_word g)) → Are text ts (operand 0 0 0 ∷ keys (before + 1) ∷ below) (at + 1) to → Are text ts stack at to
+      keyed g (are_more m1 e (are_more m2 ks rest)) =
+          whole m2 (record { first = _; rest = ks.0; mid = m1; is = key_of g.0 g.1 e.1; are = ks.1 }) rest
+
+  case-pulls : (at to before : ℕ) (below stack : List Symbol) (outer : Move) → Pulls text ts stack at to outer →
+      ((mid : ℕ) → Cases text ts at mid → Are text ts below mid to → Are text ts stack at to) →
+      Pulls text ts stack at to (case_move limits before at below (kind_at ts at) outer)
+  case-pulls at to before below stack outer out whole =
+      if-pulls text ts stack at to _ 22 _ _ (λ k. cased k) out
+    where
+      cased : kind_at ts at ≡ code When → Are text ts (condition ∷ the Colon ∷ actions 0 ∷ cases (before + 1) ∷ below) (at + 1) to → Are text ts stack at to
+      cased k (are_more m1 g (are_more m2 (token c) (are_more m3 (acts p s q) (are_more m4 cs rest)))) =
+          whole m4 (record { first = _; rest = cs.0; mid = _; is = case_of p k g.1 c s q; are = cs.1 }) rest
+
+  attr-pulls : (at to cores threads : ℕ) (below stack : List Symbol) (outer : Move) → Pulls text ts stack at to outer →
+      ((us : List AttrSyntax) (mid : ℕ) → IsAttrs text ts at us mid → Are text ts below mid to → Are text ts stack at to) →
+      Pulls text ts stack at to (attr_move limits cores threads at below (kind_at ts at) outer)
+  attr-pulls at to cores threads below stack outer out whole =
+      if-pulls text ts stack at to _ 5 _ _ (λ k. declared true k (cores + 1) threads)
+          (if-pulls text ts stack at to _ 6 _ _ (λ k. declared false k cores (threads + 1)) out)
+    where
+      declared : (of_cores : Bool) → kind_at ts at ≡ attr_word of_cores → (c t : ℕ) →
+          Are text ts (the Name ∷ the In ∷ int ∷ the Range ∷ int ∷ the Start ∷ int ∷ attrs c t ∷ below) (at + 1) to → Are text ts stack at to
+      declared of_cores k c t (are_more m1 (token n) (are_more m2 (token i) (are_more m3 low (are_more m4 (token r) (are_more m5 high (are_more m6 (token s) (are_more m7 begin (are_more m8 more rest)))))))) =
+          let there : at + 1 + 1 ≡ at + 2 = omega arith in
+          let further : at + 1 + 1 + 1 ≡ at + 3 = omega arith in
+          whole _ m8
+              (attrs_more
+                  (attr_of of_cores k n (subst (λ n. kind_at ts n ≡ code In) there i)
+                      (range_of (subst (λ n. IsInt ts n low.0 m3) further low.1) r high.1) s begin.1)
+                  more.1) rest
+
+  symbol-pulls : (at to count : ℕ) (s : Symbol) (below : List Symbol) (outer : Move) → Pulls text ts below at to outer →
+      Pulls text ts (s ∷ below) at to (symbol_move limits count at s below (kind_at ts at) outer)
+  symbol-pulls at to count (the terminal) below outer out =
+      takes text ts (the terminal ∷ below) below at to 0 (kind_at ts at) (code terminal) refuses
+          (λ k rest. are_more {symbol = the terminal} (at + 1) (token k) rest) tt
+  symbol-pulls at to count load_rule below outer out =
+      takes text ts _ below at to _ _ 3 _ (λ k rest. are_more (at + 1) (λ from l. load-count k l refl) rest)
+          (if-pulls text ts _ at to _ 4 _ _ (λ k. weighs k) tt)
+    where
+      weighs : kind_at ts at ≡ code Weight → Are text ts (int ∷ the Range ∷ int ∷ below) (at + 1) to → Are text ts (load_rule ∷ below) at to
+      weighs k (are_more m1 low (are_more m2 r (are_more m3 high rest))) =
+          are_more m3 (λ from l. load-weight k low.1 r high.1 l) rest
+  symbol-pulls at to count int below outer out =
+      takes text ts _ below at to _ _ 35 _ (λ k rest. are_more (at + 1) (_, int_plain k) rest)
+          (if-pulls text ts _ at to _ 45 _ _ (λ k. signs k) tt)
+    where
+      signs : kind_at ts at ≡ code Minus → Are text ts (the Number ∷ below) (at + 1) to → Are text ts (int ∷ below) at to
+      signs k (are_more m1 (token n) rest) =
+          let there : at + 2 ≡ at + 1 + 1 = omega arith in
+          are_more (at + 1 + 1) (subst (λ n. (v : IntSyntax) × IsInt ts at v n) there (_, int_signed k n)) rest
+  symbol-pulls at to count (attrs cores threads) below outer out =
+      attr-pulls at to cores threads below _ outer (lift-pulls text ts _ below at to outer (λ rest. are_more at ([], attrs_none) rest) out)
+          (λ us mid d rest. are_more mid (us, d) rest)
+  symbol-pulls at to count place below outer out =
+      if-pulls text ts _ at to _ 9 _ _ (λ k. places k) (lift-pulls text ts _ below at to outer (λ rest. are_more at (None, place_none) rest) out)
+    where
+      places : kind_at ts at ≡ code Place → Are text ts (place_rule ∷ below) (at + 1) to → Are text ts (place ∷ below) at to
+      places k (are_more m1 f rest) = are_more m1 (f at (token k)) rest
+  symbol-pulls at to count place_rule below outer out =
+      takes text ts _ below at to _ _ 10 _ (λ k rest. are_more (at + 1) (λ from l. place-here k l refl) rest)
+          (if-pulls text ts _ at to _ 11 _ _ (λ k. least k) tt)
+    where
+      least : kind_at ts at ≡ code Min → Are text ts (operand 0 0 0 ∷ below) (at + 1) to → Are text ts (place_rule ∷ below) at to
+      least k (are_more m1 e rest) = are_more m1 (λ from l. place-least k e.1 l) rest
+  symbol-pulls at to count elect below outer out =
+      if-pulls text ts _ at to _ 13 _ _ (λ k. elects k) (lift-pulls text ts _ below at to outer (λ rest. are_more at (None, elect_none) rest) out)
+    where
+      elects : kind_at ts at ≡ code Elect → Are text ts (order ∷ below) (at + 1) to → Are text ts (elect ∷ below) at to
+      elects k (are_more m1 o rest) = are_more m1 (_, elect_some k o.1) rest
+  symbol-pulls at to count handlers below outer out =
+      if-pulls text ts _ at to _ 17 _ _ (λ k. handles k) (lift-pulls text ts _ below at to outer (λ rest. are_more at ([], handlers_none) rest) out)
+    where
+      handles : kind_at ts at ≡ code On → Are text ts (event ∷ the Begin ∷ case 0 ∷ the Finish ∷ handlers ∷ below) (at + 1) to → Are text ts (handlers ∷ below) at to
+      handles k (are_more m1 (e, token v) (are_more m2 (token b) (are_more m3 c (are_more m4 (token f) (are_more m5 hs rest))))) =
+          let there : at + 1 + 1 ≡ at + 2 = omega arith in
+          let further : at + 1 + 1 + 1 ≡ at + 3 = omega arith in
+          are_more m5 (_, handlers_more
+              (handler_of e k v (subst (λ n. kind_at ts n ≡ code Begin) there b)
+                  (subst (λ n. IsCase text ts n c.first c.mid) further c.is) c.are f) hs.1) rest
+  symbol-pulls at to count event below outer out =
+      any-takes text ts _ below at to _ _ _ (λ e. happens (event-by _ e)) tt
+    where
+      happens : ((e : Event) × (kind_at ts at ≡ event_word e)) → Are text ts below (at + 1) to → Are text ts (event ∷ below) at to
+      happens v rest = are_more (at + 1) (v.0, token v.1) rest
+  symbol-pulls at to count (case before) below outer out = case-pulls at to before below _ refuses tt (λ mid c rest. are_more mid c rest)
+  symbol-pulls at to count (cases before) below outer out =
+      case-pulls at to before below _ outer (lift-pulls text ts _ below at to outer (λ rest. are_more at ([], cases_none) rest) out)
+          (λ mid c rest. are_more mid (_, cases_more c.is c.are) rest)
+  symbol-pulls at to count (actions before) below outer out =
+      if-pulls text ts _ at to _ 32 _ _ (λ k. sets k)
+          (any-takes text ts _ below at to _ _ _ (λ e. puts (put-by _ e)) tt)
+    where
+      puts : ((p : Put) × (kind_at ts at ≡ put_word p)) → Are text ts below (at + 1) to → Are text ts (actions before ∷ below) at to
+      puts p rest = are_more (at + 1) (acts p.0 sets_none p.1) rest
+      sets : kind_at ts at ≡ code Task → Are text ts (the Dot ∷ field ∷ the Gets ∷ operand 0 0 0 ∷ the Comma ∷ actions (before + 1) ∷ below) (at + 1) to →
+          Are text ts (actions before ∷ below) at to
+      sets k (are_more m1 (token d) (are_more m2 (any_word w) (are_more m3 (token g) (are_more m4 e (are_more m5 (token c) (are_more m6 (acts p s q) rest)))))) =
+          let two_on : at + 1 + 1 ≡ at + 2 = omega arith in
+          let three_on : at + 1 + 1 + 1 ≡ at + 3 = omega arith in
+          let four_on : at + 1 + 1 + 1 + 1 ≡ at + 4 = omega arith in
+          are_more m6
+              (acts p
+                  (sets_more k d (subst (λ n. is_word (kind_at ts n) ≡ true) two_on w) (subst (λ n. kind_at ts n ≡ code Gets) three_on g)
+                      (subst (λ n. IsExpr text ts n e.0 m4) four_on e.1) c s) q) rest
+  symbol-pulls at to count field below outer out =
+      any-takes text ts (field ∷ below) below at to 0 (is_word (kind_at ts at)) refuses
+          (λ e rest. are_more {symbol = field} (at + 1) (any_word e) rest) tt
+  symbol-pulls at to count order below outer out =
+      takes text ts _ below at to _ _ 16 _ (λ k rest. are_more (at + 1) (_, order_first k) rest)
+          (key-pulls at to 0 below _ (λ mid k rest. are_more mid (_, order_keys k.is k.are) rest))
+  symbol-pulls at to count (key before) below outer out = key-pulls at to before below _ (λ mid k rest. are_more mid k rest)
+  symbol-pulls at to count (keys before) below outer out =
+      if-pulls text ts _ at to _ 38 _ _ (λ k. follows k) (lift-pulls text ts _ below at to outer (λ rest. are_more at ([], keys_none) rest) out)
+    where
+      follows : kind_at ts at ≡ code Comma → Are text ts (key before ∷ below) (at + 1) to → Are text ts (keys before ∷ below) at to
+      follows k (are_more m1 ks rest) = are_more m1 (_, keys_more k ks.is ks.are) rest
+  symbol-pulls at to count condition below outer out = unit-pulls at to 0 0 (ands 0 ∷ ors 0 ∷ below) _ (λ v mid d. joins v mid d)
+    where
+      joins : (v : ConditionTree) (mid : ℕ) → IsUnit text ts at v mid → Are text ts (ands 0 ∷ ors 0 ∷ below) mid to → Are text ts (condition ∷ below) at to
+      joins v mid d (are_more m1 us (are_more m2 cs rest)) = are_more m2 (_, condition_of _ cs.0 (conjunction_of v us.0 d us.1) cs.1) rest
+  symbol-pulls at to count (unit depth) below outer out = unit-pulls at to count depth below _ (λ v mid d rest. are_more mid (v, d) rest)
+  symbol-pulls at to count (ands depth) below outer out =
+      if-pulls text ts _ at to _ 26 _ _ (λ k. follows k) (lift-pulls text ts _ below at to outer (λ rest. are_more at (_, ands_none) rest) out)
+    where
+      follows : kind_at ts at ≡ code And → Are text ts (unit depth ∷ ands depth ∷ below) (at + 1) to → Are text ts (ands depth ∷ below) at to
+      follows k (are_more m1 u (are_more m2 us rest)) = are_more m2 (_, ands_more k u.1 us.1) rest
+  symbol-pulls at to count (ors depth) below outer out =
+      if-pulls text ts _ at to _ 27 _ _ (λ k. follows k) (lift-pulls text ts _ below at to outer (λ rest. are_more at (_, ors_none) rest) out)
+    where
+      follows : kind_at ts at ≡ code Or → Are text ts (unit depth ∷ ands depth ∷ ors depth ∷ below) (at + 1) to → Are text ts (ors depth ∷ below) at to
+      follows k (are_more m1 u (are_more m2 us (are_more m3 cs rest))) = are_more m3 (_, ors_more k (conjunction_of u.0 us.0 u.1 us.1) cs.1) rest
+  symbol-pulls at to count close below outer out =
+      takes text ts (close ∷ below) below at to count (kind_at ts at) 41 refuses
+          (λ k rest. are_more {symbol = close} (at + 1) (token k) rest) tt
+  symbol-pulls at to count (compare depth) below outer out =
+      any-pulls text ts _ at to _ _ _ (λ e. compares (compare-by _ e)) tt
+    where
+      compares : ((c : Cmp) × (kind_at ts at ≡ compare_word c)) → Are text ts (operand depth depth 0 ∷ below) (at + 1) to → Are text ts (compare depth ∷ below) at to
+      compares c (are_more m1 e rest) = are_more m1 (record { by = c.0; right = e.0; sign = c.1; is = e.1 }) rest
+  symbol-pulls at to count (operand base depth before) below outer out =
+      factor-pulls at to count base depth before below _ (λ e mid d rest. are_more mid (e, d) rest)
+  symbol-pulls at to count (dot base before) below outer out =
+      if-pulls text ts _ at to _ 36 _ _ (λ k. dots k) tt
+    where
+      dots : kind_at ts at ≡ code Dot → Are text ts (word base before ∷ below) (at + 1) to → Are text ts (dot base before ∷ below) at to
+      dots k (are_more m1 f rest) = are_more m1 (λ from o l. f from at o l (token k)) rest
+  symbol-pulls at to count (word base before) below outer out =
+      any-pulls text ts _ at to _ _ _ (λ e. names e) tt
+    where
+      names : is_word (kind_at ts at) ≡ true → Are text ts (operators base before ∷ below) (at + 1) to → Are text ts (word base before ∷ below) at to
+      names w (are_more m1 f rest) = are_more m1 (λ from mid o l d. reference-further text ts o l d w f) rest
+  symbol-pulls at to count (operators base before) below outer out =
+      any-pulls text ts _ at to _ _ _ (λ e. operates (operator-by _ e))
+          (lift-pulls text ts _ below at to outer
+              (λ rest. are_more at (record { times = []; added = []; mid = at; are = times_none; sums = added_none }) rest) out)
+    where
+      operates : ((kind_at ts at ≡ code Star) ⊎ ((m : Bool) × (kind_at ts at ≡ sign_word m))) → Are text ts (operand base base (before + 1) ∷ below) (at + 1) to →
+          Are text ts (operators base before ∷ below) at to
+      operates (inl k) (are_more m1 e rest) = are_more m1 (star-expr text ts k e.1) rest
+      operates (inr k) (are_more m1 e rest) = are_more m1 (sign-expr text ts k.0 k.1 e.1) rest
+
+  -- what completes the tokens behind a token completes them before it
+  pub pulls : (at to count : ℕ) (stack : List Symbol) → Pulls text ts stack at to (moves limits count at stack (kind_at ts at))
+  pulls at to count [] = tt
+  pulls at to count (s ∷ below) = symbol-pulls at to count s below _ (pulls at to count below)

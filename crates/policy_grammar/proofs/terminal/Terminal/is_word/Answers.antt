@@ -1,0 +1,20 @@
+use Rattle.std.proofs.Common.{◌≡◌, ◌<◌, ◌≤◌, ◌&&◌, ℕ, nat_le, ap, sym, arith, subst, ◌∙◌}
+use Rattle.std.proofs.lemmas.Bool.Decides.{nat_tests}
+use denote.Enum.Declared.{tag_of}
+use Rattle.policy_grammar.specs.contracts.terminal.Terminal.{the_type}
+use Rattle.policy_grammar.specs.Terminals.{is_word, code}
+use Rattle.policy_grammar.proofs.Tags.{tag-is}
+use Rattle.policy_grammar.proofs.terminal.Terminal.is_word.Goals as goal
+
+low : (k : ℕ) → 1 ≤ k → nat_le k 34 ≡ is_word k
+low k h = grind (arith, nat_tests)
+
+high : (k : ℕ) → k < 1 → nat_le 1 k ≡ is_word k
+high k h = grind (arith, nat_tests)
+
+pub returns-then-self : goal.returns-then-self
+returns-then-self c =
+    low (tag_of the_type c.args.self) c.if-self.true ∙ ap is_word (tag-is c.args.self)
+
+pub returns-else-self : goal.returns-else-self
+returns-else-self c = high (tag_of the_type c.args.self) c.if-self.false ∙ ap is_word (tag-is c.args.self)

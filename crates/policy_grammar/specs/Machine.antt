@@ -1,0 +1,224 @@
+-- Reading a token at a time: what is still to come, on a stack. It says no more than the grammar and the limits do;
+-- the parser's functions are stated by it.
+use Rattle.std.specs.Prelude.{ℕ, ◌+◌, ◌==◌, Bool, true, false, ◌||◌, if◌then◌else◌, List, [], ◌∷◌, drop, Option, Some, None}
+use Rattle.policy_grammar.specs.declared.terminal.Terminal.{Terminal}
+use Rattle.policy_grammar.specs.declared.terminal.Terminal.TheVariants.{Policy, Load, Count, Weight, Core, Thread, In, Start, Place, Here, Min, Max, Elect, Choose, Steal, First, On, Enqueue, Tick, Yield, Block, When, Queue, Keep, Filter, And, Or, Not, Always, Itself, Victim, Task, Name, Number, Dot, Range, Comma, Colon, Open, Close, Begin, Finish, Plus, Minus, Star, Gets, Equal, Unequal, Less, AtMost, More, AtLeast}
+use Rattle.policy_grammar.specs.declared.terminal.Lexeme.{Lexeme}
+use Rattle.policy_grammar.specs.declared.limits.Limits.{Limits}
+use Rattle.policy_grammar.specs.declared.fault.ParseFault.{ParseFault}
+use Rattle.policy_grammar.specs.declared.fault.ParseFault.TheVariants.{Unexpected, Deep, Many, Memory}
+use Rattle.policy_grammar.specs.Terminals.{code, is_word}
+use Rattle.policy_grammar.specs.Breaks.{deep, many, first_of}
+
+-- what may come
+pub data Symbol : Type 0 where
+  the : Terminal → Symbol               -- this token
+  load_rule : Symbol                    -- what follows `load`
+  int : Symbol
+  attrs : ℕ → ℕ → Symbol                -- further attributes, behind so many of cores and of threads
+  place : Symbol                        -- `place` with its rule, or nothing
+  place_rule : Symbol
+  elect : Symbol                        -- `elect` with its order, or nothing
+  handlers : Symbol                     -- further handlers
+  event : Symbol
+  case : ℕ → Symbol                     -- a case, behind so many
+  cases : ℕ → Symbol                    -- further cases, behind so many
+  actions : ℕ → Symbol                  -- assignments, behind so many, and where the thread is put
+  field : Symbol                        -- the word that an assignment names
+  order : Symbol
+  key : ℕ → Symbol                      -- a key, behind so many
+  keys : ℕ → Symbol                     -- further keys, behind so many
+  condition : Symbol
+  unit : ℕ → Symbol                     -- a unit, where so many are open
+  ands : ℕ → Symbol                     -- further units
+  ors : ℕ → Symbol                      -- further conjunctions
+  close : Symbol
+  compare : ℕ → Symbol                  -- the symbol of a comparison, and its right side
+  operand : ℕ → ℕ → ℕ → Symbol          -- an expression's next factor, where so many are open around the expression, and so many here, behind so many operators
+  dot : ℕ → ℕ → Symbol                  -- the dot of a reference
+  word : ℕ → ℕ → Symbol                 -- its word
+  operators : ℕ → ℕ → Symbol            -- the rest of an expression, behind so many operators
+
+-- the comparisons that the open condition has had, and what is still to come
+pub data State : Type 0 where
+  state : ℕ → List Symbol → State
+
+-- no text goes on so; or reading goes on, past a limit or not
+pub data Move : Type 0 where
+  refuses : Move
+  goes : Option ParseFault → State → Move
+
+-- the owner of a reference
+abbrev pub is_owner : ℕ → Bool
+is_owner kind = (kind == code Itself || kind == code Victim) || (kind == code Core || kind == code Task)
+
+abbrev pub is_event : ℕ → Bool
+is_event kind = (kind == code Enqueue || kind == code Tick) || (kind == code Yield || kind == code Block)
+
+abbrev pub is_put : ℕ → Bool
+is_put kind = kind == code Queue || kind == code Keep || kind == code Block
+
+abbrev pub is_key : ℕ → Bool
+is_key kind = kind == code Min || kind == code Max
+
+-- a symbol of comparisons
+abbrev pub is_compare : ℕ → Bool
+is_compare kind =
+    (kind == code Equal || kind == code Unequal || kind == code Less) ||
+    (kind == code AtMost || kind == code More || kind == code AtLeast)
+
+module _ (limits : Limits) where
+  abbrev pub factor_move : ℕ → ℕ → ℕ → ℕ → ℕ → List Symbol → ℕ → Move
+  factor_move count base depth operators_before at below kind =
+      if kind == code Number then goes None (state count (operators base operators_before ∷ below)) else
+      if kind == code Minus then
+          goes (first_of (many limits.operators at operators_before) (deep limits at depth))
+              (state count (operand base (depth + 1) (operators_before + 1) ∷ below)) else
+      if is_owner kind then
+          goes None (state count (dot base operators_before ∷ below)) else refuses
+
+  abbrev pub unit_move : ℕ → ℕ → ℕ → List Symbol → ℕ → Move
+  unit_move count depth at below kind =
+      if kind == code Always then goes None (state count below) else
+      if kind == code Not then goes (deep limits at depth) (state count (unit (depth + 1) ∷ below)) else
+      if kind == code Open then
+          goes (deep limits at depth) (state count (unit (depth + 1) ∷ ands (depth + 1) ∷ ors (depth + 1) ∷ close ∷ below)) else
+      factor_move count depth depth 0 at (compare depth ∷ below) kind
+
+  abbrev pub key_move : ℕ → ℕ → List Symbol → ℕ → Move
+  key_move before at below kind =
+      if is_key kind then
+          goes (many limits.keys at before) (state 0 (operand 0 0 0 ∷ keys (before + 1) ∷ below)) else refuses
+
+  abbrev pub case_move : ℕ → ℕ → List Symbol → ℕ → Move → Move
+  case_move before at below kind outer =
+      if kind == code When then
+          goes (many limits.cases at before) (state 0 (condition ∷ the Colon ∷ actions 0 ∷ cases (before + 1) ∷ below)) else outer
+
+  abbrev pub attr_move : ℕ → ℕ → ℕ → List Symbol → ℕ → Move → Move
+  attr_move cores threads at below kind outer =
+      if kind == code Core then
+          goes (many limits.attrs at cores)
+              (state 0 (the Name ∷ the In ∷ int ∷ the Range ∷ int ∷ the Start ∷ int ∷ attrs (cores + 1) threads ∷ below)) else
+      if kind == code Thread then
+          goes (many limits.attrs at threads)
+              (state 0 (the Name ∷ the In ∷ int ∷ the Range ∷ int ∷ the Start ∷ int ∷ attrs cores (threads + 1) ∷ below)) else outer
+
+  abbrev pub symbol_move : ℕ → ℕ → Symbol → List Symbol → ℕ → Move → Move
+  symbol_move count at (the terminal) below kind outer = if kind == code terminal then goes None (state 0 below) else refuses
+  symbol_move count at load_rule below kind outer =
+      if kind == code Count then goes None (state 0 below) else
+      if kind == code Weight then goes None (state 0 (int ∷ the Range ∷ int ∷ below)) else refuses
+  symbol_move count at int below kind outer =
+      if kind == code Number then goes None (state 0 below) else
+      if kind == code Minus then goes None (state 0 (the Number ∷ below)) else refuses
+  symbol_move count at (attrs cores threads) below kind outer = attr_move cores threads at below kind outer
+  symbol_move count at place below kind outer = if kind == code Place then goes None (state 0 (place_rule ∷ below)) else outer
+  symbol_move count at place_rule below kind outer =
+      if kind == code Here then goes None (state 0 below) else
+      if kind == code Min then goes None (state 0 (operand 0 0 0 ∷ below)) else refuses
+  symbol_move count at elect below kind outer = if kind == code Elect then goes None (state 0 (order ∷ below)) else outer
+  symbol_move count at handlers below kind outer =
+      if kind == code On then
+          goes None (state 0 (event ∷ the Begin ∷ case 0 ∷ the Finish ∷ handlers ∷ below)) else outer
+  symbol_move count at event below kind outer =
+      if is_event kind then
+          goes None (state 0 below) else refuses
+  symbol_move count at (case before) below kind outer = case_move before at below kind refuses
+  symbol_move count at (cases before) below kind outer = case_move before at below kind outer
+  symbol_move count at (actions before) below kind outer =
+      if kind == code Task then
+          goes (many limits.sets at before)
+              (state 0 (the Dot ∷ field ∷ the Gets ∷ operand 0 0 0 ∷ the Comma ∷ actions (before + 1) ∷ below)) else
+      if is_put kind then goes None (state 0 below) else refuses
+  symbol_move count at field below kind outer = if is_word kind then goes None (state 0 below) else refuses
+  symbol_move count at order below kind outer =
+      if kind == code First then goes None (state 0 below) else key_move 0 at below kind
+  symbol_move count at (key before) below kind outer = key_move before at below kind
+  symbol_move count at (keys before) below kind outer =
+      if kind == code Comma then goes None (state 0 (key before ∷ below)) else outer
+  symbol_move count at condition below kind outer = unit_move 0 0 at (ands 0 ∷ ors 0 ∷ below) kind
+  symbol_move count at (unit depth) below kind outer = unit_move count depth at below kind
+  symbol_move count at (ands depth) below kind outer =
+      if kind == code And then goes None (state count (unit depth ∷ ands depth ∷ below)) else outer
+  symbol_move count at (ors depth) below kind outer =
+      if kind == code Or then goes None (state count (unit depth ∷ ands depth ∷ ors depth ∷ below)) else outer
+  symbol_move count at close below kind outer = if kind == code Close then goes None (state count below) else refuses
+  symbol_move count at (compare depth) below kind outer =
+      if is_compare kind then
+          goes (many limits.comparisons at count) (state (count + 1) (operand depth depth 0 ∷ below)) else refuses
+  symbol_move count at (operand base depth before) below kind outer = factor_move count base depth before at below kind
+  symbol_move count at (dot base before) below kind outer =
+      if kind == code Dot then goes None (state count (word base before ∷ below)) else refuses
+  symbol_move count at (word base before) below kind outer =
+      if is_word kind then goes None (state count (operators base before ∷ below)) else refuses
+  symbol_move count at (operators base before) below kind outer =
+      if kind == code Star || kind == code Plus || kind == code Minus then
+          goes (many limits.operators at before) (state count (operand base base (before + 1) ∷ below)) else outer
+
+  -- what a token does, where a symbol that may be nothing leaves it to those below
+  abbrev pub moves : ℕ → ℕ → List Symbol → ℕ → Move
+  moves count at [] kind = refuses
+  moves count at (symbol ∷ below) kind = symbol_move count at symbol below kind (moves count at below kind)
+
+-- the symbol may be nothing
+abbrev pub is_nothing : Symbol → Bool
+is_nothing (the terminal) = false
+is_nothing load_rule = false
+is_nothing int = false
+is_nothing (attrs cores threads) = true
+is_nothing place = true
+is_nothing place_rule = false
+is_nothing elect = true
+is_nothing handlers = true
+is_nothing event = false
+is_nothing (case before) = false
+is_nothing (cases before) = true
+is_nothing (actions before) = false
+is_nothing field = false
+is_nothing order = false
+is_nothing (key before) = false
+is_nothing (keys before) = true
+is_nothing condition = false
+is_nothing (unit depth) = false
+is_nothing (ands depth) = true
+is_nothing (ors depth) = true
+is_nothing close = false
+is_nothing (compare depth) = false
+is_nothing (operand base depth before) = false
+is_nothing (dot base before) = false
+is_nothing (word base before) = false
+is_nothing (operators base before) = true
+
+abbrev pub all_nothing : List Symbol → Bool
+all_nothing [] = true
+all_nothing (symbol ∷ below) = if is_nothing symbol then all_nothing below else false
+
+abbrev pub kind_of : Lexeme → ℕ
+kind_of lexeme = code lexeme.terminal
+
+abbrev pub after : ℕ → Move → (State → Option ParseFault) → Option ParseFault
+after at refuses rest = Some (Unexpected at)
+after at (goes None q) rest = rest q
+after at (goes (Some fault) q) rest = Some fault
+
+module _ (limits : Limits) where
+  abbrev pub finish : ℕ → State → Option ParseFault
+  finish at (state count stack) = if all_nothing stack then None else Some (Unexpected at)
+
+  abbrev pub move : ℕ → State → Lexeme → Move
+  move at (state count stack) t = moves limits count at stack (kind_of t)
+
+  -- the fault of the tokens, the first of which has that number
+  abbrev pub run : ℕ → State → List Lexeme → Option ParseFault
+  run at q [] = finish at q
+  run at q (t ∷ ts) = after at (move at q t) (λ r. run (at + 1) r ts)
+
+  -- the fault from the token with that number on
+  unfoldable pub go : List Lexeme → ℕ → ℕ → List Symbol → Option ParseFault
+  go ts at count stack = run at (state count stack) (drop at ts)
+
+-- a policy
+abbrev pub start : List Symbol
+start = the Policy ∷ the Name ∷ the Load ∷ load_rule ∷ attrs 0 0 ∷ place ∷ elect ∷ handlers ∷ the Filter ∷ condition ∷
+    the Choose ∷ order ∷ the Steal ∷ order ∷ []

@@ -1,0 +1,10 @@
+//! The grammar of policies: what its tokens are, which tokens are which syntax, and which limits a syntax keeps.
+#![tactic(auto)]
+
+mod fault;
+mod limits;
+mod terminal;
+
+pub use fault::ParseFault;
+pub use limits::{Limits, POLICY_LIMITS};
+pub use terminal::{Lexeme, Terminal};

@@ -1,0 +1,11 @@
+//! Cuts the text of a policy into its tokens.
+#![tactic(auto)]
+
+mod fault;
+mod piece;
+mod reading;
+mod token;
+
+pub use fault::LexFault;
+pub use reading::lex;
+pub use token::{NAME_LIMIT, Symbol, TEXT_LIMIT, Token, TokenKind, Tokens};

@@ -1,0 +1,5 @@
+pub mod Moves
+pub mod Parts
+pub mod Chains
+pub mod Lexed
+pub mod Exactly

@@ -1,0 +1,38 @@
+use Rattle.std.proofs.Common.{◌≡◌, ◌∙◌, ◌<◌, length, sym, ap, subst, arith, All}
+use Rattle.policy_grammar.specs.declared.limits.TheConstants.{POLICY_LIMITS}
+use Rattle.policy_parser.specs.Answers.{LiesIn}
+use Rattle.policy_parser.specs.Lexemes.{lexeme_of, lexemes_of}
+use Rattle.policy_parser.proofs.Lexed.{tokens-lie, tokens-few, map-length}
+use Rattle.policy_parser.proofs.Exactly.{within-exact, faults-exact, reads-exact}
+use Rattle.policy_parser.proofs.reading.parse.Goals as goal
+
+pub lexemes-requires-clause-lie : goal.lexemes-requires-clause-lie
+lexemes-requires-clause-lie c = tokens-lie c.args.text.now c.requires.spells (omega arith)
+
+pub lexemes-requires-clause-few : goal.lexemes-requires-clause-few
+lexemes-requires-clause-few c = let few = tokens-few c.args.text.now c.requires.spells in omega (arith, few, c.requires.small)
+
+pub invariant_of-source : goal.invariant_of-source
+invariant_of-source c =
+    let same = c.as_slice.ensures.value ∙ c.in_ok-lexemes.ensures.are in
+    let few = tokens-few c.args.text.now c.requires.spells in
+    let size = ap length same ∙ map-length (lexeme_of c.args.text.now) c.args.tokens.now in
+    record {
+      few = omega (arith, few, size, c.requires.small);
+      words = subst (All (LiesIn c.args.text.now)) (sym same) (tokens-lie c.args.text.now c.requires.spells (omega arith));
+    }
+
+pub returns-clause-syntax : goal.returns-clause-syntax
+returns-clause-syntax c =
+    within-exact POLICY_LIMITS c.args.text.now _ (lexemes_of c.args.text.now c.args.tokens.now) (c.as_slice.ensures.value ∙ c.in_ok-lexemes.ensures.are) c.policy.result
+        c.policy.ensures.is c.policy.ensures.reads
+
+pub returns-clause-fault : goal.returns-clause-fault
+returns-clause-fault c =
+    faults-exact POLICY_LIMITS c.args.text.now _ (lexemes_of c.args.text.now c.args.tokens.now) (c.as_slice.ensures.value ∙ c.in_ok-lexemes.ensures.are) c.policy.result
+        c.policy.ensures.reads
+
+pub returns-clause-reads : goal.returns-clause-reads
+returns-clause-reads c =
+    reads-exact POLICY_LIMITS c.args.text.now _ (lexemes_of c.args.text.now c.args.tokens.now) (c.as_slice.ensures.value ∙ c.in_ok-lexemes.ensures.are) c.policy.result
+        c.policy.ensures.reads

@@ -1,0 +1,76 @@
+-- The tokens of a text, told apart as the grammar does.
+use Rattle.std.specs.Prelude.{ℕ, List, [], ◌∷◌, map, codes, slice_range, if◌then◌else◌}
+use Rattle.std.specs.Str.{bytes_eq}
+use Rattle.policy_lexer.specs.declared.token.Token.{Token}
+use Rattle.policy_lexer.specs.declared.token.TokenKind.{TokenKind}
+use Rattle.policy_lexer.specs.declared.token.TokenKind.TheVariants as kind
+use Rattle.policy_lexer.specs.declared.token.Symbol.{Symbol}
+use Rattle.policy_lexer.specs.declared.token.Symbol.TheVariants as symbol
+use Rattle.policy_grammar.specs.declared.terminal.Lexeme.{Lexeme}
+use Rattle.policy_grammar.specs.declared.terminal.Terminal.{Terminal}
+use Rattle.policy_grammar.specs.declared.terminal.Terminal.TheVariants.{Policy, Load, Count, Weight, Core, Thread, In, Start, Place, Here, Min, Max, Elect, Choose, Steal, First, On, Enqueue, Tick, Yield, Block, When, Queue, Keep, Filter, And, Or, Not, Always, Itself, Victim, Task, Reserved, Name, Number, Dot, Range, Comma, Colon, Open, Close, Begin, Finish, Plus, Minus, Star, Gets, Equal, Unequal, Less, AtMost, More, AtLeast}
+
+-- the reserved words, and what each is to the grammar
+unfoldable pub reserved_words : List (List ℕ × Terminal)
+reserved_words =
+    (codes "policy", Policy) ∷ (codes "load", Load) ∷ (codes "count", Count) ∷ (codes "weight", Weight)
+    ∷ (codes "core", Core) ∷ (codes "thread", Thread) ∷ (codes "in", In) ∷ (codes "start", Start)
+    ∷ (codes "place", Place) ∷ (codes "here", Here) ∷ (codes "min", Min) ∷ (codes "max", Max)
+    ∷ (codes "elect", Elect) ∷ (codes "choose", Choose) ∷ (codes "steal", Steal) ∷ (codes "first", First)
+    ∷ (codes "on", On) ∷ (codes "enqueue", Enqueue) ∷ (codes "tick", Tick) ∷ (codes "yield", Yield)
+    ∷ (codes "block", Block) ∷ (codes "when", When) ∷ (codes "queue", Queue) ∷ (codes "keep", Keep)
+    ∷ (codes "filter", Filter) ∷ (codes "and", And) ∷ (codes "or", Or) ∷ (codes "not", Not)
+    ∷ (codes "always", Always) ∷ (codes "self", Itself) ∷ (codes "victim", Victim) ∷ (codes "t", Task)
+    ∷ (codes "nr", Reserved) ∷ (codes "fresh", Reserved) ∷ []
+
+-- what the word is, where those are reserved, each of which is read as bytes
+abbrev pub terminal_among : {W : Type 0} → (W → List ℕ) → (W → Terminal) → List W → List ℕ → Terminal
+terminal_among bytes_of terminal_of [] word = Name
+terminal_among bytes_of terminal_of (w ∷ words) word =
+    if bytes_eq (bytes_of w) word then terminal_of w else terminal_among bytes_of terminal_of words word
+
+abbrev pub word_terminal : List ℕ → Terminal
+word_terminal word = terminal_among (λ w. w.0) (λ w. w.1) reserved_words word
+
+abbrev pub symbol_terminal : Symbol → Terminal
+symbol_terminal symbol.Dot = Dot
+symbol_terminal symbol.Range = Range
+symbol_terminal symbol.Comma = Comma
+symbol_terminal symbol.Colon = Colon
+symbol_terminal symbol.Open = Open
+symbol_terminal symbol.Close = Close
+symbol_terminal symbol.Begin = Begin
+symbol_terminal symbol.End = Finish
+symbol_terminal symbol.Plus = Plus
+symbol_terminal symbol.Minus = Minus
+symbol_terminal symbol.Star = Star
+symbol_terminal symbol.Gets = Gets
+symbol_terminal symbol.Equal = Equal
+symbol_terminal symbol.Unequal = Unequal
+symbol_terminal symbol.Less = Less
+symbol_terminal symbol.AtMost = AtMost
+symbol_terminal symbol.More = More
+symbol_terminal symbol.AtLeast = AtLeast
+
+-- what a token of these bytes is
+abbrev pub kind_terminal : TokenKind → List ℕ → Terminal
+kind_terminal kind.Word bytes = word_terminal bytes
+kind_terminal (kind.Number value) bytes = Number
+kind_terminal (kind.Symbol symbol) bytes = symbol_terminal symbol
+
+-- the value of a number, and 0 for others
+abbrev pub kind_value : TokenKind → ℕ
+kind_value kind.Word = 0
+kind_value (kind.Number value) = value
+kind_value (kind.Symbol symbol) = 0
+
+abbrev pub lexeme_of : List ℕ → Token → Lexeme
+lexeme_of text token = record {
+  terminal = kind_terminal token.kind (slice_range text token.start token.end);
+  start = token.start;
+  end = token.end;
+  value = kind_value token.kind;
+}
+
+abbrev pub lexemes_of : List ℕ → List Token → List Lexeme
+lexemes_of text tokens = map (lexeme_of text) tokens

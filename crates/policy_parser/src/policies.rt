@@ -1,0 +1,425 @@
+//! Reads policies.
+
+ghost use Rattle.std.specs.Prelude.{None, ◌≡◌, ◌==◌, ◌<◌, ◌≤◌, ◌+◌, ◌∷◌, [], ℕ, List, length, IfOk, IfSome, IfNone, IsTrue, false, map, ◌^◌, ◌-◌};
+ghost use Rattle.policy_grammar.specs.declared.terminal.Terminal.TheVariants.{Core, Thread, On, Load, Range, In, Start, Name, Task, Dot, Gets, Comma};
+ghost use Rattle.policy_grammar.specs.Terminals.{code, kind_at, word_at};
+ghost use Rattle.policy_grammar.specs.Words.{attr_word, put_word, event_word};
+ghost use Rattle.policy_grammar.specs.Expressions.{IsInt, IsRange};
+ghost use Rattle.policy_grammar.specs.Policies.{IsPolicy, IsLoad, IsAttr, IsAttrs, IsCase, IsHandler, IsHandlers, IsPlace, IsElect, IsSets};
+ghost use Rattle.policy_grammar.specs.Machine.{Symbol, the, int, load_rule, attrs, actions, case, cases, handlers, is_put, is_event, place, elect, field, operand, start, go};
+ghost use Rattle.policy_tree.specs.SyntaxTrees.{case_syntax_tree, handler_syntax_tree, syntax_tree};
+ghost use Rattle.policy_grammar.specs.Breaks.{of_kind};
+ghost use Rattle.policy_parser.specs.Answers.{Answers};
+ghost use Rattle.policy_parser.specs.Cases.{Cased};
+
+use lists::Items;
+use policy_grammar::{ParseFault, Terminal};
+use policy_tree::{AttrSyntax, CaseSyntax, ElectSyntax, Event, HandlerSyntax, IntSyntax, LoadSyntax, Name, PlaceSyntax, Put, RangeSyntax, SetSyntax, Syntax};
+
+use crate::source::Source;
+
+impl<'a> Source<'a> {
+    /// The policy that the tokens are.
+    pub(crate) fn policy(&self) -> Result<Syntax, ParseFault>
+        ensures is { IfOk result (λ s. IsPolicy self.now.text.now self.now.lexemes.now (syntax_tree s)) }
+        ensures reads { Answers (go self.now.limits self.now.lexemes.now 0 0 start) (λ s. None) result }
+    {
+        let name_at = self.expect(0, Terminal::Policy)?;
+        let (name, load_at) = self.name_at(name_at)?;
+        let (load, attrs_at) = self.load(load_at)?;
+        let (attrs, place_at) = self.attrs(attrs_at)?;
+        let (place, elect_at) = self.place(place_at)?;
+        let (elect, handlers_at) = self.elect(elect_at)?;
+        let (handlers, filter_at) = self.handlers(handlers_at)?;
+        let guard_at = self.expect(filter_at, Terminal::Filter)?;
+        let (filter, choose_at, _count) = self.condition(guard_at, 0, 0)?;
+        let first_at = self.expect(choose_at, Terminal::Choose)?;
+        let (choose, steal_at) = self.order(first_at)?;
+        let second_at = self.expect(steal_at, Terminal::Steal)?;
+        let (steal, end) = self.order(second_at)?;
+        if (end as usize) < self.lexemes.len() {
+            return Err(ParseFault::Unexpected(end));
+        }
+        Ok(Syntax { name, load, attrs, place, elect, handlers, filter_at, filter, choose_at, choose, steal_at, steal })
+    }
+
+    /// A number that may have a sign.
+    fn int(&self, at: u32) -> Result<(IntSyntax, u32), ParseFault>
+        requires within { at ≤ length self.now.lexemes.now }
+        ensures later { IfOk result (λ x. (at < x.1) × (x.1 ≤ length self.now.lexemes.now)) }
+        ensures is { IfOk result (λ x. IsInt self.now.lexemes.now at x.0 x.1) }
+        ensures reads {
+            (below : List Symbol) →
+            Answers (go self.now.limits self.now.lexemes.now at 0 (int ∷ below))
+                (λ x. go self.now.limits self.now.lexemes.now x.1 0 below) result
+        }
+    {
+        if self.has(at, Terminal::Number) {
+            let value = self.lexeme(at).value;
+            return Ok((IntSyntax { at, negative: false, value }, at + 1));
+        }
+        if !self.has(at, Terminal::Minus) {
+            return Err(ParseFault::Unexpected(at));
+        }
+        let next = self.expect(at + 1, Terminal::Number)?;
+        let value = self.lexeme(at + 1).value;
+        Ok((IntSyntax { at, negative: true, value }, next))
+    }
+
+    /// A range.
+    fn range(&self, at: u32) -> Result<(RangeSyntax, u32), ParseFault>
+        requires within { at ≤ length self.now.lexemes.now }
+        ensures later { IfOk result (λ x. (at < x.1) × (x.1 ≤ length self.now.lexemes.now)) }
+        ensures is { IfOk result (λ x. IsRange self.now.lexemes.now at x.0 x.1) }
+        ensures reads {
+            (below : List Symbol) →
+            Answers (go self.now.limits self.now.lexemes.now at 0 (int ∷ the Range ∷ int ∷ below))
+                (λ x. go self.now.limits self.now.lexemes.now x.1 0 below) result
+        }
+    {
+        let (low, dots) = self.int(at)?;
+        let high_at = self.expect(dots, Terminal::Range)?;
+        let (high, next) = self.int(high_at)?;
+        Ok((RangeSyntax { at, low, high }, next))
+    }
+
+    /// What a thread adds to the load of its core.
+    fn load(&self, at: u32) -> Result<(LoadSyntax, u32), ParseFault>
+        requires within { at ≤ length self.now.lexemes.now }
+        ensures later { IfOk result (λ x. (at < x.1) × (x.1 ≤ length self.now.lexemes.now)) }
+        ensures is { IfOk result (λ x. IsLoad self.now.lexemes.now at x.0 x.1) }
+        ensures reads {
+            (below : List Symbol) →
+            Answers (go self.now.limits self.now.lexemes.now at 0 (the Load ∷ load_rule ∷ below))
+                (λ x. go self.now.limits self.now.lexemes.now x.1 0 below) result
+        }
+    {
+        let rule = self.expect(at, Terminal::Load)?;
+        if self.has(rule, Terminal::Count) {
+            return Ok((LoadSyntax::Count { at }, rule + 1));
+        }
+        if !self.has(rule, Terminal::Weight) {
+            return Err(ParseFault::Unexpected(rule));
+        }
+        let (range, next) = self.range(rule + 1)?;
+        Ok((LoadSyntax::Weight { at, range }, next))
+    }
+
+    /// An attribute, whose first word stands there.
+    fn attr(&self, at: u32, of_cores: bool) -> Result<(AttrSyntax, u32), ParseFault>
+        requires within { at < length self.now.lexemes.now }
+        requires begins { kind_at self.now.lexemes.now at ≡ attr_word of_cores }
+        ensures later { IfOk result (λ x. (at < x.1) × (x.1 ≤ length self.now.lexemes.now)) }
+        ensures is { IfOk result (λ x. IsAttr self.now.text.now self.now.lexemes.now at x.0 x.1) }
+        ensures kind { IfOk result (λ x. x.0.of_cores ≡ of_cores) }
+        ensures reads {
+            (below : List Symbol) →
+            Answers (go self.now.limits self.now.lexemes.now (at + 1) 0 (the Name ∷ the In ∷ int ∷ the Range ∷ int ∷ the Start ∷ int ∷ below))
+                (λ x. go self.now.limits self.now.lexemes.now x.1 0 below) result
+        }
+    {
+        let (name, in_at) = self.name_at(at + 1)?;
+        let range_at = self.expect(in_at, Terminal::In)?;
+        let (range, start_at) = self.range(range_at)?;
+        let number_at = self.expect(start_at, Terminal::Start)?;
+        let (start, next) = self.int(number_at)?;
+        Ok((AttrSyntax { at, of_cores, name, range, start }, next))
+    }
+
+    /// A name that must stand there: a word that isn't reserved.
+    fn name_at(&self, at: u32) -> Result<(Name, u32), ParseFault>
+        ensures next { IfOk result (λ x. (x.1 ≡ at + 1) × (x.1 ≤ length self.now.lexemes.now)) }
+        ensures is { IfOk result (λ x. kind_at self.now.lexemes.now at ≡ code Name) }
+        ensures word { IfOk result (λ x. x.0 ≡ word_at self.now.text.now self.now.lexemes.now at) }
+        ensures reads {
+            (count : ℕ) (below : List Symbol) →
+            Answers (go self.now.limits self.now.lexemes.now at count (the Name ∷ below))
+                (λ x. go self.now.limits self.now.lexemes.now x.1 0 below) result
+        }
+    {
+        let next = self.expect(at, Terminal::Name)?;
+        let name = self.name(at)?;
+        Ok((name, next))
+    }
+
+    /// The place rule, if there is one.
+    fn place(&self, at: u32) -> Result<(Option<PlaceSyntax>, u32), ParseFault>
+        requires within { at ≤ length self.now.lexemes.now }
+        ensures later { IfOk result (λ x. (at ≤ x.1) × (x.1 ≤ length self.now.lexemes.now)) }
+        ensures is { IfOk result (λ x. IsPlace self.now.text.now self.now.lexemes.now at x.0 x.1) }
+        ensures reads {
+            (below : List Symbol) →
+            Answers (go self.now.limits self.now.lexemes.now at 0 (place ∷ below))
+                (λ x. go self.now.limits self.now.lexemes.now x.1 0 below) result
+        }
+    {
+        if !self.has(at, Terminal::Place) {
+            return Ok((None, at));
+        }
+        if self.has(at + 1, Terminal::Here) {
+            return Ok((Some(PlaceSyntax::Here { at }), at + 2));
+        }
+        if !self.has(at + 1, Terminal::Min) {
+            return Err(ParseFault::Unexpected(at + 1));
+        }
+        let (value, next) = self.expression(at + 2, 0)?;
+        Ok((Some(PlaceSyntax::Least { at, value }), next))
+    }
+
+    /// The order of election, if there is one.
+    fn elect(&self, at: u32) -> Result<(Option<ElectSyntax>, u32), ParseFault>
+        requires within { at ≤ length self.now.lexemes.now }
+        ensures later { IfOk result (λ x. (at ≤ x.1) × (x.1 ≤ length self.now.lexemes.now)) }
+        ensures is { IfOk result (λ x. IsElect self.now.text.now self.now.lexemes.now at x.0 x.1) }
+        ensures reads {
+            (below : List Symbol) →
+            Answers (go self.now.limits self.now.lexemes.now at 0 (elect ∷ below))
+                (λ x. go self.now.limits self.now.lexemes.now x.1 0 below) result
+        }
+    {
+        if !self.has(at, Terminal::Elect) {
+            return Ok((None, at));
+        }
+        let (order, next) = self.order(at + 1)?;
+        Ok((Some(ElectSyntax { at, order }), next))
+    }
+
+    /// An assignment, whose `t` stands there, and the comma behind it.
+    fn set(&self, at: u32) -> Result<(SetSyntax, u32), ParseFault>
+        requires within { at < length self.now.lexemes.now }
+        ensures later { IfOk result (λ x. (at < x.1) × (x.1 ≤ length self.now.lexemes.now)) }
+        ensures is { kind_at self.now.lexemes.now at ≡ code Task → IfOk result (λ x. IsSets self.now.text.now self.now.lexemes.now at (x.0 ∷ []) x.1) }
+        ensures reads {
+            (below : List Symbol) →
+            Answers (go self.now.limits self.now.lexemes.now (at + 1) 0 (the Dot ∷ field ∷ the Gets ∷ operand 0 0 0 ∷ the Comma ∷ below))
+                (λ x. go self.now.limits self.now.lexemes.now x.1 0 below) result
+        }
+    {
+        let word_at = self.expect(at + 1, Terminal::Dot)?;
+        let (word, gets_at) = self.word(word_at)?;
+        let value_at = self.expect(gets_at, Terminal::Gets)?;
+        let (value, comma_at) = self.expression(value_at, 0)?;
+        let next = self.expect(comma_at, Terminal::Comma)?;
+        Ok((SetSyntax { at, word, value }, next))
+    }
+
+    /// The attributes that stand there.
+    fn attrs(&self, at: u32) -> Result<(Items<AttrSyntax>, u32), ParseFault>
+        requires within { at ≤ length self.now.lexemes.now }
+        ensures later { IfOk result (λ x. (at ≤ x.1) × (x.1 ≤ length self.now.lexemes.now)) }
+        ensures is { IfOk result (λ x. IsAttrs self.now.text.now self.now.lexemes.now at x.0 x.1) }
+        ensures reads {
+            (below : List Symbol) →
+            Answers (go self.now.limits self.now.lexemes.now at 0 (attrs 0 0 ∷ below))
+                (λ x. go self.now.limits self.now.lexemes.now x.1 0 below) result
+        }
+    {
+        let mut attrs = Vec::new(self.alloc);
+        let mut next = at;
+        let mut cores = 0;
+        let mut threads = 0;
+        'attrs: loop {
+            let of_cores = match self.attr_word(next) {
+                Some(of_cores) => of_cores,
+                None => return Ok((Items::from_vec(attrs), next)),
+            };
+            let count = count_of_kind(of_cores, cores, threads);
+            if count >= self.limits.attrs {
+                return Err(ParseFault::Many(next, self.limits.attrs));
+            }
+            let (attr, after) = self.attr(next, of_cores)?;
+            attrs.push(attr)?;
+            next = after;
+            cores = one_more(of_cores, cores);
+            threads = one_more(!of_cores, threads);
+        }
+    }
+
+    /// Whether the word that stands there declares an attribute of cores, and not one of threads.
+    fn attr_word(&self, at: u32) -> Option<bool>
+        ensures some { IfSome result (λ of_cores. kind_at self.now.lexemes.now at ≡ attr_word of_cores) }
+        ensures inside { IfSome result (λ of_cores. at < length self.now.lexemes.now) }
+        ensures cores { IfNone result ((kind_at self.now.lexemes.now at == code Core) ≡ false) }
+        ensures threads { IfNone result ((kind_at self.now.lexemes.now at == code Thread) ≡ false) }
+    {
+        if self.has(at, Terminal::Core) {
+            Some(true)
+        } else if self.has(at, Terminal::Thread) {
+            Some(false)
+        } else {
+            None
+        }
+    }
+
+    /// The assignments that stand there, the place of the word that puts the thread, and what it says.
+    fn actions(&self, at: u32) -> Result<(Items<SetSyntax>, u32, Put), ParseFault>
+        requires within { at ≤ length self.now.lexemes.now }
+        ensures later { IfOk result (λ x. (at ≤ x.1) × (x.1 < length self.now.lexemes.now)) }
+        ensures is { IfOk result (λ x. IsSets self.now.text.now self.now.lexemes.now at x.0 x.1) }
+        ensures puts { IfOk result (λ x. kind_at self.now.lexemes.now x.1 ≡ put_word x.2) }
+        ensures reads {
+            (below : List Symbol) →
+            Answers (go self.now.limits self.now.lexemes.now at 0 (actions 0 ∷ below))
+                (λ x. go self.now.limits self.now.lexemes.now (x.1 + 1) 0 below) result
+        }
+    {
+        let mut sets = Vec::new(self.alloc);
+        let mut next = at;
+        let mut count = 0;
+        'sets: while self.has(next, Terminal::Task) {
+            if count >= self.limits.sets {
+                return Err(ParseFault::Many(next, self.limits.sets));
+            }
+            let (set, after) = self.set(next)?;
+            sets.push(set)?;
+            next = after;
+            count += 1;
+        }
+        match self.put(next) {
+            Some(put) => Ok((Items::from_vec(sets), next, put)),
+            None => Err(ParseFault::Unexpected(next)),
+        }
+    }
+
+    /// Where the word that stands there puts the thread.
+    fn put(&self, at: u32) -> Option<Put>
+        ensures some { IfSome result (λ put. kind_at self.now.lexemes.now at ≡ put_word put) }
+        ensures inside { IfSome result (λ put. at < length self.now.lexemes.now) }
+        ensures none { IfNone result (is_put (kind_at self.now.lexemes.now at) ≡ false) }
+    {
+        if self.has(at, Terminal::Queue) {
+            Some(Put::Queue)
+        } else if self.has(at, Terminal::Keep) {
+            Some(Put::Keep)
+        } else if self.has(at, Terminal::Block) {
+            Some(Put::Block)
+        } else {
+            None
+        }
+    }
+
+    /// A case of a handler that has so many before it.
+    fn case(&self, at: u32, before: u32) -> Result<(CaseSyntax, u32), ParseFault>
+        requires within { at ≤ length self.now.lexemes.now }
+        ensures later { IfOk result (λ x. (at < x.1) × (x.1 ≤ length self.now.lexemes.now)) }
+        ensures is { IfOk result (λ x. IsCase self.now.text.now self.now.lexemes.now at (case_syntax_tree x.0) x.1) }
+        ensures reads {
+            (below : List Symbol) →
+            Answers (go self.now.limits self.now.lexemes.now at 0 (case before ∷ below))
+                (λ x. go self.now.limits self.now.lexemes.now x.1 0 (cases (before + 1) ∷ below)) result
+        }
+    {
+        if !self.has(at, Terminal::When) {
+            return Err(ParseFault::Unexpected(at));
+        }
+        if before >= self.limits.cases {
+            return Err(ParseFault::Many(at, self.limits.cases));
+        }
+        let (guard, colon_at, _count) = self.condition(at + 1, 0, 0)?;
+        let sets_at = self.expect(colon_at, Terminal::Colon)?;
+        let (sets, put_at, put) = self.actions(sets_at)?;
+        Ok((CaseSyntax { at, guard, sets, put_at, put }, put_at + 1))
+    }
+
+    /// The cases that stand there, of which there is one at least.
+    fn cases(&self, at: u32) -> Result<(Items<CaseSyntax>, u32), ParseFault>
+        requires within { at ≤ length self.now.lexemes.now }
+        ensures later { IfOk result (λ x. (at < x.1) × (x.1 ≤ length self.now.lexemes.now)) }
+        ensures is { IfOk result (λ x. Cased self.now.text.now self.now.lexemes.now x.0 at x.1) }
+        ensures reads {
+            (below : List Symbol) →
+            Answers (go self.now.limits self.now.lexemes.now at 0 (case 0 ∷ below))
+                (λ x. go self.now.limits self.now.lexemes.now x.1 0 below) result
+        }
+    {
+        let (first, mut next) = self.case(at, 0)?;
+        let mut cases = Vec::new(self.alloc);
+        cases.push(first)?;
+        let mut count = 1;
+        'cases: while self.has(next, Terminal::When) {
+            let (case, after) = self.case(next, count)?;
+            cases.push(case)?;
+            next = after;
+            count += 1;
+        }
+        Ok((Items::from_vec(cases), next))
+    }
+
+    /// A handler, whose `on` stands there.
+    fn handler(&self, at: u32) -> Result<(HandlerSyntax, u32), ParseFault>
+        requires within { at < length self.now.lexemes.now }
+        requires begins { kind_at self.now.lexemes.now at ≡ code On }
+        ensures later { IfOk result (λ x. (at < x.1) × (x.1 ≤ length self.now.lexemes.now)) }
+        ensures is { IfOk result (λ x. IsHandler self.now.text.now self.now.lexemes.now at (handler_syntax_tree x.0) x.1) }
+        ensures reads {
+            (below : List Symbol) →
+            Answers (go self.now.limits self.now.lexemes.now at 0 (handlers ∷ below))
+                (λ x. go self.now.limits self.now.lexemes.now x.1 0 (handlers ∷ below)) result
+        }
+    {
+        let event = match self.event(at + 1) {
+            Some(event) => event,
+            None => return Err(ParseFault::Unexpected(at + 1)),
+        };
+        let cases_at = self.expect(at + 2, Terminal::Begin)?;
+        let (cases, end) = self.cases(cases_at)?;
+        let next = self.expect(end, Terminal::Finish)?;
+        Ok((HandlerSyntax { at, event, cases }, next))
+    }
+
+    /// The event that stands there.
+    fn event(&self, at: u32) -> Option<Event>
+        ensures some { IfSome result (λ event. kind_at self.now.lexemes.now at ≡ event_word event) }
+        ensures inside { IfSome result (λ event. at < length self.now.lexemes.now) }
+        ensures none { IfNone result (is_event (kind_at self.now.lexemes.now at) ≡ false) }
+    {
+        if self.has(at, Terminal::Enqueue) {
+            Some(Event::Enqueue)
+        } else if self.has(at, Terminal::Tick) {
+            Some(Event::Tick)
+        } else if self.has(at, Terminal::Yield) {
+            Some(Event::Yield)
+        } else if self.has(at, Terminal::Block) {
+            Some(Event::Block)
+        } else {
+            None
+        }
+    }
+
+    /// The handlers that stand there.
+    fn handlers(&self, at: u32) -> Result<(Items<HandlerSyntax>, u32), ParseFault>
+        requires within { at ≤ length self.now.lexemes.now }
+        ensures later { IfOk result (λ x. (at ≤ x.1) × (x.1 ≤ length self.now.lexemes.now)) }
+        ensures is { IfOk result (λ x. IsHandlers self.now.text.now self.now.lexemes.now at (map handler_syntax_tree x.0) x.1) }
+        ensures reads {
+            (below : List Symbol) →
+            Answers (go self.now.limits self.now.lexemes.now at 0 (handlers ∷ below))
+                (λ x. go self.now.limits self.now.lexemes.now x.1 0 below) result
+        }
+    {
+        let mut handlers = Vec::new(self.alloc);
+        let mut next = at;
+        'handlers: while self.has(next, Terminal::On) {
+            let (handler, after) = self.handler(next)?;
+            handlers.push(handler)?;
+            next = after;
+        }
+        Ok((Items::from_vec(handlers), next))
+    }
+}
+
+/// How many attributes of that kind there are.
+fn count_of_kind(of_cores: bool, cores: u32, threads: u32) -> u32
+    ensures { result ≡ of_kind of_cores cores threads }
+{
+    if of_cores { cores } else { threads }
+}
+
+/// The count, and one more where it is of that kind.
+fn one_more(is_one: bool, count: u32) -> u32
+    requires { count < 2 ^ 32 - 1 }
+    ensures yes { IsTrue is_one → result ≡ count + 1 }
+    ensures nay { is_one ≡ false → result ≡ count }
+{
+    if is_one { count + 1 } else { count }
+}
