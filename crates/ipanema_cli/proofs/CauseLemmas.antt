@@ -2,7 +2,8 @@
 use Rattle.std.proofs.Common.{◌≡◌, ◌≢◌, ℕ, ◌<◌, inl, inr, List, [], ◌∷◌, Option, Some, None, codes, refl, sym, ◌∙◌, ap, arith, length, Bool, true, false, if◌then◌else◌}
 use Rattle.sched_io.specs.Told.{Told, MayHold, holds}
 use Rattle.sched_io.specs.Written.{Adds}
-use Rattle.ipanema_cli.specs.CheckAnswer.{IsCheckOf, all_hold, output_of, status_of}
+use Rattle.count_filter.specs.Judged.{all_hold}
+use Rattle.ipanema_cli.specs.CheckAnswer.{IsCheckOf, output_of, status_of}
 use Rattle.ipanema_cli.specs.Command.{Asked, check}
 use Rattle.ipanema_cli.specs.Ends.{Writes, answered, unread, no_memory, Ends}
 use Rattle.ipanema_cli.specs.Promises.{HasCause, OneOf}

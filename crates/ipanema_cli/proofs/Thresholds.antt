@@ -3,7 +3,7 @@ use Rattle.std.proofs.Common.{◌≡◌, ℕ, ◌≤◌, ◌<◌, inl, inr, true
 use Rattle.std.specs.Prelude.{IsTrue, ◌↔◌, nat_le, Some}
 use Rattle.std.proofs.lemmas.Bool.{leb-true, le-leb}
 use Rattle.std.proofs.lemmas.Bool.Decides.{leb_tells}
-use Rattle.ipanema_cli.specs.Obligations.{LoadsFit, IdleSeesOverloaded, VictimIsOverloaded, MoveNarrowsGap, NoOverlap, NoGap, default_guards}
+use Rattle.count_filter.specs.Obligations.{LoadsFit, IdleSeesOverloaded, VictimIsOverloaded, MoveNarrowsGap}
 
 -- so many threads of weight 1
 fits : (n : ℕ) → n ≤ 1023 → LoadsFit n n
@@ -32,14 +32,3 @@ narrows k = (
   (λ holds. taken_last k (λ low.
       let less = holds 0 0 1 1 1 (fits 0 (omega arith)) (fits 1 (omega arith)) (omega arith) refl (omega arith) in omega arith)),
 )
-
--- the second of two guards isn't there
-none_past_one : (j : ℕ) → 0 < j → slice_get default_guards j ≡ Some true → ⊥
-none_past_one zero above found = omega arith
-none_past_one (suc j) above found = cc
-
-pub no_overlap : IsTrue true ↔ NoOverlap default_guards
-no_overlap = ((λ _ i j below first second. none_past_one j (omega arith) second), λ _. refl)
-
-pub no_gap : IsTrue true ↔ NoGap default_guards
-no_gap = ((λ _. (0, omega arith, refl)), λ _. refl)

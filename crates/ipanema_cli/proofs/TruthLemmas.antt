@@ -1,22 +1,23 @@
 -- From how a call ends to the truth of what it says.
 use Rattle.std.proofs.Common.{◌≡◌, ◌≢◌, ℕ, ◌≤◌, inl, inr, List, [], ◌∷◌, Option, Some, None, Bool, true, false, ◌&&◌, codes, refl, sym, ◌∙◌, ap, arith, length, if◌then◌else◌, subst}
-use Rattle.std.specs.Prelude.{IsTrue}
+use Rattle.std.specs.Prelude.{IsTrue, ◌↔◌}
 use Rattle.std.proofs.lemmas.Bool.{leb-true}
 use Rattle.sched_io.specs.Told.{Told, MayHold, holds}
 use Rattle.sched_io.specs.Written.{Adds}
-use Rattle.ipanema_cli.specs.CheckAnswer.{IsCheckOf, Judges, all_hold, holds_in, output_of, status_of}
+use Rattle.count_filter.specs.Judged.{Judges, all_hold, holds_in}
+use Rattle.ipanema_cli.specs.CheckAnswer.{IsCheckOf, output_of, status_of}
 use Rattle.ipanema_cli.specs.Command.{Asked, check}
 use Rattle.ipanema_cli.specs.Ends.{Writes, answered, unread, no_memory, Ends}
 use Rattle.ipanema_cli.specs.FirstForm.{IsFirstForm}
-use Rattle.ipanema_cli.specs.Obligations.{MeetsObligations}
+use Rattle.count_filter.specs.Obligations.{MeetsObligations}
 use Rattle.ipanema_cli.specs.Promises.{IsTruthful, OneOf}
 use Rattle.ipanema_cli.specs.Status.{code_of}
 use Rattle.ipanema_cli.specs.declared.answers.TheConstants.{POLICY_ROOM}
 use Rattle.ipanema_cli.specs.declared.answers.CheckAnswer.{CheckAnswer}
 use Rattle.ipanema_cli.specs.declared.answers.CheckAnswer.TheVariants as answer
-use Rattle.ipanema_cli.specs.declared.obligations.Balance.{Balance}
-use Rattle.ipanema_cli.specs.declared.obligations.ObName.{ObName}
-use Rattle.ipanema_cli.specs.declared.obligations.ObName.TheVariants as name
+use Rattle.count_filter.specs.declared.balance.Balance.{Balance}
+use Rattle.count_filter.specs.declared.obligations.ObName.{ObName}
+use Rattle.count_filter.specs.declared.obligations.ObName.TheVariants as name
 use Rattle.ipanema_cli.specs.declared.status.Status.TheVariants as status
 use Rattle.ipanema_cli.proofs.FormLemmas.{one_threshold}
 use Rattle.ipanema_cli.proofs.Thresholds as threshold
@@ -71,7 +72,7 @@ verdict_not_2 false e = omega arith
 record Answers (text : List ℕ) (a : CheckAnswer) (before after : Option (List ℕ)) : Type 0 where
   accepted : code_of (status_of a) ≡ 0 → IsFirstForm text 2 × MeetsObligations 2
   accepts : IsFirstForm text 2 → length text ≤ POLICY_ROOM → code_of (status_of a) ≡ 0
-  lines : OneOf (0 ∷ 1 ∷ []) (code_of (status_of a)) → Adds (output_of a) before after → (k : ℕ) × (balance : Balance) × IsFirstForm text k × Judges k balance × Adds (output_of (answer.Judged balance)) before after × (IsTrue (all_hold balance) → code_of (status_of a) ≡ 0)
+  lines : OneOf (0 ∷ 1 ∷ []) (code_of (status_of a)) → Adds (output_of a) before after → (k : ℕ) × (balance : Balance) × IsFirstForm text k × Judges k balance × Adds (output_of (answer.Judged balance)) before after × (IsTrue (all_hold balance) ↔ (code_of (status_of a) ≡ 0))
   other_form : length text ≤ POLICY_ROOM → ((k : ℕ) → IsFirstForm text k → ⊥) → code_of (status_of a) ≡ 2
   not_built : code_of (status_of a) ≡ 2 → Adds (output_of a) before after → (length text ≤ POLICY_ROOM) × ((k : ℕ) → IsFirstForm text k → ⊥) × Adds (codes "policy 0 not-built\n") before after
 
@@ -87,7 +88,7 @@ answers text (answer.Judged balance) before after (k, short, form, judges) = rec
       let same = one_threshold text k 2 form two in
       let Judged : ℕ → Type 0 = λ n. Judges n balance in
       rw (all_at_two balance (subst Judged same judges)) refl;
-  lines = λ e added. (k, balance, form, judges, added, λ all. rw all refl);
+  lines = λ e added. (k, balance, form, judges, added, ((λ all. rw all refl), (λ zero. verdict_0 (all_hold balance) zero)));
   other_form = λ _ none. absurd (none k form);
   not_built = λ e _. absurd (verdict_not_2 (all_hold balance) e);
 }
@@ -133,7 +134,7 @@ text_answered policy told write_fault before after code text a may is_check writ
       lines = λ h.
           let is_own : code ≡ code_of (status_of a) = elim among [ inl e ↦ e | inr (inl e) ↦ absurd (neither_5 code h e) | inr (inr e) ↦ absurd (neither_6 code h e) ] in
           let found = facts.lines (rw is_own at h) (whole _ _ _ _ _ _ writes (neither_5 code h) (neither_6 code h)) in
-          (found.0, found.1, (policy, text, refl, may, found.2), found.3, found.4, λ all. is_own ∙ found.5 all);
+          (found.0, found.1, (policy, text, refl, may, found.2), found.3, found.4, ((λ all. is_own ∙ found.5.0 all), (λ zero. found.5.1 (sym is_own ∙ zero))));
       other_form = λ other held e tells short none.
           let is_text = Held other held e tells in
           elim among [

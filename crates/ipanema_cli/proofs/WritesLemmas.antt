@@ -4,7 +4,8 @@ use Rattle.sched_io.specs.Told.{Told, untold, missing, named, holds, IfHolds, Ma
 use Rattle.sched_io.specs.Written.{Adds, AddsPrefix}
 use Rattle.std.specs.Prelude.{length, replicate, ◌+◌}
 use Rattle.std.proofs.lemmas.List.{length-replicate}
-use Rattle.ipanema_cli.specs.CheckAnswer.{all_hold, status_of}
+use Rattle.count_filter.specs.Judged.{all_hold}
+use Rattle.ipanema_cli.specs.CheckAnswer.{status_of}
 use Rattle.ipanema_cli.specs.Ends.{Writes, written, cut_off, out_of_memory}
 use Rattle.ipanema_cli.specs.Status.{code_of}
 use Rattle.ipanema_cli.specs.declared.answers.TheConstants.{POLICY_ROOM}

@@ -3,6 +3,5 @@ pub mod CheckAnswer
 pub mod Command
 pub mod Ends
 pub mod FirstForm
-pub mod Obligations
 pub mod Promises
 pub mod Status

@@ -1,16 +1,17 @@
 -- What a caller may rely on, whatever the call does: when each status comes and what is then written.
-use Rattle.std.specs.Prelude.{◌≡◌, ℕ, ◌<◌, ◌≤◌, ◌⊎◌, List, [], ◌∷◌, Option, Some, None, IsTrue, codes, length, ◌==◌}
+use Rattle.std.specs.Prelude.{◌≡◌, ℕ, ◌<◌, ◌≤◌, ◌⊎◌, List, [], ◌∷◌, Option, Some, None, IsTrue, codes, length, ◌==◌, ◌↔◌}
 use Rattle.std.specs.List.{list_any}
 use Rattle.sched_io.specs.Told.{Told, MayHold, missing, holds}
 use Rattle.sched_io.specs.Written.{Adds, AddsPrefix}
-use Rattle.ipanema_cli.specs.CheckAnswer.{IsCheckOf, Judges, all_hold, output_of}
+use Rattle.count_filter.specs.Judged.{Judges, all_hold}
+use Rattle.ipanema_cli.specs.CheckAnswer.{IsCheckOf, output_of}
 use Rattle.ipanema_cli.specs.Command.{Asked, check}
 use Rattle.ipanema_cli.specs.FirstForm.{IsFirstForm}
-use Rattle.ipanema_cli.specs.Obligations.{MeetsObligations}
+use Rattle.count_filter.specs.Obligations.{MeetsObligations}
 use Rattle.ipanema_cli.specs.declared.answers.TheConstants.{POLICY_ROOM}
 use Rattle.ipanema_cli.specs.declared.answers.CheckAnswer.{CheckAnswer}
 use Rattle.ipanema_cli.specs.declared.answers.CheckAnswer.TheVariants as answer
-use Rattle.ipanema_cli.specs.declared.obligations.Balance.{Balance}
+use Rattle.count_filter.specs.declared.balance.Balance.{Balance}
 
 -- the status is one of these
 abbrev pub OneOf : List ℕ → ℕ → Type 0
@@ -55,7 +56,7 @@ pub record IsTruthful (asked : Option Asked) (told : List ℕ → Told) (before 
   -- and every policy of the first form with the threshold 2 is accepted, if the outside lets it be
   pub accepts : (policy text : List ℕ) → asked ≡ Some (check policy) → told policy ≡ holds text → length text ≤ POLICY_ROOM → IsFirstForm text 2 → OneOf (0 ∷ 4 ∷ 5 ∷ 6 ∷ []) code
   -- each line that says that an obligation holds or fails is true, and the verdict is that of the lines
-  pub lines : OneOf (0 ∷ 1 ∷ []) code → (threshold : ℕ) × (balance : Balance) × AsksOf asked told threshold × Judges threshold balance × Adds (output_of (answer.Judged balance)) before after × (IsTrue (all_hold balance) → code ≡ 0)
+  pub lines : OneOf (0 ∷ 1 ∷ []) code → (threshold : ℕ) × (balance : Balance) × AsksOf asked told threshold × Judges threshold balance × Adds (output_of (answer.Judged balance)) before after × (IsTrue (all_hold balance) ↔ (code ≡ 0))
   -- a text of another form is refused as one that isn't read so far
   pub other_form : (policy text : List ℕ) → asked ≡ Some (check policy) → told policy ≡ holds text → length text ≤ POLICY_ROOM → ((threshold : ℕ) → IsFirstForm text threshold → ⊥) → OneOf (2 ∷ 4 ∷ 5 ∷ 6 ∷ []) code
   pub not_built : code ≡ 2 → (policy text : List ℕ) × (asked ≡ Some (check policy)) × MayHold (told policy) text × (length text ≤ POLICY_ROOM) × ((threshold : ℕ) → IsFirstForm text threshold → ⊥) × Adds (codes "policy 0 not-built\n") before after

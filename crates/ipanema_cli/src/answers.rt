@@ -1,15 +1,16 @@
 //! What `check` answers, and how it is written.
 
-ghost use Rattle.std.specs.Prelude.{◌≡◌, ◌+◌, ◌≤◌, OnOk, OnErr, IsTrue, length};
+ghost use Rattle.std.specs.Prelude.{◌≡◌, ◌+◌, ◌≤◌, IfOk, OnOk, OnErr, IsTrue, length};
 ghost use Rattle.std.specs.List.{flat_map};
 ghost use Rattle.sched_io.specs.Faults.{Rose};
 ghost use Rattle.sched_io.specs.Written.{Adds, AddsPrefix};
-ghost use Rattle.ipanema_cli.specs.CheckAnswer.{IsCheckOf, all_hold, holds_in, line_of, output_of, status_of, verdict_line};
+ghost use Rattle.ipanema_cli.specs.CheckAnswer.{IsCheckOf, line_of, output_of, status_of, verdict_line};
 
 use crate::first_form::threshold_of;
-use crate::obligations::{Balance, NAMES, ObName, judge};
 use crate::status::Status;
+use count_filter::{Balance, JudgeMemory, NAMES, ObName, judge};
 use sched_io::{Line, PutFault, Sink, put_all};
+use std::alloc::Global;
 
 /// The most bytes of a policy's text.
 pub const POLICY_ROOM: u64 = 65536;
@@ -26,34 +27,13 @@ pub enum CheckAnswer {
 }
 
 /// The answer to a text within its limit.
-pub fn check_text(text: &[u8]) -> CheckAnswer
+pub fn check_text(alloc: Global, text: &[u8]) -> Result<CheckAnswer, JudgeMemory>
     requires { length text.now ≤ POLICY_ROOM }
-    ensures { IsCheckOf text.now result }
+    ensures { IfOk result (IsCheckOf text.now) }
 {
     match threshold_of(text) {
-        Some(threshold) => CheckAnswer::Judged(judge(threshold)),
-        None => CheckAnswer::NotBuilt,
-    }
-}
-
-impl Balance {
-    /// Whether the obligation holds.
-    fn holds(&self, obligation: ObName) -> bool
-        ensures { result ≡ holds_in self.now obligation }
-    {
-        match obligation {
-            ObName::B1 => self.sees,
-            ObName::B2 => self.spares,
-            ObName::B3 => self.narrows,
-            _ => true,
-        }
-    }
-
-    /// Whether all obligations hold.
-    fn all_hold(&self) -> bool
-        ensures { result ≡ all_hold self.now }
-    {
-        self.sees && self.spares && self.narrows
+        Some(threshold) => Ok(CheckAnswer::Judged(judge(alloc, threshold)?)),
+        None => Ok(CheckAnswer::NotBuilt),
     }
 }
 

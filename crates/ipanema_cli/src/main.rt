@@ -4,7 +4,6 @@
 mod answers;
 mod command;
 mod first_form;
-mod obligations;
 mod serial;
 mod status;
 #[cfg(test)]

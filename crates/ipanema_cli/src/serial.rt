@@ -11,6 +11,7 @@ ghost use Rattle.ipanema_cli.specs.declared.status.Status.TheVariants as status;
 use crate::answers::{CheckAnswer, POLICY_ROOM, check_text};
 use crate::command::{Request, request_of};
 use crate::status::Status;
+use count_filter::JudgeMemory;
 use sched_io::{Files, LoadFault, PutFault, Sink, put_all};
 use std::alloc::Global;
 
@@ -66,15 +67,18 @@ fn check<F: Files, S: Sink>(alloc: Global, policy: &str, files: &mut F, out: &mu
         (S.written out.old) (S.written out.new) result }
 {
     match files.load(alloc, policy, POLICY_ROOM) {
-        Ok(text) => report(&check_text(text.as_slice()), out),
-        Err(LoadFault::TooLong) => report(&CheckAnswer::TooLong, out),
+        Ok(text) => match check_text(alloc, text.as_slice()) {
+            Ok(answer) => give(&answer, out),
+            Err(JudgeMemory::Memory) => Status::Memory.code(),
+        },
+        Err(LoadFault::TooLong) => give(&CheckAnswer::TooLong, out),
         Err(LoadFault::Failed) => Status::ReadFault.code(),
         Err(LoadFault::Memory) => Status::Memory.code(),
     }
 }
 
-/// Writes an answer, and answers its status.
-fn report<S: Sink>(answer: &CheckAnswer, out: &mut S) -> u8
+/// Writes an answer, and gives its status.
+fn give<S: Sink>(answer: &CheckAnswer, out: &mut S) -> u8
     ensures { Writes (output_of answer.now) (status_of answer.now) (Rose (S.faults out.old) (S.faults out.new))
         (S.written out.old) (S.written out.new) result }
 {

@@ -1,9 +1,11 @@
 //! Policies as trees: what a policy's text says once its names, ranges and phases are known.
 #![tactic(auto)]
 
+mod copies;
 mod trees;
 mod typed;
 
+pub use copies::{copy_of_cond, copy_of_expr, copy_of_order};
 pub use trees::{Cmp, Cond, Expr};
 pub use typed::{
     Attr, AttrList, Case, CaseList, Event, HandlerList, Key, Load, Name, Order, PlaceRule, Policy,

@@ -1,5 +1,5 @@
 -- The sinks in memory, as contracts see them.
-use Rattle.std.specs.Prelude.{ℕ, List, Option, ◌-◌, ◌<◌, ◌⊎◌, Contains, length}
+use Rattle.std.specs.Prelude.{ℕ, List, Option, ◌+◌, ◌<◌, ◌⊎◌, Contains, length}
 use Rattle.sched_io.specs.declared.memory_sink.MemorySink.{MemorySink}
 use Rattle.sched_io.specs.declared.steady_sink.SteadySink.{SteadySink}
 use Rattle.sched_io.specs.InMemory.{told_unless}
@@ -25,7 +25,7 @@ put_faults_of s = s.faults
 
 -- the next put of this piece fails: its number was chosen, or there is no room for it
 abbrev pub FailsNext : MemorySink → List ℕ → Type 0
-FailsNext s piece = Contains (failing_puts_of s) (puts_of s) ⊎ (room_of s - length (bytes_of s) < length piece)
+FailsNext s piece = Contains (failing_puts_of s) (puts_of s) ⊎ (room_of s < length (bytes_of s) + length piece)
 
 -- the bytes that the sink kept: the first that it was given, as far as it has room
 abbrev pub kept_by : SteadySink → List ℕ

@@ -1,7 +1,7 @@
 //! The real files and the real standard output. They tell nothing of what they hold, and no proof speaks of what
 //! the system does: they only count its failures.
 
-ghost use Rattle.std.specs.Prelude.{ℕ, List, None, Option};
+ghost use Rattle.std.specs.Prelude.{◌≡◌, ℕ, List, None, Option};
 ghost use Rattle.sched_io.specs.Told.{Told, untold};
 
 use crate::faults::{LoadFault, PutFault};
@@ -20,8 +20,12 @@ pub struct DiskFiles<'a, R> {
 }
 
 impl<'a, R> DiskFiles<'a, R> {
+    ghost use Rattle.sched_io.specs.Adapters.{disk_faults};
+
     /// The files that this runtime reaches.
-    pub fn new(rt: &'a R) -> DiskFiles<'a, R> {
+    pub fn new(rt: &'a R) -> DiskFiles<'a, R>
+        ensures { disk_faults result ≡ 0 }
+    {
         DiskFiles { rt, faults: 0 }
     }
 }
@@ -62,8 +66,12 @@ pub struct StdoutSink<'a, R> {
 }
 
 impl<'a, R> StdoutSink<'a, R> {
+    ghost use Rattle.sched_io.specs.Adapters.{stdout_faults};
+
     /// The standard output that this runtime reaches.
-    pub fn new(rt: &'a R) -> StdoutSink<'a, R> {
+    pub fn new(rt: &'a R) -> StdoutSink<'a, R>
+        ensures { stdout_faults result ≡ 0 }
+    {
         StdoutSink { rt, faults: 0 }
     }
 }

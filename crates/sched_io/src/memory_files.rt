@@ -73,6 +73,7 @@ impl Files for MemoryFiles {
         ensures chosen { Contains (failing_of self.old) (loads_of self.old) → IsErrOf result LoadFault.Failed }
         ensures only_chosen { IsErrOf result LoadFault.Failed →
             Contains (failing_of self.old) (loads_of self.old) ⊎ (told_by self.old name.now ≡ missing) }
+        ensures steady { IsErrOf result LoadFault.Failed ⊎ (faults_of self.new ≡ faults_of self.old) }
         ensures failing { failing_of self.new ≡ failing_of self.old }
         ensures loads { loads_of self.new ≡ min (loads_of self.old + 1) u64.MAX }
     {

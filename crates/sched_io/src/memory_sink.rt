@@ -6,7 +6,7 @@ ghost use Rattle.sched_io.specs.Written.{Adds};
 
 use crate::faults::{IoMemory, PutFault};
 use crate::sinks::Sink;
-use std::alloc::{AllocError, Global};
+use std::alloc::Global;
 
 /// A sink in memory with a room that it took when it was made. It tells its bytes and takes whole pieces.
 #[derive(Drop)]
@@ -68,6 +68,7 @@ impl Sink for MemorySink {
         ensures later { put_faults_of self.old ≤ put_faults_of self.new }
 
         ensures whole { IfOk result (λ count. count ≡ length piece.now) }
+        ensures steady { OnOk result (put_faults_of self.new ≡ put_faults_of self.old) }
         ensures chosen { IsErr result ↔ FailsNext self.old piece.now }
         ensures same { (room_of self.new ≡ room_of self.old) × (failing_puts_of self.new ≡ failing_puts_of self.old) }
         ensures puts { puts_of self.new ≡ min (puts_of self.old + 1) u64.MAX }

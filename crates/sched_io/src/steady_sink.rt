@@ -44,7 +44,7 @@ impl SteadySink {
 }
 
 impl Sink for SteadySink {
-    ghost use Rattle.std.specs.Prelude.{◌≡◌, ◌≢◌, ◌++◌, ◌<◌, ◌≤◌, [], IfOk, IsOk, OnErr, OnOk, length, take};
+    ghost use Rattle.std.specs.Prelude.{◌≡◌, ◌≢◌, ◌+◌, ◌++◌, ◌<◌, ◌≤◌, [], Some, IfOk, IsOk, OnErr, OnOk, length, take};
     ghost use Rattle.sched_io.specs.Faults.{Rose};
     ghost use Rattle.sched_io.specs.Sinks.{kept_by, steady_room_of, told_by_steady};
     ghost use Rattle.sched_io.specs.Written.{Adds};
@@ -62,6 +62,8 @@ impl Sink for SteadySink {
         ensures later { 0 ≤ 0 }
 
         ensures steady { IsOk result }
+        ensures tells { length (kept_by self.old) + length piece.now ≤ steady_room_of self.old →
+            told_by_steady self.old ≡ Some (kept_by self.old) → told_by_steady self.new ≡ Some (kept_by self.new) }
         ensures whole { IfOk result (λ count. count ≡ length piece.now) }
         ensures kept { kept_by self.new ≡ take (steady_room_of self.old) (kept_by self.old ++ piece.now) }
         ensures same { steady_room_of self.new ≡ steady_room_of self.old }

@@ -2,7 +2,8 @@
 use Rattle.std.specs.List.{flat_map}
 use Rattle.std.proofs.lemmas.Result.{err_from_is_err_and}
 use Rattle.sched_io.proofs.WrittenLemmas.{Adds-append, AddsPrefix-append, AddsPrefix-front}
-use Rattle.ipanema_cli.specs.CheckAnswer.{line_of, ob_names, verdict_line}
+use Rattle.count_filter.specs.Judged.{ob_names}
+use Rattle.ipanema_cli.specs.CheckAnswer.{line_of, verdict_line}
 use Rattle.ipanema_cli.proofs.answers.put_judged.Goals as goal
 
 pub returns-in_err-put_lines-clause-prefix : goal.returns-in_err-put_lines-clause-prefix

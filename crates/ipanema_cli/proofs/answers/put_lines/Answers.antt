@@ -6,8 +6,8 @@ use Rattle.std.proofs.lemmas.Result.{err_from_is_err_and}
 use Rattle.sched_io.specs.Written.{AddsPrefix}
 use Rattle.sched_io.proofs.WrittenLemmas.{Adds-append, AddsPrefix-append, AddsPrefix-front}
 use Rattle.ipanema_cli.specs.CheckAnswer.{line_of}
-use Rattle.ipanema_cli.specs.declared.obligations.ObName.{ObName}
-use Rattle.ipanema_cli.specs.declared.obligations.ObName.TheVariants.{B1}
+use Rattle.count_filter.specs.declared.obligations.ObName.{ObName}
+use Rattle.count_filter.specs.declared.obligations.ObName.TheVariants.{B1}
 use Rattle.ipanema_cli.proofs.answers.put_lines.Goals as goal
 
 -- what is left is the next line and the lines after it

@@ -5,18 +5,18 @@ use Rattle.ipanema_cli.proofs.WritesLemmas.{some_long_text}
 use Rattle.ipanema_cli.specs.declared.answers.CheckAnswer.TheVariants as answer
 use Rattle.ipanema_cli.proofs.serial.check.Goals as goal
 
-pub returns-in-Ok : goal.returns-in-Ok
-returns-in-Ok g c =
-    answered c.as_slice.result.now c.check_text.result
+pub returns-in-Ok-check_text : goal.returns-in-Ok-check_text
+returns-in-Ok-check_text g c =
+    answered c.as_slice.result.now c.in-Ok-check_text.answer
     (record {
       there = λ h. elim (c.in-Ok.ensures.missing h) [ inl failed ↦ cc | inr memory ↦ cc ];
       same = λ bytes h. c.as_slice.ensures.value ∙ c.in-Ok.ensures.bytes bytes h;
     })
-    c.check_text.ensures c.report.ensures
+    c.in-Ok-check_text.ensures c.give.ensures
 
 pub returns-in-Err-TooLong : goal.returns-in-Err-TooLong
 returns-in-Err-TooLong g c =
     let ensures = rw c.in-Err-TooLong.field-0-is at c.in-Err-TooLong.ensures in
     let long = some_long_text (g.F.Files.told c.args.files.now c.args.policy.now)
     (λ h. elim (ensures.missing h) [ inl failed ↦ cc | inr memory ↦ cc ]) (ensures.too_long refl) in
-    answered long.0 answer.TooLong long.1 long.2 c.report-in-Err-TooLong.ensures
+    answered long.0 answer.TooLong long.1 long.2 c.give-in-Err-TooLong.ensures

@@ -1,7 +1,7 @@
-//! The names of the obligations, and which of them hold of a policy of the first form.
+//! The names of the obligations.
 
-ghost use Rattle.std.specs.Prelude.{◌≡◌, ◌≤◌, ◌↔◌, IsTrue, length};
-ghost use Rattle.ipanema_cli.specs.CheckAnswer.{Judges, ob_text};
+ghost use Rattle.std.specs.Prelude.{◌≡◌, ◌≤◌, length};
+ghost use Rattle.count_filter.specs.Judged.{ob_text};
 
 /// The most threads of a trace, and so of a core.
 pub const MAX_THREADS: u32 = 1023;
@@ -70,28 +70,5 @@ impl ObName {
             ObName::H1Block => "H1.block",
             ObName::H2Block => "H2.block",
         }
-    }
-}
-
-/// Which of the balance obligations hold. Those of the handlers hold of every policy of the first form, whose
-/// handlers are the defaults.
-#[derive(Clone, Copy)]
-pub struct Balance {
-    /// An idle core sees every overloaded one.
-    pub sees: bool,
-    /// Only overloaded cores are victims.
-    pub spares: bool,
-    /// A move narrows the gap.
-    pub narrows: bool,
-}
-
-/// What the obligations are for a policy with that threshold.
-pub fn judge(threshold: u32) -> Balance
-    ensures { Judges threshold result }
-{
-    Balance {
-        sees: threshold <= 2,
-        spares: threshold >= 2,
-        narrows: threshold >= 2,
     }
 }

@@ -1,8 +1,8 @@
 -- What the obligations say of a filter that asks for at least so many threads more, where each thread weighs 1.
 use Rattle.std.specs.Prelude.{◌≡◌, ℕ, ◌+◌, ◌<◌, ◌≤◌, List, [], ◌∷◌, Bool, true, Some, Contains, slice_get}
-use Rattle.ipanema_cli.specs.declared.obligations.TheConstants.{MAX_THREADS}
-use Rattle.ipanema_cli.specs.declared.obligations.ObName.{ObName}
-use Rattle.ipanema_cli.specs.declared.obligations.ObName.TheVariants as name
+use Rattle.count_filter.specs.declared.obligations.TheConstants.{MAX_THREADS}
+use Rattle.count_filter.specs.declared.obligations.ObName.{ObName}
+use Rattle.count_filter.specs.declared.obligations.ObName.TheVariants as name
 
 -- thread count and load of a core fit together
 pub record LoadsFit (count load : ℕ) : Type 0 where
@@ -45,7 +45,7 @@ NoOverlap guards = (i j : ℕ) → i < j → slice_get guards i ≡ Some true �
 abbrev pub NoGap : List Bool → Type 0
 NoGap guards = Contains guards true
 
--- what each obligation says of a policy of the first form
+-- what each obligation says of a policy with that filter and the default handlers
 abbrev pub Statement : ObName → ℕ → Type 0
 Statement name.B1 threshold = IdleSeesOverloaded threshold
 Statement name.B2 threshold = VictimIsOverloaded threshold

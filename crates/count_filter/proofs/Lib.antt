@@ -1,0 +1,6 @@
+pub mod Cores
+pub mod Handlers
+pub mod Leaves
+pub mod Narrows
+pub mod Sees
+pub mod Spares

@@ -1,0 +1,4 @@
+pub mod Obligations
+pub mod Judged
+pub mod Rows
+pub mod Systems

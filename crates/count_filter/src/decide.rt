@@ -1,0 +1,102 @@
+//! Which obligations hold of a filter that asks for at least so many threads more.
+
+ghost use Rattle.std.specs.Prelude.{◌↔◌, IfOk, IsTrue};
+ghost use Rattle.count_filter.specs.Judged.{Judges};
+ghost use Rattle.count_filter.specs.Obligations.{IdleSeesOverloaded, MoveNarrowsGap, VictimIsOverloaded};
+
+use crate::balance::Balance;
+use crate::reasons::{has_no_solution, leaf_of, point_of};
+use crate::systems::{narrows_system, sees_system, spares_system};
+use linear_cert::Mult;
+use std::alloc::{AllocError, Global};
+
+/// Why the obligations weren't judged.
+#[derive(Clone, Copy, Debug)]
+pub enum JudgeMemory {
+    /// There was no memory for a system, a certificate or a point.
+    Memory,
+}
+
+impl From<AllocError> for JudgeMemory {
+    ghost use Rattle.std.specs.Prelude.{◌≡◌};
+    ghost use Rattle.count_filter.specs.declared.decide.JudgeMemory.TheVariants.{Memory};
+
+    ghost from_gives = { λ _ fault. fault ≡ Memory };
+
+    fn from(_error: AllocError) -> JudgeMemory {
+        JudgeMemory::Memory
+    }
+}
+
+/// Which obligations hold of the filter `victim.nr - self.nr >= threshold`, where each thread weighs 1.
+///
+/// A balance obligation is said to hold after the checker of certificates has accepted a reason why no two cores
+/// break it, and to fail after two cores that break it were put into all ranges and rows of its system.
+pub fn judge(alloc: Global, threshold: u32) -> Result<Balance, JudgeMemory>
+    ensures { IfOk result (Judges threshold) }
+{
+    Ok(Balance {
+        sees: idle_sees_overloaded(alloc, threshold)?,
+        spares: victim_is_overloaded(alloc, threshold)?,
+        narrows: move_narrows_gap(alloc, threshold)?,
+    })
+}
+
+// Rows are numbered in the order in which `systems` adds them: those of the loads are 0 to 3. Points give
+// `self.nr`, `self.load`, `victim.nr` and `victim.load`.
+
+// Self is idle, victim is overloaded, and the filter doesn't let: together `0 <= threshold - 3`.
+const SEES_LEAF: [Mult; 3] = [
+    Mult { row: 4, by: 1 },
+    Mult { row: 5, by: 1 },
+    Mult { row: 6, by: 1 },
+];
+
+// From a threshold of 3 on an idle core doesn't see two threads.
+const UNSEEN_POINT: [i64; 4] = [0, 0, 2, 2];
+
+fn idle_sees_overloaded(alloc: Global, threshold: u32) -> Result<bool, JudgeMemory>
+    ensures { IfOk result (λ holds. IsTrue holds ↔ IdleSeesOverloaded threshold) }
+{
+    let system = sees_system(alloc, threshold)?;
+    let cert = leaf_of(alloc, &SEES_LEAF)?;
+    let point = point_of(alloc, &UNSEEN_POINT)?;
+    Ok(has_no_solution(&system, &cert, &point))
+}
+
+// Victim has at most one thread, the filter lets, and `self.nr` is at least 0: together `0 <= 1 - threshold`.
+const SPARES_LEAF: [Mult; 3] = [
+    Mult { row: 4, by: 1 },
+    Mult { row: 5, by: 1 },
+    Mult { row: 6, by: 1 },
+];
+
+// Up to a threshold of 1 a core with no thread takes the only thread of another.
+const LAST_THREAD_POINT: [i64; 4] = [0, 0, 1, 1];
+
+fn victim_is_overloaded(alloc: Global, threshold: u32) -> Result<bool, JudgeMemory>
+    ensures { IfOk result (λ holds. IsTrue holds ↔ VictimIsOverloaded threshold) }
+{
+    let system = spares_system(alloc, threshold)?;
+    let cert = leaf_of(alloc, &SPARES_LEAF)?;
+    let point = point_of(alloc, &LAST_THREAD_POINT)?;
+    Ok(has_no_solution(&system, &cert, &point))
+}
+
+// Self's load is at most its count, victim's at least, they differ by at most 1, and the filter lets: together
+// `0 <= 1 - threshold`.
+const NARROWS_LEAF: [Mult; 4] = [
+    Mult { row: 1, by: 1 },
+    Mult { row: 2, by: 1 },
+    Mult { row: 5, by: 1 },
+    Mult { row: 6, by: 1 },
+];
+
+fn move_narrows_gap(alloc: Global, threshold: u32) -> Result<bool, JudgeMemory>
+    ensures { IfOk result (λ holds. IsTrue holds ↔ MoveNarrowsGap threshold) }
+{
+    let system = narrows_system(alloc, threshold)?;
+    let cert = leaf_of(alloc, &NARROWS_LEAF)?;
+    let point = point_of(alloc, &LAST_THREAD_POINT)?;
+    Ok(has_no_solution(&system, &cert, &point))
+}
