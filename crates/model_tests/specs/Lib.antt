@@ -1,3 +1,4 @@
+pub mod FirstCheckRows
 pub mod Histories
 pub mod LegalRows
 pub mod Plans
