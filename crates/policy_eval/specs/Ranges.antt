@@ -45,7 +45,8 @@ declared_range a = range a.lo a.hi
 
 -- the ranges of the values that there is room for: past the declared attributes they are 0
 abbrev pub attribute_ranges : List Attr → List Range
-attribute_ranges attrs = map declared_range attrs ++ replicate (MAX_ATTRIBUTES - length attrs) (range (pos 0) (pos 0))
+attribute_ranges attrs =
+    map declared_range attrs ++ replicate (MAX_ATTRIBUTES - length attrs) (range (pos 0) (pos 0))
 
 -- the ranges of all variables wide enough for every resolved policy
 unfoldable pub wide_ranges : List Range

@@ -59,7 +59,9 @@ fn test(how: Cmp, left: &Expr, right: &Expr, env: &Env) -> bool
     requires left { IsEvaluable (expr_tree left.now) }
     requires right { IsEvaluable (expr_tree right.now) }
     requires values { AreIn wide_ranges env.now.vals }
-    ensures { result ≡ compared how (value_of env.now.vals (expr_tree left.now)) (value_of env.now.vals (expr_tree right.now)) }
+    ensures { result ≡ compared how
+        (value_of env.now.vals (expr_tree left.now))
+        (value_of env.now.vals (expr_tree right.now)) }
 {
     let left = value(left, env);
     let right = value(right, env);

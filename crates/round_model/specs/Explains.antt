@@ -10,9 +10,11 @@ use Rattle.round_model.specs.Reads.{value_read}
 
 -- the entry at the position changes thread count or load of the core
 abbrev pub ChangesSeen : Meaning → Plan → List Entry → ℕ → ℕ → Type 0
-ChangesSeen p plan history c position = value_read p plan history c position ≢ value_read p plan history c (suc position)
+ChangesSeen p plan history c position =
+    value_read p plan history c position ≢ value_read p plan history c (suc position)
 
--- the entry at `cause` explains the Fail at `k`: after the Fail read its thief or victim, and before the Fail, it
+-- the entry at `cause` explains the Fail at `k`: after the Fail read its thief or victim, and before the
+-- Fail, it
 -- changed what was read there
 pub record Explains (p : Meaning) (plan : Plan) (history : List Entry) (k cause : ℕ) : Type 0 where
   pub thief : ℕ

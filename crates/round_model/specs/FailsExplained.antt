@@ -23,8 +23,10 @@ pub record FailExplained (p : Meaning) (plan : Plan) (history : List Entry) (k :
 
 -- each Fail of the history is explained
 abbrev pub FailsExplained : Meaning → Plan → List Entry → Type 0
-FailsExplained p plan history = (k by from : ℕ) (reads : List ℕ) → get_elem? history k ≡ some (entry.Fail by from reads) → FailExplained p plan history k
+FailsExplained p plan history = (k by from : ℕ) (reads : List ℕ) →
+    get_elem? history k ≡ some (entry.Fail by from reads) → FailExplained p plan history k
 
 -- the law
 abbrev pub FailedStealsLaw : Type 0
-FailedStealsLaw = (p : Meaning) (plan : Plan) (history : List Entry) → Fits p plan → MeetsObligations p → Legal p plan history → FailsExplained p plan history
+FailedStealsLaw = (p : Meaning) (plan : Plan) (history : List Entry) → Fits p plan → MeetsObligations p →
+    Legal p plan history → FailsExplained p plan history

@@ -22,16 +22,20 @@ UntouchedLaw = (p : Meaning) (plan : Plan) (history : List Entry) (e : Entry) (c
 
 -- a legal history with an entry more is legal exactly where that entry is legal next
 pub record LegalGrows : Type 0 where
-  pub grows : (p : Meaning) (plan : Plan) (history : List Entry) (e : Entry) → Legal p plan history → LegalNext p plan history e → Legal p plan (history ++ e ∷ [])
-  pub last : (p : Meaning) (plan : Plan) (history : List Entry) (e : Entry) → Legal p plan (history ++ e ∷ []) → LegalNext p plan history e
+  pub grows : (p : Meaning) (plan : Plan) (history : List Entry) (e : Entry) → Legal p plan history →
+      LegalNext p plan history e → Legal p plan (history ++ e ∷ [])
+  pub last : (p : Meaning) (plan : Plan) (history : List Entry) (e : Entry) →
+      Legal p plan (history ++ e ∷ []) → LegalNext p plan history e
 
 -- the first entries of a legal history are a legal history
 abbrev pub PrefixLaw : Type 0
-PrefixLaw = (p : Meaning) (plan : Plan) (history : List Entry) (n : ℕ) → Legal p plan history → Legal p plan (take n history)
+PrefixLaw = (p : Meaning) (plan : Plan) (history : List Entry) (n : ℕ) → Legal p plan history →
+    Legal p plan (take n history)
 
 -- no entry changes the constants of a core
 abbrev pub ConstantsLaw : Type 0
-ConstantsLaw = (p : Meaning) (plan : Plan) (history : List Entry) (c : ℕ) → (after p plan history c).consts ≡ consts_of plan c
+ConstantsLaw = (p : Meaning) (plan : Plan) (history : List Entry) (c : ℕ) →
+    (after p plan history c).consts ≡ consts_of plan c
 
 -- the opening state is in bounds, with no thread
 abbrev pub OpeningLaw : Type 0

@@ -17,7 +17,7 @@ start_from k start (e ∷ es) = start_from (suc k) (cond (is_round e) (suc k) st
 abbrev pub round_start : List Entry → ℕ
 round_start history = start_from 0 0 history
 
--- the position is one that an entry at `position` may have read: no earlier than its round, no later than itself
+-- the position is one that an entry at `position` may have read: in its round, and no later than itself
 pub record IsReadOf (start position p : ℕ) : Type 0 where
   pub in_round : start ≤ p
   pub before_entry : p ≤ position
