@@ -37,9 +37,6 @@ abbrev pub greatest_weight : Load → ℕ
 greatest_weight load.Count = 1
 greatest_weight (load.Weight lo hi) = hi
 
-abbrev pub weights : Load → Range
-weights l = range (pos (least_weight l)) (pos (greatest_weight l))
-
 abbrev pub declared_range : Attr → Range
 declared_range a = range a.lo a.hi
 
