@@ -1,6 +1,9 @@
+pub mod Acceptance
 pub mod Cores
 pub mod Handlers
 pub mod Leaves
+pub mod Meanings
 pub mod Narrows
 pub mod Sees
 pub mod Spares
+pub mod Thresholds

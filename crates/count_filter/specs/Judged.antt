@@ -1,6 +1,8 @@
 -- The names of the obligations, and what it is to say which of them hold.
 use Rattle.std.specs.Prelude.{ℕ, ◌&&◌, ◌↔◌, List, [], ◌∷◌, Bool, true, IsTrue, codes}
-use Rattle.count_filter.specs.Obligations.{Statement}
+use Rattle.policy_tree.specs.Meaning.{Meaning}
+use Rattle.policy_eval.specs.Obligations.{IsMet}
+use Rattle.count_filter.specs.Policies.{statement_of}
 use Rattle.count_filter.specs.declared.balance.Balance.{Balance}
 use Rattle.count_filter.specs.declared.obligations.ObName.{ObName}
 use Rattle.count_filter.specs.declared.obligations.ObName.TheVariants as name
@@ -39,9 +41,10 @@ holds_in balance name.H2Yield = true
 holds_in balance name.H1Block = true
 holds_in balance name.H2Block = true
 
--- An obligation is said to hold exactly where it does.
-abbrev pub Judges : ℕ → Balance → Type 0
-Judges threshold balance = (obligation : ObName) → IsTrue (holds_in balance obligation) ↔ Statement obligation threshold
+-- An obligation is said to hold exactly where the policy meets it.
+abbrev pub Judges : Meaning → Balance → Type 0
+Judges p balance =
+    (obligation : ObName) → IsTrue (holds_in balance obligation) ↔ IsMet p (statement_of obligation)
 
 -- whether every obligation is said to hold
 abbrev pub all_hold : Balance → Bool

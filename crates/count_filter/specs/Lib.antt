@@ -1,4 +1,5 @@
 pub mod Obligations
 pub mod Judged
+pub mod Policies
 pub mod Rows
 pub mod Systems

@@ -1,6 +1,8 @@
--- What the obligations say of a filter that asks for at least so many threads more, where each thread weighs 1.
+-- The steps by which `judge` is proved, each a sentence on thread counts and loads alone: what the obligations say of a
+-- filter that asks for at least so many threads more, where each thread weighs 1. What `judge` promises isn't said here
+-- but of the policy, in `Judged`.
 use Rattle.std.specs.Prelude.{◌≡◌, ℕ, ◌+◌, ◌<◌, ◌≤◌, List, [], ◌∷◌, Bool, true, Some, Contains, slice_get}
-use Rattle.count_filter.specs.declared.obligations.TheConstants.{MAX_THREADS}
+use Rattle.sched_base.specs.declared.limits.TheConstants.{MAX_THREADS}
 use Rattle.count_filter.specs.declared.obligations.ObName.{ObName}
 use Rattle.count_filter.specs.declared.obligations.ObName.TheVariants as name
 
@@ -45,20 +47,16 @@ NoOverlap guards = (i j : ℕ) → i < j → slice_get guards i ≡ Some true �
 abbrev pub NoGap : List Bool → Type 0
 NoGap guards = Contains guards true
 
--- what each obligation says of a policy with that filter and the default handlers
-abbrev pub Statement : ObName → ℕ → Type 0
-Statement name.B1 threshold = IdleSeesOverloaded threshold
-Statement name.B2 threshold = VictimIsOverloaded threshold
-Statement name.B3 threshold = MoveNarrowsGap threshold
-Statement name.H1Enqueue threshold = NoOverlap default_guards
-Statement name.H2Enqueue threshold = NoGap default_guards
-Statement name.H1Tick threshold = NoOverlap default_guards
-Statement name.H2Tick threshold = NoGap default_guards
-Statement name.H1Yield threshold = NoOverlap default_guards
-Statement name.H2Yield threshold = NoGap default_guards
-Statement name.H1Block threshold = NoOverlap default_guards
-Statement name.H2Block threshold = NoGap default_guards
-
--- the policy meets each of its obligations
-abbrev pub MeetsObligations : ℕ → Type 0
-MeetsObligations threshold = (obligation : ObName) → Statement obligation threshold
+-- the sentence of each obligation, for that filter and the default handlers
+abbrev pub Sentence : ObName → ℕ → Type 0
+Sentence name.B1 threshold = IdleSeesOverloaded threshold
+Sentence name.B2 threshold = VictimIsOverloaded threshold
+Sentence name.B3 threshold = MoveNarrowsGap threshold
+Sentence name.H1Enqueue threshold = NoOverlap default_guards
+Sentence name.H2Enqueue threshold = NoGap default_guards
+Sentence name.H1Tick threshold = NoOverlap default_guards
+Sentence name.H2Tick threshold = NoGap default_guards
+Sentence name.H1Yield threshold = NoOverlap default_guards
+Sentence name.H2Yield threshold = NoGap default_guards
+Sentence name.H1Block threshold = NoOverlap default_guards
+Sentence name.H2Block threshold = NoGap default_guards

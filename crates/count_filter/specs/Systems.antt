@@ -1,10 +1,10 @@
 -- The systems of the obligations: a solution of one is a pair of cores at which the obligation fails.
 use Rattle.std.specs.Prelude.{ℕ, List, [], ◌∷◌, ◌++◌, pos, neg_ℤ, ◌-ℤ◌}
+use Rattle.sched_base.specs.declared.limits.TheConstants.{MAX_THREADS}
 use Rattle.linear_form.specs.System.{LinearSystem}
 use Rattle.linear_form.specs.declared.form.Row.{Row}
 use Rattle.linear_form.specs.declared.form.Bound.{Bound}
 use Rattle.count_filter.specs.Rows.{at_least, at_most, difference_at_most}
-use Rattle.count_filter.specs.declared.obligations.TheConstants.{MAX_THREADS}
 use Rattle.count_filter.specs.declared.rows.TheConstants.{SELF_COUNT, SELF_LOAD, VICTIM_COUNT, VICTIM_LOAD}
 
 -- the range of a thread count, and of a load, since each thread weighs 1

@@ -1,8 +1,9 @@
 //! Which obligations hold of a filter that asks for at least so many threads more.
 
-ghost use Rattle.std.specs.Prelude.{◌↔◌, IfOk, IsTrue};
+ghost use Rattle.std.specs.Prelude.{ℕ, List, ◌↔◌, IfOk, IsTrue};
 ghost use Rattle.count_filter.specs.Judged.{Judges};
 ghost use Rattle.count_filter.specs.Obligations.{IdleSeesOverloaded, MoveNarrowsGap, VictimIsOverloaded};
+ghost use Rattle.count_filter.specs.Policies.{policy_with};
 
 use crate::balance::Balance;
 use crate::reasons::{has_no_solution, leaf_of, point_of};
@@ -28,12 +29,13 @@ impl From<AllocError> for JudgeMemory {
     }
 }
 
-/// Which obligations hold of the filter `victim.nr - self.nr >= threshold`, where each thread weighs 1.
+/// Which obligations a policy meets whose loads are counts, whose filter is `victim.nr - self.nr >= threshold`, and
+/// which says no more, whatever its name. Each thread weighs 1, and the handlers are the default ones.
 ///
 /// A balance obligation is said to hold after the checker of certificates has accepted a reason why no two cores
 /// break it, and to fail after two cores that break it were put into all ranges and rows of its system.
 pub fn judge(alloc: Global, threshold: u32) -> Result<Balance, JudgeMemory>
-    ensures { IfOk result (Judges threshold) }
+    ensures { IfOk result (λ balance. (name : List ℕ) → Judges (policy_with name threshold) balance) }
 {
     Ok(Balance {
         sees: idle_sees_overloaded(alloc, threshold)?,

@@ -10,4 +10,4 @@ mod systems;
 
 pub use balance::Balance;
 pub use decide::{JudgeMemory, judge};
-pub use obligations::{MAX_THREADS, NAMES, OB_NAME_ROOM, ObName};
+pub use obligations::{NAMES, OB_NAME_ROOM, ObName};

@@ -3,9 +3,6 @@
 ghost use Rattle.std.specs.Prelude.{◌≡◌, ◌≤◌, length};
 ghost use Rattle.count_filter.specs.Judged.{ob_text};
 
-/// The most threads of a trace, and so of a core.
-pub const MAX_THREADS: u32 = 1023;
-
 /// An obligation by its name in the output.
 #[derive(Clone, Copy)]
 pub enum ObName {

@@ -6,12 +6,12 @@ ghost use Rattle.count_filter.specs.Rows.{with_rows};
 ghost use Rattle.count_filter.specs.Systems.{fit_rows, narrows_system, sees_system, spares_system, system_of_cores};
 
 use crate::decide::JudgeMemory;
-use crate::obligations::MAX_THREADS;
 use crate::rows::{
     SELF_COUNT, SELF_LOAD, VICTIM_COUNT, VICTIM_LOAD, add_at_least, add_at_most,
     add_difference_at_most,
 };
 use linear_form::{Bound, System};
+use sched_base::MAX_THREADS;
 use std::alloc::Global;
 
 // Every thread weighs 1, so loads and thread counts have one range.

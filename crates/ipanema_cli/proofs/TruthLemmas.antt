@@ -1,64 +1,26 @@
 -- From how a call ends to the truth of what it says.
-use Rattle.std.proofs.Common.{◌≡◌, ◌≢◌, ℕ, ◌≤◌, inl, inr, List, [], ◌∷◌, Option, Some, None, Bool, true, false, ◌&&◌, codes, refl, sym, ◌∙◌, ap, arith, length, if◌then◌else◌, subst}
+use Rattle.std.proofs.Common.{◌≡◌, ◌≢◌, ℕ, ◌≤◌, inl, inr, List, [], ◌∷◌, Option, Some, None, Bool, true, false, codes, refl, sym, ◌∙◌, ap, arith, length, if◌then◌else◌, subst}
 use Rattle.std.specs.Prelude.{IsTrue, ◌↔◌}
-use Rattle.std.proofs.lemmas.Bool.{leb-true}
 use Rattle.sched_io.specs.Told.{Told, MayHold, holds}
 use Rattle.sched_io.specs.Written.{Adds}
-use Rattle.count_filter.specs.Judged.{Judges, all_hold, holds_in}
+use Rattle.count_filter.specs.Judged.{Judges, all_hold}
 use Rattle.ipanema_cli.specs.CheckAnswer.{IsCheckOf, output_of, status_of}
 use Rattle.ipanema_cli.specs.Command.{Asked, check}
 use Rattle.ipanema_cli.specs.Ends.{Writes, answered, unread, no_memory, Ends}
-use Rattle.ipanema_cli.specs.FirstForm.{IsFirstForm}
-use Rattle.count_filter.specs.Obligations.{MeetsObligations}
+use Rattle.count_filter.specs.Policies.{policy_with}
+use Rattle.count_filter.proofs.Acceptance.{all_at_two, all_statements, only_two}
+use Rattle.policy_eval.specs.Obligations.{MeetsObligations}
+use Rattle.policy_tree.specs.Meaning.{Meaning}
+use Rattle.ipanema_cli.specs.FirstForm.{IsFirstForm, SpellsPolicy}
 use Rattle.ipanema_cli.specs.Promises.{IsTruthful, OneOf}
 use Rattle.ipanema_cli.specs.Status.{code_of}
 use Rattle.ipanema_cli.specs.declared.answers.TheConstants.{POLICY_ROOM}
 use Rattle.ipanema_cli.specs.declared.answers.CheckAnswer.{CheckAnswer}
 use Rattle.ipanema_cli.specs.declared.answers.CheckAnswer.TheVariants as answer
 use Rattle.count_filter.specs.declared.balance.Balance.{Balance}
-use Rattle.count_filter.specs.declared.obligations.ObName.{ObName}
-use Rattle.count_filter.specs.declared.obligations.ObName.TheVariants as name
 use Rattle.ipanema_cli.specs.declared.status.Status.TheVariants as status
 use Rattle.ipanema_cli.proofs.FormLemmas.{one_threshold}
-use Rattle.ipanema_cli.proofs.Thresholds as threshold
 use Rattle.ipanema_cli.proofs.WritesLemmas.{code_among, whole}
-
-three : (x y z : Bool) → (x && y && z) ≡ true → (x ≡ true) × (y ≡ true) × (z ≡ true)
-three true true true e = (refl, refl, refl)
-three true true false e = absurd (let clash : ⊥ = cc in clash)
-three true false z e = absurd (let clash : ⊥ = cc in clash)
-three false y z e = absurd (let clash : ⊥ = cc in clash)
-
--- where all hold, each does
-each_holds : (balance : Balance) → all_hold balance ≡ true → (obligation : ObName) → IsTrue (holds_in balance obligation)
-each_holds balance h name.B1 = (three balance.sees balance.spares balance.narrows h).0
-each_holds balance h name.B2 = (three balance.sees balance.spares balance.narrows h).1
-each_holds balance h name.B3 = (three balance.sees balance.spares balance.narrows h).2
-each_holds balance h name.H1Enqueue = refl
-each_holds balance h name.H2Enqueue = refl
-each_holds balance h name.H1Tick = refl
-each_holds balance h name.H2Tick = refl
-each_holds balance h name.H1Yield = refl
-each_holds balance h name.H2Yield = refl
-each_holds balance h name.H1Block = refl
-each_holds balance h name.H2Block = refl
-
-meets : (k : ℕ) (balance : Balance) → Judges k balance → all_hold balance ≡ true → MeetsObligations k
-meets k balance judges h obligation = (judges obligation).0 (each_holds balance h obligation)
-
--- a policy of the first form meets its obligations at the threshold 2 alone
-only_two : (k : ℕ) → MeetsObligations k → k ≡ 2
-only_two k met =
-    let small = leb-true k 2 ((threshold.sees k).1 (met name.B1)) in
-    let large = leb-true 2 k ((threshold.spares k).1 (met name.B2)) in
-    omega arith
-
-all_at_two : (balance : Balance) → Judges 2 balance → all_hold balance ≡ true
-all_at_two balance judges =
-    let sees : balance.sees ≡ true = (judges name.B1).1 ((threshold.sees 2).0 refl) in
-    let spares : balance.spares ≡ true = (judges name.B2).1 ((threshold.spares 2).0 refl) in
-    let narrows : balance.narrows ≡ true = (judges name.B3).1 ((threshold.narrows 2).0 refl) in
-    rw (sees, spares, narrows) refl
 
 verdict_0 : (b : Bool) → code_of (if b then status.Done else status.Refused) ≡ 0 → b ≡ true
 verdict_0 true e = refl
@@ -70,28 +32,32 @@ verdict_not_2 false e = omega arith
 
 -- the facts of a text and its answer that the promises are made of
 record Answers (text : List ℕ) (a : CheckAnswer) (before after : Option (List ℕ)) : Type 0 where
-  accepted : code_of (status_of a) ≡ 0 → IsFirstForm text 2 × MeetsObligations 2
+  accepted : code_of (status_of a) ≡ 0 → (name : List ℕ) × SpellsPolicy text (policy_with name 2) × MeetsObligations (policy_with name 2)
   accepts : IsFirstForm text 2 → length text ≤ POLICY_ROOM → code_of (status_of a) ≡ 0
-  lines : OneOf (0 ∷ 1 ∷ []) (code_of (status_of a)) → Adds (output_of a) before after → (k : ℕ) × (balance : Balance) × IsFirstForm text k × Judges k balance × Adds (output_of (answer.Judged balance)) before after × (IsTrue (all_hold balance) ↔ (code_of (status_of a) ≡ 0))
+  lines : OneOf (0 ∷ 1 ∷ []) (code_of (status_of a)) → Adds (output_of a) before after → (p : Meaning) × (balance : Balance) × SpellsPolicy text p × Judges p balance × Adds (output_of (answer.Judged balance)) before after × (IsTrue (all_hold balance) ↔ (code_of (status_of a) ≡ 0))
   other_form : length text ≤ POLICY_ROOM → ((k : ℕ) → IsFirstForm text k → ⊥) → code_of (status_of a) ≡ 2
   not_built : code_of (status_of a) ≡ 2 → Adds (output_of a) before after → (length text ≤ POLICY_ROOM) × ((k : ℕ) → IsFirstForm text k → ⊥) × Adds (codes "policy 0 not-built\n") before after
 
 answers : (text : List ℕ) (a : CheckAnswer) (before after : Option (List ℕ)) → IsCheckOf text a → Answers text a before after
-answers text (answer.Judged balance) before after (k, short, form, judges) = record {
-  accepted = λ e.
-      let all = verdict_0 (all_hold balance) e in
-      let met = meets k balance judges all in
-      let two = only_two k met in
-      let Form : ℕ → Type 0 = λ n. IsFirstForm text n × MeetsObligations n in
-      subst Form two (form, met);
-  accepts = λ two _.
-      let same = one_threshold text k 2 form two in
-      let Judged : ℕ → Type 0 = λ n. Judges n balance in
-      rw (all_at_two balance (subst Judged same judges)) refl;
-  lines = λ e added. (k, balance, form, judges, added, ((λ all. rw all refl), (λ zero. verdict_0 (all_hold balance) zero)));
-  other_form = λ _ none. absurd (none k form);
-  not_built = λ e _. absurd (verdict_not_2 (all_hold balance) e);
-}
+answers text (answer.Judged balance) before after (p, short, (k, (form, is_policy)), judges) =
+    let Judged : Meaning → Type 0 = λ q. Judges q balance in
+    let judged = subst Judged is_policy judges in
+    let name : List ℕ = form.head.name in
+    record {
+      accepted = λ e.
+          let all = verdict_0 (all_hold balance) e in
+          let met = all_statements (policy_with name k) balance judged all in
+          let two = only_two name k met in
+          let Met : ℕ → Type 0 = λ n. MeetsObligations (policy_with name n) in
+          (name, (k, (form, ap (λ n. policy_with name n) (sym two))), subst Met two met);
+      accepts = λ form_2 _.
+          let same = one_threshold text k 2 form form_2 in
+          let JudgedAt : ℕ → Type 0 = λ n. Judges (policy_with name n) balance in
+          rw (all_at_two name balance (subst JudgedAt same judged)) refl;
+      lines = λ e added. (p, balance, (k, (form, is_policy)), judges, added, ((λ all. rw all refl), (λ zero. verdict_0 (all_hold balance) zero)));
+      other_form = λ _ none. absurd (none k form);
+      not_built = λ e _. absurd (verdict_not_2 (all_hold balance) e);
+    }
 answers text answer.NotBuilt before after (short, none) = record {
   accepted = λ e. absurd (omega arith);
   accepts = λ two _. absurd (none 2 two);
@@ -123,7 +89,7 @@ text_answered policy told write_fault before after code text a may is_check writ
     record {
       accepted = λ h.
           let is_0 : code_of (status_of a) ≡ 0 = elim among [ inl e ↦ sym e ∙ h | inr (inl e) ↦ absurd (omega arith) | inr (inr e) ↦ absurd (omega arith) ] in
-          let found = facts.accepted is_0 in ((policy, text, refl, may, found.0), found.1);
+          let found = facts.accepted is_0 in (found.0, (policy, text, refl, may, found.1), found.2);
       accepts = λ other held e tells short two.
           let is_text = Held other held e tells in
           elim among [

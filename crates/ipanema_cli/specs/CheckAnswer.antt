@@ -1,7 +1,8 @@
 -- What `check` answers: a line for each obligation and the verdict, or one line where the text isn't judged.
-use Rattle.std.specs.Prelude.{ℕ, ◌<◌, ◌≤◌, ◌&&◌, ◌↔◌, List, [], ◌∷◌, ◌++◌, Bool, true, IsTrue, codes, if◌then◌else◌, length}
+use Rattle.std.specs.Prelude.{ℕ, ◌<◌, ◌≤◌, List, ◌++◌, codes, if◌then◌else◌, length}
 use Rattle.std.specs.List.{flat_map}
-use Rattle.ipanema_cli.specs.FirstForm.{IsFirstForm}
+use Rattle.policy_tree.specs.Meaning.{Meaning}
+use Rattle.ipanema_cli.specs.FirstForm.{IsFirstForm, SpellsPolicy}
 use Rattle.count_filter.specs.Judged.{Judges, all_hold, holds_in, ob_names, ob_text}
 use Rattle.ipanema_cli.specs.declared.answers.TheConstants.{POLICY_ROOM}
 use Rattle.ipanema_cli.specs.declared.answers.CheckAnswer.{CheckAnswer}
@@ -35,6 +36,6 @@ status_of answer.TooLong = status.TooMuch
 -- The answer is the one that the text gets.
 abbrev pub IsCheckOf : List ℕ → CheckAnswer → Type 0
 IsCheckOf text (answer.Judged balance) =
-    (threshold : ℕ) × (length text ≤ POLICY_ROOM) × IsFirstForm text threshold × Judges threshold balance
+    (p : Meaning) × (length text ≤ POLICY_ROOM) × SpellsPolicy text p × Judges p balance
 IsCheckOf text answer.NotBuilt = (length text ≤ POLICY_ROOM) × ((threshold : ℕ) → IsFirstForm text threshold → ⊥)
 IsCheckOf text answer.TooLong = POLICY_ROOM < length text

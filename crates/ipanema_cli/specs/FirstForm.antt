@@ -3,6 +3,8 @@ use Rattle.std.specs.Prelude.{◌≡◌, ℕ, ◌+◌, ◌-◌, ◌*◌, ◌≤�
 use Rattle.std.specs.Char.{is_ascii_alphabetic, is_ascii_alphanumeric, is_ascii_digit}
 use Rattle.std.specs.List.{list_all, prefix_len}
 use Rattle.std.specs.Str.{bytes_eq}
+use Rattle.policy_tree.specs.Meaning.{Meaning}
+use Rattle.count_filter.specs.Policies.{policy_with}
 use Rattle.ipanema_cli.specs.declared.first_form.TheConstants.{NAME_ROOM, NUMERAL_ROOM}
 
 -- a byte that may stand in a word
@@ -74,3 +76,8 @@ pub record IsFirstForm (text : List ℕ) (threshold : ℕ) : Type 0 where
   pub rest : List ℕ
   pub head : NamesPolicy text (middle ++ rest)
   pub number : BeginsWithNumber rest threshold ending
+
+-- The policy that the text spells: it has the text's name and threshold.
+abbrev pub SpellsPolicy : List ℕ → Meaning → Type 0
+SpellsPolicy text p =
+    (threshold : ℕ) × ((form : IsFirstForm text threshold) × (p ≡ policy_with form.head.name threshold))

@@ -6,8 +6,10 @@ use Rattle.sched_io.specs.Written.{Adds, AddsPrefix}
 use Rattle.count_filter.specs.Judged.{Judges, all_hold}
 use Rattle.ipanema_cli.specs.CheckAnswer.{IsCheckOf, output_of}
 use Rattle.ipanema_cli.specs.Command.{Asked, check}
-use Rattle.ipanema_cli.specs.FirstForm.{IsFirstForm}
-use Rattle.count_filter.specs.Obligations.{MeetsObligations}
+use Rattle.ipanema_cli.specs.FirstForm.{IsFirstForm, SpellsPolicy}
+use Rattle.count_filter.specs.Policies.{policy_with}
+use Rattle.policy_eval.specs.Obligations.{MeetsObligations}
+use Rattle.policy_tree.specs.Meaning.{Meaning}
 use Rattle.ipanema_cli.specs.declared.answers.TheConstants.{POLICY_ROOM}
 use Rattle.ipanema_cli.specs.declared.answers.CheckAnswer.{CheckAnswer}
 use Rattle.ipanema_cli.specs.declared.answers.CheckAnswer.TheVariants as answer
@@ -44,19 +46,19 @@ pub record HasCause (asked : Option Asked) (told : List ℕ → Told) (read_faul
   pub too_long : code ≡ 10 → (policy text : List ℕ) × (asked ≡ Some (check policy)) × MayHold (told policy) text × (POLICY_ROOM < length text) × Adds (codes "too-long policy\n") before after
   pub past_limit : (policy text : List ℕ) → asked ≡ Some (check policy) → told policy ≡ holds text → POLICY_ROOM < length text → OneOf (4 ∷ 5 ∷ 6 ∷ 10 ∷ []) code
 
--- The policy of the command's file, as far as it may be known, is of the first form with this threshold.
-abbrev pub AsksOf : Option Asked → (List ℕ → Told) → ℕ → Type 0
-AsksOf asked told threshold =
-    (policy text : List ℕ) × (asked ≡ Some (check policy)) × MayHold (told policy) text × IsFirstForm text threshold
+-- The command's file, as far as that is told, spells this policy.
+abbrev pub AsksOf : Option Asked → (List ℕ → Told) → Meaning → Type 0
+AsksOf asked told p =
+    (policy text : List ℕ) × (asked ≡ Some (check policy)) × MayHold (told policy) text × SpellsPolicy text p
 
 -- What `check` says is true.
 pub record IsTruthful (asked : Option Asked) (told : List ℕ → Told) (before after : Option (List ℕ)) (code : ℕ) : Type 0 where
   -- an accepted policy has the threshold 2 and meets its obligations
-  pub accepted : code ≡ 0 → AsksOf asked told 2 × MeetsObligations 2
+  pub accepted : code ≡ 0 → (name : List ℕ) × AsksOf asked told (policy_with name 2) × MeetsObligations (policy_with name 2)
   -- and every policy of the first form with the threshold 2 is accepted, if the outside lets it be
   pub accepts : (policy text : List ℕ) → asked ≡ Some (check policy) → told policy ≡ holds text → length text ≤ POLICY_ROOM → IsFirstForm text 2 → OneOf (0 ∷ 4 ∷ 5 ∷ 6 ∷ []) code
   -- each line that says that an obligation holds or fails is true, and the verdict is that of the lines
-  pub lines : OneOf (0 ∷ 1 ∷ []) code → (threshold : ℕ) × (balance : Balance) × AsksOf asked told threshold × Judges threshold balance × Adds (output_of (answer.Judged balance)) before after × (IsTrue (all_hold balance) ↔ (code ≡ 0))
+  pub lines : OneOf (0 ∷ 1 ∷ []) code → (p : Meaning) × (balance : Balance) × AsksOf asked told p × Judges p balance × Adds (output_of (answer.Judged balance)) before after × (IsTrue (all_hold balance) ↔ (code ≡ 0))
   -- a text of another form is refused as one that isn't read so far
   pub other_form : (policy text : List ℕ) → asked ≡ Some (check policy) → told policy ≡ holds text → length text ≤ POLICY_ROOM → ((threshold : ℕ) → IsFirstForm text threshold → ⊥) → OneOf (2 ∷ 4 ∷ 5 ∷ 6 ∷ []) code
   pub not_built : code ≡ 2 → (policy text : List ℕ) × (asked ≡ Some (check policy)) × MayHold (told policy) text × (length text ≤ POLICY_ROOM) × ((threshold : ℕ) → IsFirstForm text threshold → ⊥) × Adds (codes "policy 0 not-built\n") before after

@@ -13,15 +13,19 @@ mod top;
 use crate::status::Status;
 use sched_io::{DiskFiles, OpenGate, StdoutSink};
 use std::alloc::AllocError;
+use std::env;
+use std::io::ErrorKind;
 use std::process::ExitCode;
-use std::{env, io};
 
 /// The words of the call without the program's name. Words that are no text are as no words.
 fn words(rt: &HostRuntime) -> Result<Vec<String>, AllocError> {
-    let Ok(args) = env::args(rt) else {
-        return Ok(Vec::new(rt.alloc()));
-    };
-    args.skip(1).collect(rt.alloc())
+    match env::args(rt) {
+        Ok(args) => args.skip(1).collect(rt.alloc()),
+        Err(error) => match error.kind() {
+            ErrorKind::OutOfMemory => Err(AllocError),
+            _ => Ok(Vec::new(rt.alloc())),
+        },
+    }
 }
 
 fn main(rt: HostRuntime) -> ExitCode {

@@ -69,7 +69,7 @@ fn call<R: Threads + Wait + Sync>(
 fn words_and_texts(rt: HostRuntime) -> Result<(), Fail> {
     let alloc = rt.alloc();
     let basic = policy(alloc, "2")?;
-    let wrong_words: [&[&str]; 9] = [
+    let wrong_words: [&[&str]; 10] = [
         &[],
         &["check"],
         &["check", "p", "p"],
@@ -77,6 +77,7 @@ fn words_and_texts(rt: HostRuntime) -> Result<(), Fail> {
         &["-h"],
         &["--help"],
         &["check", ""],
+        &[""],
         &["check", "-p"],
         &["run", "p"],
     ];

@@ -29,7 +29,7 @@ NoTermIsLeft bounds rows mults = (k : ℕ) → k < length bounds → Cancels k b
 abbrev pub BoundIsNegative : List Bound → List Row → List Mult → Type 0
 BoundIsNegative bounds rows mults = AddsUp (λ sum. sum <ℤ pos 0) RightSide bounds rows mults
 
--- each named row exists, and the rows times their multipliers add up to `0 <= c` with c negative
+-- every row that is named is there, no variable is left in their sum, and its bound is negative
 pub record IsRightLeaf (bounds : List Bound) (rows : List Row) (mults : List Mult) : Type 0 where
   pub named : All (NamesRow bounds rows) mults
   pub no_term : NoTermIsLeft bounds rows mults

@@ -1,4 +1,4 @@
-//! A list over one vector, which contracts see as the list of its items.
+//! The list type of the product: a vector whose contracts speak of its items alone.
 #![tactic(auto)]
 
 ghost use Rattle.std.specs.Prelude.{◌≡◌, ◌↔◌, ◌^◌, ◌<◌, IsTrue, List, [], Some, length, slice_get, slice_index_or, vec_len};

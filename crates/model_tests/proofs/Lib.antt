@@ -1,5 +1,4 @@
 pub mod Beginnings
-pub mod FirstCheckRows
 pub mod MissingRows
 pub mod PolicyRows
 pub mod ResolvedRows

@@ -76,7 +76,7 @@ fair_meets : MeetsObligations fair
 fair_meets = all_obligations fair fair_balance (record { no_overlap = fair_no_overlap; no_gap = fair_no_gap })
 
 -- the constants of a core without attributes
-pub zeros_fit : AreIn (attribute_ranges []) no_attributes
+zeros_fit : AreIn (attribute_ranges []) no_attributes
 zeros_fit = (zero_in, (zero_in, (zero_in, (zero_in, (zero_in, (zero_in, (zero_in, (zero_in, tt))))))))
   where
     zero_in : IsIn (range (pos 0) (pos 0)) (pos 0)

@@ -1,4 +1,3 @@
-pub mod FirstCheckRows
 pub mod Histories
 pub mod LegalRows
 pub mod Plans

@@ -1,6 +1,5 @@
 //! Policies that are resolved and meet what they owe, plans that fit them, and what misses by one change.
 
-ghost use Rattle.model_tests.specs.FirstCheckRows.{FirstCheckLaw};
 ghost use Rattle.model_tests.specs.PolicyRows.{PolicyMisses, WorkedPoliciesFit};
 
 /// The basic and the fair policy are resolved and meet what they owe, and the worked plans fit them.
@@ -11,9 +10,4 @@ pub fn worked_policies_fit()
 /// Changes of one thing in the basic policy.
 pub fn policy_misses()
     ensures { PolicyMisses }
-{}
-
-/// The sentences that the first check is proved against are the statements of the policies that it reads.
-pub fn first_check_sentences()
-    ensures { FirstCheckLaw }
 {}

@@ -15,7 +15,7 @@ pub type AttrList = Items<Attr>;
 pub type SetList = Items<Set>;
 /// The cases of a handler, in the order of the text.
 pub type CaseList = Items<Case>;
-/// The keys of an order, the first of them the most significant. No key prefers the earlier to the later.
+/// The keys of an order, the first of them the most significant. Without a key the earlier comes first.
 pub type Order = Items<Key>;
 
 /// A whole policy.

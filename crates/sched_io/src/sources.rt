@@ -1,13 +1,13 @@
 //! Where files come from.
 
-ghost use Rattle.std.specs.Prelude.{◌≡◌, ◌≢◌, ℕ, ◌<◌, ◌≤◌, ◌⊎◌, List, IfOk, IsErrOf, IsOk, length, vec_len};
+ghost use Rattle.std.specs.Prelude.{◌≡◌, ◌≢◌, ℕ, ◌<◌, ◌≤◌, ◌⊎◌, List, IfOk, IsErrOf, length, vec_len};
 ghost use Rattle.sched_io.specs.Faults.{Rose};
 ghost use Rattle.sched_io.specs.Told.{Told, IfHolds, missing};
 
 use crate::faults::LoadFault;
 use std::alloc::Global;
 
-/// A source of files: which names are there and what each holds, where it tells that, and a count of its faults.
+/// A source of files. It may tell of a name whether a file has it, and of a file its bytes; it counts its faults.
 pub trait Files {
     /// What it tells of a name.
     ghost told: { Self → List ℕ → Told };

@@ -6,8 +6,8 @@ use crate::faults::{IoMemory, PutFault};
 use crate::sinks::Sink;
 use std::alloc::Global;
 
-/// A sink in memory that never fails: it keeps the first bytes, as far as it has room, and takes and drops what
-/// comes after them. It tells its bytes while none were dropped.
+/// A sink in memory that never fails. Once its room is used up it accepts bytes without keeping them, and from then on
+/// it doesn't tell what it was given.
 #[derive(Drop)]
 pub struct SteadySink {
     bytes: Vec<u8>,
