@@ -5,7 +5,7 @@ use Rattle.policy_eval.specs.Obligations.{MeetsBalanceObligations, MeetsHandlerO
 use Rattle.policy_eval.specs.Orders.{best_and_rest, best_of, precedes}
 use Rattle.policy_eval.specs.Values.{Assignment}
 
--- the best of the list, and the others in their order, are those of the list with the best taken out
+-- the first of the pair is the best of the list, and there is no pair where there is no best
 abbrev pub BestAndRestLaw : Type 0
 BestAndRestLaw = (keys : List KeyTree) (xs : List Assignment) →
     option_map (λ best. best.0) (best_and_rest (precedes keys) xs) ≡ best_of (precedes keys) xs

@@ -13,8 +13,7 @@ abbrev pub ChangesSeen : Meaning → Plan → List Entry → ℕ → ℕ → Typ
 ChangesSeen p plan history c position =
     value_read p plan history c position ≢ value_read p plan history c (suc position)
 
--- the entry at `cause` explains the Fail at `k`: after the Fail read its thief or victim, and before the
--- Fail, it
+-- the entry at `cause` explains the Fail at `k`: after the Fail read its thief or victim, and before the Fail, it
 -- changed what was read there
 pub record Explains (p : Meaning) (plan : Plan) (history : List Entry) (k cause : ℕ) : Type 0 where
   pub thief : ℕ

@@ -14,7 +14,7 @@ use Rattle.round_model.specs.Entries.{acting_core, acts, touches}
 use Rattle.round_model.specs.Fits.{Fits}
 use Rattle.round_model.specs.Legal.{Legal, LegalNext}
 
--- one more entry moves the state by its own effect, in the round that is open
+-- the state after a longer history: what its last entry makes of the state before it, in the open round
 abbrev pub OneMoreLaw : Type 0
 OneMoreLaw = (p : Meaning) (plan : Plan) (history : List Entry) (e : Entry)
     → after p plan (history ++ e ∷ []) ≡ moved p plan (round_of history) e (after p plan history)

@@ -43,7 +43,7 @@ module _ (p : Meaning) (plan : Plan) (history : List Entry) where
   StealsNarrow = (k : ℕ) (e : Entry) → get_elem? history k ≡ some e → IsTrue (is_steal e) →
       spread_at (suc k) + 2 ≤ spread_at k
 
-  -- every other entry by which nobody comes or leaves keeps thread count and load of every core
+  -- apart from steals and the entries that disturb a round, none changes a core's thread count or load
   abbrev pub StillKeepsLoads : Type 0
   StillKeepsLoads = (k c : ℕ) (e : Entry) → get_elem? history k ≡ some e → IsFalse (is_steal e) →
       IsFalse (disturbs e) → c < plan.cores

@@ -2,7 +2,7 @@
 
 ghost use Rattle.round_model.specs.Laws.{ActingLaw, ConstantsLaw, EnteringLaw, LegalGrows, OneMoreLaw, OpeningLaw, PrefixLaw, UntouchedLaw};
 
-/// One more entry moves the state by its own effect.
+/// The state after a longer history is what its last entry makes of the state before it.
 pub fn law_one_more()
     ensures { OneMoreLaw }
 {}
