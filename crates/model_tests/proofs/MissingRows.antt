@@ -34,11 +34,9 @@ two_cores_misses = record {
   attempts_before_working = λ r. absurd (let worked = r.row.worked in cc);
   works_twice = λ r. absurd (let first = r.row.first in cc);
   acts_as_a_core_that_is_not_there = λ r. absurd (let there = r.row.core in omega arith);
-  begins_a_round_too_soon = λ r. absurd (let complete = r.complete in cc);
   passes_over_a_candidate = λ r. absurd (let outcome = r.row.outcome in cc);
   fails_where_a_steal_is_due = λ r. absurd (let outcome = r.row.outcome in cc);
   steals_the_current_thread = λ r. absurd (let outcome = r.row.outcome in let same : ◌≡◌ {A = ℕ} 1 2 = cc in omega arith);
-  reads_before_the_round = λ r. absurd (let read = (r.row.read.each 0 0 (omega arith)).in_round in omega arith);
   reads_what_is_to_come = λ r. absurd (let read = (r.row.read.each 1 0 (omega arith)).before_entry in omega arith);
   reads_one_core_alone = λ r. absurd (let read = r.row.read.one_each in omega arith);
   begins_a_round_too_many = λ r. absurd (let due = r.due in cc);
@@ -52,6 +50,7 @@ other_misses = record {
   wakes_in_its_round = λ r. absurd r.row.next;
   places_on_the_greater_load = λ r. absurd (let target = r.row.placement.target in let same : ◌≡◌ {A = ℕ} 1 0 = cc in omega arith);
   places_without_reads = λ r. absurd (let read = r.row.placement.read.one_each in omega arith);
+  begins_a_round_too_soon = λ r. absurd (let complete = r.complete in cc);
   reads_the_round_before = λ r. absurd (let read = (r.row.read.each 0 0 (omega arith)).in_round in omega arith);
   steals_by_a_stale_read = λ r. absurd (let outcome = r.row.outcome in cc);
   sees_the_steal_and_fails = λ r. absurd (let outcome = r.row.outcome in cc);

@@ -1,12 +1,12 @@
 -- Rounds, causes, phases and owed entries of the worked histories.
-use Rattle.std.proofs.Common.{◌≡◌, ◌≤◌, ◌<◌, ◌⊎◌, ⊎_elim, inl, inr, ℕ, zero, suc, [], ◌∷◌, refl, arith, slice_index, slice_index_or, subst, take, ap, sym}
+use Rattle.std.proofs.Common.{◌≡◌, ◌≢◌, ◌≤◌, ◌<◌, ◌⊎◌, ⊎_elim, inl, inr, ℕ, zero, suc, [], ◌∷◌, refl, arith, slice_index, slice_index_or, subst, take, ap, sym}
 use mathlib.Core.Option.{some-injective}
 use Rattle.policy_eval.specs.Events.{holding_cases, outcomes_of, task_after_set}
 use Rattle.policy_eval.specs.Sights.{core_values, event_values, pair_values, thread_values}
 use Rattle.round_model.specs.After.{after, after_from, effect}
 use Rattle.round_model.specs.Attempts.{attempt_of}
 use Rattle.round_model.specs.Choices.{candidates_of, choice_of, target_of}
-use Rattle.round_model.specs.Cores.{Seen, opening_state, thread_count}
+use Rattle.round_model.specs.Cores.{CountAndLoad, opening_state, thread_count}
 use Rattle.round_model.specs.Entries.{acts, touches}
 use Rattle.round_model.specs.Legal.{is_complete, is_due}
 use Rattle.round_model.specs.Moves.{core_after_event, handed, received, released}
@@ -77,6 +77,27 @@ same_before_7 c which = ⊎_elim
     (λ (h : c ≡ 0). subst (λ d. value_read basic stale_read stale_read_history d 6 ≡ value_read basic stale_read stale_read_history d 7) (sym h) refl)
     which
 
+same_before_6 : (c : ℕ) → (c ≡ 2) ⊎ (c ≡ 0) → value_read basic stale_read stale_read_history c 5 ≡ value_read basic stale_read stale_read_history c 6
+unfolding acts touches effect after_from attempt_of candidates_of choice_of target_of opening_state is_due is_complete core_after_event handed received released scene_of entering_next waking_next worked holding_cases outcomes_of task_after_set pair_values core_values thread_values event_values owed
+same_before_6 c which = ⊎_elim
+    (λ (h : c ≡ 2). subst (λ d. value_read basic stale_read stale_read_history d 5 ≡ value_read basic stale_read stale_read_history d 6) (sym h) refl)
+    (λ (h : c ≡ 0). subst (λ d. value_read basic stale_read stale_read_history d 5 ≡ value_read basic stale_read stale_read_history d 6) (sym h) refl)
+    which
+
+-- between what was read and the failed steal, the idle units of cores 1 and 2 change neither core
+not_5 : Explains basic stale_read stale_read_history 8 5 → ⊥
+not_5 x = x.changes (same_before_6 x.core (core_2_or_0 5 x))
+
+not_6 : Explains basic stale_read stale_read_history 8 6 → ⊥
+not_6 x = x.changes (same_before_7 x.core (core_2_or_0 6 x))
+
+only_7 : (cause : ℕ) → Explains basic stale_read stale_read_history 8 cause → cause ≡ 7
+only_7 cause x =
+    let not_at_5 : cause ≢ 5 = λ at. not_5 (subst (Explains basic stale_read stale_read_history 8) at x) in
+    let not_at_6 : cause ≢ 6 = λ at. not_6 (subst (Explains basic stale_read stale_read_history 8) at x) in
+    let low = late cause x in let high = x.before_fail in
+    omega arith
+
 pub eight_threads_rounds : EightThreadsRounds
 unfolding acts touches effect after_from attempt_of candidates_of choice_of target_of opening_state is_due is_complete core_after_event handed received released scene_of entering_next waking_next worked holding_cases outcomes_of task_after_set pair_values core_values thread_values event_values owed
 eight_threads_rounds = record {
@@ -108,10 +129,11 @@ stale_read_explained = record {
     thief_or_victim = inr refl;
     after_read = omega arith;
     before_fail = omega arith;
-    changes = λ same. let counts : ◌≡◌ {A = ℕ} 2 1 = ap (λ (seen : Seen). seen.nr) same in absurd (omega arith);
+    changes = λ same. let counts : ◌≡◌ {A = ℕ} 2 1 = ap (λ (read : CountAndLoad). read.nr) same in absurd (omega arith);
   };
-  not_by_an_idle_unit = λ x. x.changes (same_before_7 x.core (core_2_or_0 6 x));
+  not_by_an_idle_unit = not_6;
   not_by_what_was_read = λ x. absurd (let after_it = late 3 x in omega arith);
+  only = only_7;
   no_fail_no_cause = λ x. absurd (let fails = x.fails in let same : entry.Steal 1 0 2 (5 ∷ 6 ∷ 1 ∷ []) ≡ entry.Fail x.thief x.victim x.reads = some-injective _ _ fails in cc);
 }
 

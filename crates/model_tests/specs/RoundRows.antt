@@ -11,7 +11,7 @@ use Rattle.model_tests.specs.Histories.{block_and_wake_history, eight_threads_hi
 use Rattle.model_tests.specs.Plans.{block_and_wake, eight_threads, stale_read}
 use Rattle.model_tests.specs.Policies.{basic, fair}
 
--- the rounds of the eight threads: the second alone is bad, and the first alone is not still
+-- of the rounds of the eight threads the second is bad and the third is not, and the first alone is not still
 pub record EightThreadsRounds : Type 0 where
   pub second_is_bad : IsBad basic eight_threads eight_threads_history 2
   pub third_is_not : ¬ IsBad basic eight_threads eight_threads_history 3
@@ -22,11 +22,12 @@ pub record EightThreadsRounds : Type 0 where
   pub entry_of_the_next_is_not : ¬ InStretch eight_threads_history 2 3 36
   pub opening_of_the_first_is_before : ¬ InStretch eight_threads_history 2 4 16
 
--- the failed steal at 8 is explained by the steal at 7, and by none before
+-- the failed steal at 8 is explained by the steal at 7, and by nothing else
 pub record StaleReadExplained : Type 0 where
   pub by_the_steal : Explains basic stale_read stale_read_history 8 7
   pub not_by_an_idle_unit : ¬ Explains basic stale_read stale_read_history 8 6
   pub not_by_what_was_read : ¬ Explains basic stale_read stale_read_history 8 3
+  pub only : (cause : ℕ) → Explains basic stale_read stale_read_history 8 cause → cause ≡ 7
   pub no_fail_no_cause : ¬ Explains basic stale_read stale_read_history 7 3
 
 -- the phases of thread 1 after each entry that names it, and where it stands then

@@ -1,7 +1,10 @@
 //! The worked rows of the model: each a function whose contract is the row.
 #![tactic(auto)]
 
+pub mod builders;
 pub mod legal;
 pub mod policies;
 pub mod rounds;
 pub mod serial;
+#[cfg(test)]
+mod tests;

@@ -2,7 +2,7 @@
 
 ghost use Rattle.model_tests.specs.RoundRows.{EightThreadsRounds, OwedEntries, StaleReadExplained, ThreadPhases};
 
-/// Of the rounds of the eight threads the second alone is bad, and the first alone is not still.
+/// Of the rounds of the eight threads the second is bad, the third is not, and the first alone is not still.
 pub fn eight_threads_rounds()
     ensures { EightThreadsRounds }
 {}

@@ -26,7 +26,9 @@ with_attribute (Some a) at x t = record t { attrs = slice_set t.attrs at (satura
 -- the thread after one assignment, whose value is computed from the thread as it stands
 unfoldable pub task_after_set : Meaning → Bool → List ℤ → Task → SetTree → Task
 task_after_set p fresh consts t s =
-    with_attribute (slice_get p.thread_attrs s.attr) s.attr (value_of (seen_by_handler fresh consts t) s.expr) t
+    with_attribute (slice_get p.thread_attrs s.attr) s.attr
+    (value_of (seen_by_handler fresh consts t) s.expr)
+    t
 
 -- the thread after the assignments of a case, in their order
 abbrev pub task_after_case : Meaning → Bool → List ℤ → Task → CaseTree → Task
@@ -34,13 +36,14 @@ task_after_case p fresh consts t c = fold (task_after_set p fresh consts) t c.se
 
 -- the cases of the event whose guards hold for the thread as it meets the event
 unfoldable pub holding_cases : Meaning → Event → Bool → List ℤ → Task → List CaseTree
-holding_cases p e fresh consts t = filter (λ (c : CaseTree). holds (seen_by_handler fresh consts t) c.guard) (cases_on p.handlers e)
+holding_cases p e fresh consts t =
+    filter (λ (c : CaseTree). holds (seen_by_handler fresh consts t) c.guard) (cases_on p.handlers e)
 
 -- the thread as the case leaves it, and where the case puts it
 abbrev pub outcome_of_case : Meaning → Bool → List ℤ → Task → CaseTree → Task × Put
 outcome_of_case p fresh consts t c = (task_after_case p fresh consts t c, c.put)
 
--- what comes of the event: one outcome for each case that holds, in order. None loses the thread, two double it
+-- what comes of the event: an outcome for each case that holds, in order. None loses the thread, two double it
 unfoldable pub outcomes_of : Meaning → Event → Bool → List ℤ → Task → List (Task × Put)
 outcomes_of p e fresh consts t = map (outcome_of_case p fresh consts t) (holding_cases p e fresh consts t)
 

@@ -5,21 +5,24 @@ use Rattle.policy_eval.specs.Obligations.{MeetsBalanceObligations, MeetsHandlerO
 use Rattle.policy_eval.specs.Orders.{best_and_rest, best_of, precedes}
 use Rattle.policy_eval.specs.Values.{Assignment}
 
--- the best of the list, and the others in their order, are those of the list with the best taken out
+-- the first of the pair is the best of the list, and there is no pair where there is no best
 abbrev pub BestAndRestLaw : Type 0
-BestAndRestLaw = (keys : List KeyTree) (xs : List Assignment) → option_map (λ best. best.0) (best_and_rest (precedes keys) xs) ≡ best_of (precedes keys) xs
+BestAndRestLaw = (keys : List KeyTree) (xs : List Assignment) →
+    option_map (λ best. best.0) (best_and_rest (precedes keys) xs) ≡ best_of (precedes keys) xs
 
--- the item stands in the list, no other comes strictly before it, and it comes strictly before each earlier one
+-- the item stands in the list, none comes strictly before it, and it comes strictly before each earlier one
 pub record IsBest (keys : List KeyTree) (xs : List Assignment) (best : Assignment) : Type 0 where
   pub at : ℕ
   pub inside : at < length xs
   pub is : slice_index_or xs at best ≡ best
-  pub none_before : (k : ℕ) (d : Assignment) → k < length xs → IsFalse (precedes keys (slice_index_or xs k d) best)
+  pub none_before : (k : ℕ) (d : Assignment) → k < length xs →
+      IsFalse (precedes keys (slice_index_or xs k d) best)
   pub earliest : (k : ℕ) (d : Assignment) → k < at → IsTrue (precedes keys best (slice_index_or xs k d))
 
 -- the best by the keys is what the name says
 abbrev pub BestLaw : Type 0
-BestLaw = (keys : List KeyTree) (xs : List Assignment) (best : Assignment) → best_of (precedes keys) xs ≡ Some best → IsBest keys xs best
+BestLaw = (keys : List KeyTree) (xs : List Assignment) (best : Assignment) →
+    best_of (precedes keys) xs ≡ Some best → IsBest keys xs best
 
 -- a policy meets its statements exactly where it meets what it owes for balance and for its handlers
 pub record ObligationParts : Type 0 where

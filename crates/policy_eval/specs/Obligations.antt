@@ -24,17 +24,19 @@ VictimIsOverloaded p = (own victim : CoreValues) → CoreFits p own → CoreFits
 -- the move of a thread narrows the gap between two loads, whichever thread the victim can have queued
 abbrev pub MoveNarrowsGap : Meaning → Type 0
 MoveNarrowsGap p = (own victim : CoreValues) (weight : ℕ) → CoreFits p own → CoreFits p victim → IsWeight p weight
-    → Holds (pair_values own victim) p.filter → weight + least_weight p.load * victim.nr ≤ victim.load + least_weight p.load → own.load + weight < victim.load
+    → Holds (pair_values own victim) p.filter
+    → weight + least_weight p.load * victim.nr ≤ victim.load + least_weight p.load
+    → own.load + weight < victim.load
 
 -- no two cases of the handler hold together
 abbrev pub NoOverlap : Meaning → Event → Type 0
-NoOverlap p e = (fresh : Bool) (consts : List ℤ) (t : Task) → AreIn (attribute_ranges p.core_attrs) consts → IsTask p t
-    → length (holding_cases p e fresh consts t) ≤ 1
+NoOverlap p e = (fresh : Bool) (consts : List ℤ) (t : Task)
+    → AreIn (attribute_ranges p.core_attrs) consts → IsTask p t → length (holding_cases p e fresh consts t) ≤ 1
 
 -- some case of the handler holds
 abbrev pub NoGap : Meaning → Event → Type 0
-NoGap p e = (fresh : Bool) (consts : List ℤ) (t : Task) → AreIn (attribute_ranges p.core_attrs) consts → IsTask p t
-    → 1 ≤ length (holding_cases p e fresh consts t)
+NoGap p e = (fresh : Bool) (consts : List ℤ) (t : Task)
+    → AreIn (attribute_ranges p.core_attrs) consts → IsTask p t → 1 ≤ length (holding_cases p e fresh consts t)
 
 -- the names of the statements
 pub data Statement : Type 0 where

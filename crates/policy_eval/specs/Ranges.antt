@@ -37,15 +37,13 @@ abbrev pub greatest_weight : Load → ℕ
 greatest_weight load.Count = 1
 greatest_weight (load.Weight lo hi) = hi
 
-abbrev pub weights : Load → Range
-weights l = range (pos (least_weight l)) (pos (greatest_weight l))
-
 abbrev pub declared_range : Attr → Range
 declared_range a = range a.lo a.hi
 
 -- the ranges of the values that there is room for: past the declared attributes they are 0
 abbrev pub attribute_ranges : List Attr → List Range
-attribute_ranges attrs = map declared_range attrs ++ replicate (MAX_ATTRIBUTES - length attrs) (range (pos 0) (pos 0))
+attribute_ranges attrs =
+    map declared_range attrs ++ replicate (MAX_ATTRIBUTES - length attrs) (range (pos 0) (pos 0))
 
 -- the ranges of all variables wide enough for every resolved policy
 unfoldable pub wide_ranges : List Range

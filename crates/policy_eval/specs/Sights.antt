@@ -9,13 +9,15 @@ abbrev pub no_attributes : List ℤ
 no_attributes = replicate MAX_ATTRIBUTES (pos 0)
 
 -- all variables in the order of their numbers. A weight is at least 1 also where nobody asks for it
-abbrev pub assigned : (nr load victim_nr victim_load weight fresh : ℕ) → (own victims attrs : List ℤ) → Assignment
+abbrev pub assigned : (nr load victim_nr victim_load weight fresh : ℕ) → (own victims attrs : List ℤ) →
+    Assignment
 assigned nr load victim_nr victim_load weight fresh own victims attrs =
     pos nr ∷ pos load ∷ pos victim_nr ∷ pos victim_load ∷ pos weight ∷ pos fresh ∷ (own ++ victims ++ attrs)
 
 -- what filter and choice see of the acting core and of the core that they are asked about
 unfoldable pub pair_values : CoreValues → CoreValues → Assignment
-pair_values own victim = assigned own.nr own.load victim.nr victim.load 1 0 own.consts victim.consts no_attributes
+pair_values own victim =
+    assigned own.nr own.load victim.nr victim.load 1 0 own.consts victim.consts no_attributes
 
 -- what placement sees of a core
 unfoldable pub core_values : CoreValues → Assignment

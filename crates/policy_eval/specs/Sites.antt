@@ -27,10 +27,14 @@ allows p choosing at = nat_lt at 4 || is_attribute 6 p.core_attrs at || is_attri
 allows p placing at = at == 2 || at == 3 || is_attribute 14 p.core_attrs at
 allows p electing at = at == 4 || is_attribute 22 p.thread_attrs at
 allows p stealing at = at == 4 || is_attribute 22 p.thread_attrs at
-allows p (handling event.Enqueue) at = at == 4 || at == 5 || is_attribute 6 p.core_attrs at || is_attribute 22 p.thread_attrs at
-allows p (handling event.Tick) at = at == 4 || is_attribute 6 p.core_attrs at || is_attribute 22 p.thread_attrs at
-allows p (handling event.Yield) at = at == 4 || is_attribute 6 p.core_attrs at || is_attribute 22 p.thread_attrs at
-allows p (handling event.Block) at = at == 4 || is_attribute 6 p.core_attrs at || is_attribute 22 p.thread_attrs at
+allows p (handling event.Enqueue) at = at == 4 || at == 5 || is_attribute 6 p.core_attrs at
+    || is_attribute 22 p.thread_attrs at
+allows p (handling event.Tick) at = at == 4 || is_attribute 6 p.core_attrs at
+    || is_attribute 22 p.thread_attrs at
+allows p (handling event.Yield) at = at == 4 || is_attribute 6 p.core_attrs at
+    || is_attribute 22 p.thread_attrs at
+allows p (handling event.Block) at = at == 4 || is_attribute 6 p.core_attrs at
+    || is_attribute 22 p.thread_attrs at
 
 -- where a case of that event may put the thread
 abbrev pub AllowsPut : Event → Put → Type 0

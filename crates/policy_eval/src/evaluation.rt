@@ -10,7 +10,7 @@ ghost use Rattle.policy_eval.specs.Values.{compared, value_of, holds as holds_at
 use crate::env::Env;
 use policy_tree::{Cmp, Cond, Expr};
 
-/// The value of the expression, exact: its magnitude stays below `2^76`.
+/// The value of the expression, exact: no step of it overflows.
 pub fn value(expr: &Expr, env: &Env) -> i128
     requires evaluable { IsEvaluable (expr_tree expr.now) }
     requires values { AreIn wide_ranges env.now.vals }
@@ -59,7 +59,9 @@ fn test(how: Cmp, left: &Expr, right: &Expr, env: &Env) -> bool
     requires left { IsEvaluable (expr_tree left.now) }
     requires right { IsEvaluable (expr_tree right.now) }
     requires values { AreIn wide_ranges env.now.vals }
-    ensures { result ≡ compared how (value_of env.now.vals (expr_tree left.now)) (value_of env.now.vals (expr_tree right.now)) }
+    ensures { result ≡ compared how
+        (value_of env.now.vals (expr_tree left.now))
+        (value_of env.now.vals (expr_tree right.now)) }
 {
     let left = value(left, env);
     let right = value(right, env);

@@ -53,7 +53,8 @@ fn apply_sets(
     requires task { IsTask (meaning_of policy.now) task }
     requires consts { AreIn (attribute_ranges policy.now.core_attrs) consts.now }
     requires sets { AllByRecursion (IsSettable (meaning_of policy.now)) (map set_tree sets.now) }
-    ensures { result ≡ fold (task_after_set (meaning_of policy.now) fresh consts.now) task (map set_tree sets.now) }
+    ensures { result ≡ fold (task_after_set (meaning_of policy.now) fresh consts.now) task
+        (map set_tree sets.now) }
 {
     let mut changed = task;
     for at in 0..sets.len() {

@@ -7,7 +7,7 @@ pub fn law_best()
     ensures { BestLaw }
 {}
 
-/// The best with the others beside it is the best.
+/// What `best_and_rest` gives first is the best of the list.
 pub fn law_best_and_rest()
     ensures { BestAndRestLaw }
 {}

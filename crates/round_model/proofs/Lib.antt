@@ -1,4 +1,5 @@
 pub mod Constants
+pub mod Entering
 pub mod Finding
 pub mod Grows
 pub mod Opening

@@ -37,7 +37,8 @@ entered p (Some t) core = admitted p true (entering_task p t) core
 abbrev pub woken : Meaning → (by at c : ℕ) → Option Blocked → ModelCore → ModelCore
 woken p by at c None core = core
 woken p by at c (Some b) core =
-    let left = cond (by == c) (released b.task.id core) core in cond (at == c) (admitted p false b.task left) left
+    let left = cond (by == c) (released b.task.id core) core in
+    cond (at == c) (admitted p false b.task left) left
 
 -- the core c of a Steal: the thread leaves the one's queue and comes to the end of the other's
 abbrev pub stolen : (by from c : ℕ) → Option Task → ModelCore → ModelCore
@@ -51,7 +52,8 @@ effect p plan round (entry.Round number) m c = m c
 effect p plan round (entry.Enter thread by at reads) m c = entered p (planned_of plan thread) (m c)
 effect p plan round (entry.Wake thread by at reads) m c = woken p by at c (blocked_of thread (m by)) (m c)
 effect p plan round (entry.Work by what) m c = core_after_work p plan round (m c)
-effect p plan round (entry.Steal by from thread reads) m c = stolen by from c (queued_of thread (m from)) (m c)
+effect p plan round (entry.Steal by from thread reads) m c =
+    stolen by from c (queued_of thread (m from)) (m c)
 effect p plan round (entry.Fail by from reads) m c = m c
 effect p plan round (entry.Pass by reads) m c = m c
 

@@ -28,7 +28,8 @@ candidates_of p cores values a = filter (is_candidate p values a) (range_with_le
 
 -- whether the core a prefers the core v to the core w
 abbrev pub prefers : Meaning → (ℕ → CoreValues) → ℕ → ℕ → ℕ → Bool
-prefers p values a v w = precedes p.choose (pair_values (values a) (values v)) (pair_values (values a) (values w))
+prefers p values a v w =
+    precedes p.choose (pair_values (values a) (values v)) (pair_values (values a) (values w))
 
 -- the choice of the core a: the best candidate, of equals the lowest number
 unfoldable pub choice_of : Meaning → ℕ → (ℕ → CoreValues) → ℕ → Option ℕ
@@ -38,7 +39,8 @@ choice_of p cores values a = best_of (prefers p values a) (candidates_of p cores
 abbrev pub is_less : ExprTree → (ℕ → CoreValues) → ℕ → ℕ → Bool
 is_less e values v w = int_lt (value_of (core_values (values v)) e) (value_of (core_values (values w)) e)
 
--- where the core a of so many cores places a thread: on itself, or on the core of all with the least value, of equals the lowest number
+-- where the core a of so many cores places a thread: on itself, or on the core of all with the least value,
+-- of equals the lowest number
 abbrev pub target_by : PlaceTree → ℕ → (ℕ → CoreValues) → ℕ → Option ℕ
 target_by here cores values a = Some a
 target_by (least e) cores values a = best_of (is_less e values) (range_with_len 0 cores)

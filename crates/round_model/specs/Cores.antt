@@ -39,9 +39,9 @@ abbrev pub load_of : ModelCore → ℕ
 load_of core = sum_by (λ (t : Task). t.weight) (tasks_of core)
 
 -- thread count and load of a core, which is all that changes of what others see of it
-pub record Seen : Type 0 where
+pub record CountAndLoad : Type 0 where
   pub nr : ℕ
   pub load : ℕ
 
-abbrev pub seen_of : ModelCore → Seen
+abbrev pub seen_of : ModelCore → CountAndLoad
 seen_of core = record { nr = thread_count core; load = load_of core }

@@ -1,9 +1,29 @@
 -- Who acts in an entry, which cores it touches, and what it says of threads.
-use Rattle.std.specs.Prelude.{ℕ, ◌==◌, Bool, false, ◌||◌}
+use Rattle.std.specs.Prelude.{Bool, List, None, Option, Some, [], false, ℕ, ◌==◌, ◌||◌}
 use Rattle.round_model.specs.declared.entry.Did.{Did}
 use Rattle.round_model.specs.declared.entry.Did.TheVariants as did
 use Rattle.round_model.specs.declared.entry.Entry.{Entry}
 use Rattle.round_model.specs.declared.entry.Entry.TheVariants as entry
+
+-- the core that acts in the entry
+abbrev pub acting_core : Entry → Option ℕ
+acting_core (entry.Round number) = None
+acting_core (entry.Enter thread by at reads) = Some by
+acting_core (entry.Wake thread by at reads) = Some by
+acting_core (entry.Work by what) = Some by
+acting_core (entry.Steal by from thread reads) = Some by
+acting_core (entry.Fail by from reads) = Some by
+acting_core (entry.Pass by reads) = Some by
+
+-- the reads of the entry
+abbrev pub reads_of : Entry → List ℕ
+reads_of (entry.Round number) = []
+reads_of (entry.Enter thread by at reads) = reads
+reads_of (entry.Wake thread by at reads) = reads
+reads_of (entry.Work by what) = []
+reads_of (entry.Steal by from thread reads) = reads
+reads_of (entry.Fail by from reads) = reads
+reads_of (entry.Pass by reads) = reads
 
 -- whether the core acts in the entry
 unfoldable pub acts : ℕ → Entry → Bool

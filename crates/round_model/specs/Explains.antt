@@ -10,7 +10,8 @@ use Rattle.round_model.specs.Reads.{value_read}
 
 -- the entry at the position changes thread count or load of the core
 abbrev pub ChangesSeen : Meaning → Plan → List Entry → ℕ → ℕ → Type 0
-ChangesSeen p plan history c position = value_read p plan history c position ≢ value_read p plan history c (suc position)
+ChangesSeen p plan history c position =
+    value_read p plan history c position ≢ value_read p plan history c (suc position)
 
 -- the entry at `cause` explains the Fail at `k`: after the Fail read its thief or victim, and before the Fail, it
 -- changed what was read there

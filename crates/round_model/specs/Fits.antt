@@ -47,7 +47,8 @@ pub record OrderFits (cores : ℕ) (line : OrderLine) : Type 0 where
   pub few_cores : length line.cores ≤ MAX_ORDER_CORES
   pub each : All (λ c. c < cores) line.cores
 
--- the plan fits the policy
+-- the plan fits the policy. Its order lines are of different rounds, and a round takes its own line alone, so that
+-- their number needs no bound
 pub record Fits (p : Meaning) (plan : Plan) : Type 0 where
   pub policy : IsResolved p
   pub some_cores : 1 ≤ plan.cores

@@ -12,7 +12,8 @@ abbrev pub touched_from : ℕ → ℕ → ℕ → List Entry → ℕ
 touched_from c k last [] = last
 touched_from c k last (e ∷ es) = touched_from c (suc k) (cond (touches c e) (suc k) last) es
 
--- what a core that looks just now reads: of each core the latest moment at which it changed, or the round's start
+-- what a core that looks just now reads: of each core the position after the last entry that touches it, or the
+-- round's start where that is later
 abbrev pub fresh_reads : Plan → List Entry → Scene → List ℕ
 fresh_reads plan history s = map (λ c. max s.start (touched_from c 0 0 history)) (core_numbers plan)
 

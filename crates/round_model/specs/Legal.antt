@@ -20,7 +20,8 @@ rounds_begun history = count_by is_round history
 
 -- whether each core has made its attempt of the last round. Before the first round nothing is open
 unfoldable pub is_complete : Plan → List Entry → Bool
-is_complete plan history = rounds_begun history == 0 || list_all (λ c. has_attempted (own_entries history c)) (core_numbers plan)
+is_complete plan history = rounds_begun history == 0
+    || list_all (λ c. has_attempted (own_entries history c)) (core_numbers plan)
 
 -- whether the thread has ended
 abbrev pub has_ended : List Entry → Planned → Bool
@@ -28,7 +29,8 @@ has_ended history t = list_any (ends t.id) history
 
 -- whether a next round is due: fewer have begun than the plan has, and some thread of the plan hasn't ended
 unfoldable pub is_due : Plan → List Entry → Bool
-is_due plan history = nat_lt (rounds_begun history) plan.rounds && list_any (λ t. not (has_ended history t)) plan.threads
+is_due plan history = nat_lt (rounds_begun history) plan.rounds
+    && list_any (λ t. not (has_ended history t)) plan.threads
 
 abbrev pub IsComplete : Plan → List Entry → Type 0
 IsComplete plan history = IsTrue (is_complete plan history)
@@ -50,16 +52,21 @@ pub record LegalInRound (p : Meaning) (plan : Plan) (history : List Entry) (by :
 -- the entry is legal after the history
 unfoldable pub LegalNext : Meaning → Plan → List Entry → Entry → Type 0
 LegalNext p plan history (entry.Round number) = LegalRound plan history number
-LegalNext p plan history (entry.Enter thread by at reads) = LegalInRound p plan history by (entry.Enter thread by at reads)
-LegalNext p plan history (entry.Wake thread by at reads) = LegalInRound p plan history by (entry.Wake thread by at reads)
+LegalNext p plan history (entry.Enter thread by at reads) =
+    LegalInRound p plan history by (entry.Enter thread by at reads)
+LegalNext p plan history (entry.Wake thread by at reads) =
+    LegalInRound p plan history by (entry.Wake thread by at reads)
 LegalNext p plan history (entry.Work by did) = LegalInRound p plan history by (entry.Work by did)
-LegalNext p plan history (entry.Steal by from thread reads) = LegalInRound p plan history by (entry.Steal by from thread reads)
-LegalNext p plan history (entry.Fail by from reads) = LegalInRound p plan history by (entry.Fail by from reads)
+LegalNext p plan history (entry.Steal by from thread reads) =
+    LegalInRound p plan history by (entry.Steal by from thread reads)
+LegalNext p plan history (entry.Fail by from reads) =
+    LegalInRound p plan history by (entry.Fail by from reads)
 LegalNext p plan history (entry.Pass by reads) = LegalInRound p plan history by (entry.Pass by reads)
 
 -- each entry is legal after those before it
 abbrev pub Legal : Meaning → Plan → List Entry → Type 0
-Legal p plan history = (k : ℕ) (e : Entry) → get_elem? history k ≡ some e → LegalNext p plan (take k history) e
+Legal p plan history = (k : ℕ) (e : Entry) → get_elem? history k ≡ some e →
+    LegalNext p plan (take k history) e
 
 -- a legal history that stops where nothing is left to do
 pub record Whole (p : Meaning) (plan : Plan) (history : List Entry) : Type 0 where

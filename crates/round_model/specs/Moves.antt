@@ -25,7 +25,8 @@ is_blocked_task id b = b.task.id == id
 abbrev pub with_task : Put → ℕ → Task → ModelCore → ModelCore
 with_task put.Queue wake t core = record core { queue = core.queue ++ t ∷ [] }
 with_task put.Keep wake t core = record core { current = Some t }
-with_task put.Block wake t core = record core { blocked = core.blocked ++ record { task = t; wake = wake } ∷ [] }
+with_task put.Block wake t core =
+    record core { blocked = core.blocked ++ record { task = t; wake = wake } ∷ [] }
 
 abbrev pub with_outcome : ℕ → ModelCore → Task × Put → ModelCore
 with_outcome wake core outcome = with_task outcome.1 wake outcome.0 core

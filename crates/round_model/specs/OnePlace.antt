@@ -1,4 +1,4 @@
--- The law of one place: in every legal history each thread stands in one place, and every number stays in range.
+-- The law of one place: each thread stands in one place, and every number stays in range.
 use Rattle.std.specs.Prelude.{ℕ, ◌≤◌, List, length, take}
 use Rattle.policy_tree.specs.Meaning.{Meaning}
 use Rattle.policy_eval.specs.Obligations.{MeetsHandlerObligations}
@@ -12,10 +12,12 @@ use Rattle.round_model.specs.Phases.{Stands, blocked_places_of, phase_of, places
 
 -- after the history every thread stands where its phase says, and all numbers lie in their ranges
 pub record OnePlace (p : Meaning) (plan : Plan) (history : List Entry) : Type 0 where
-  pub places : (id : ℕ) → Stands (phase_of id history) (places_of plan (after p plan history) id) (blocked_places_of plan (after p plan history) id)
+  pub places : (id : ℕ) →
+      let m = after p plan history in Stands (phase_of id history) (places_of plan m id) (blocked_places_of plan m id)
   pub bounds : IsInBounds p plan (length plan.threads) (after p plan history)
 
 -- the law
 abbrev pub OnePlaceLaw : Type 0
-OnePlaceLaw = (p : Meaning) (plan : Plan) (history : List Entry) → Fits p plan → MeetsHandlerObligations p → Legal p plan history
+OnePlaceLaw = (p : Meaning) (plan : Plan) (history : List Entry) → Fits p plan → MeetsHandlerObligations p
+    → Legal p plan history
     → (k : ℕ) → k ≤ length history → OnePlace p plan (take k history)

@@ -17,7 +17,8 @@ waking_count s a = cond (has_worked s.own) 0 (count_by (is_due_blocked s.round) 
 
 -- the entries that the core owes: threads to let in, threads to wake, one unit of work and one attempt
 abbrev pub owed_in : Plan → Scene → ℕ → ℕ
-owed_in plan s a = entering_count plan s a + waking_count s a + cond (has_worked s.own) 0 1 + cond (has_attempted s.own) 0 1
+owed_in plan s a =
+    entering_count plan s a + waking_count s a + cond (has_worked s.own) 0 1 + cond (has_attempted s.own) 0 1
 
 -- before the first round nothing is owed
 unfoldable pub owed : Meaning → Plan → List Entry → ℕ → ℕ

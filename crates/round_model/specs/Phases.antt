@@ -45,7 +45,7 @@ places_of plan m id = sum (map (λ c. count_by (is_task id) (tasks_of (m c))) (c
 abbrev pub blocked_places_of : Plan → Cores → ℕ → ℕ
 blocked_places_of plan m id = sum (map (λ c. count_by (is_blocked_task id) (m c).blocked) (core_numbers plan))
 
--- a live thread stands in one place and is blocked in none, a blocked one the other way round, any other nowhere
+-- a live thread stands in one place and is blocked in none, a blocked one the reverse, any other nowhere
 abbrev pub Stands : Phase → ℕ → ℕ → Type 0
 Stands outside places blocked = (places ≡ 0) × (blocked ≡ 0)
 Stands live places blocked = (places ≡ 1) × (blocked ≡ 0)

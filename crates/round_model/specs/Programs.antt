@@ -50,7 +50,8 @@ meeting_of b at = cond (is_last_unit b at) (meeting_at_end b.ending) tick
 -- where the thread stands after its next unit: in a burst without end it stays where it is
 abbrev pub place_after : Burst → Place → Place
 place_after b at =
-    cond (is_endless b.ending) at (cond (is_last_unit b at) (record { burst = at.burst + 1; done = 0 }) (record at { done = at.done + 1 }))
+    cond (is_endless b.ending) at
+    (cond (is_last_unit b at) (record { burst = at.burst + 1; done = 0 }) (record at { done = at.done + 1 }))
 
 abbrev pub start_of : Attr → ℤ
 start_of a = a.start
@@ -61,4 +62,5 @@ starting_attrs p = map start_of p.thread_attrs ++ replicate (MAX_ATTRIBUTES - le
 
 -- the thread as it enters
 abbrev pub entering_task : Meaning → Planned → Task
-entering_task p t = record { id = t.id; weight = t.weight; attrs = starting_attrs p; place = record { burst = 0; done = 0 } }
+entering_task p t =
+    record { id = t.id; weight = t.weight; attrs = starting_attrs p; place = record { burst = 0; done = 0 } }

@@ -57,4 +57,5 @@ disturbs (entry.Pass by reads) = false
 
 -- in the rounds first to last nobody enters, wakes, blocks or ends
 abbrev pub IsStill : List Entry → ℕ → ℕ → Type 0
-IsStill history first last = (k : ℕ) (e : Entry) → get_elem? history k ≡ some e → first ≤ round_at history k → round_at history k ≤ last → IsFalse (disturbs e)
+IsStill history first last = (k : ℕ) (e : Entry) → get_elem? history k ≡ some e → first ≤ round_at history k →
+    round_at history k ≤ last → IsFalse (disturbs e)

@@ -24,13 +24,15 @@ pub record IsPlacement (p : Meaning) (plan : Plan) (s : Scene) (by at : ℕ) (re
   pub target : target_of p plan.cores (read_values plan s.seen reads) by ≡ Some at
 
 -- the thread is the next that the core lets in
-pub record LegalEnter (p : Meaning) (plan : Plan) (s : Scene) (thread by at : ℕ) (reads : List ℕ) : Type 0 where
+pub record LegalEnter (p : Meaning) (plan : Plan) (s : Scene) (thread by at : ℕ)
+    (reads : List ℕ) : Type 0 where
   pub core : by < plan.cores
   pub next : IsSomeAnd (entering_next plan s.round by s.own) (λ (t : Planned). t.id ≡ thread)
   pub placement : IsPlacement p plan s by at reads
 
 -- no thread is left to enter, and this one is the next to wake
-pub record LegalWake (p : Meaning) (plan : Plan) (s : Scene) (thread by at : ℕ) (reads : List ℕ) : Type 0 where
+pub record LegalWake (p : Meaning) (plan : Plan) (s : Scene) (thread by at : ℕ)
+    (reads : List ℕ) : Type 0 where
   pub core : by < plan.cores
   pub entered : IsNone (entering_next plan s.round by s.own)
   pub next : IsSomeAnd (waking_next s.round (s.cores by)) (λ (b : Blocked). b.task.id ≡ thread)
@@ -45,7 +47,8 @@ pub record LegalWork (p : Meaning) (plan : Plan) (s : Scene) (by : ℕ) (did : D
   pub outcome : IsOutcomeOfWork p plan s.round (s.cores by) did
 
 -- the core has worked, and this is its one attempt of the round
-pub record LegalAttempt (p : Meaning) (plan : Plan) (s : Scene) (by : ℕ) (reads : List ℕ) (e : Entry) : Type 0 where
+pub record LegalAttempt (p : Meaning) (plan : Plan) (s : Scene) (by : ℕ) (reads : List ℕ)
+    (e : Entry) : Type 0 where
   pub core : by < plan.cores
   pub worked : IsTrue (has_worked s.own)
   pub first : IsFalse (has_attempted s.own)
@@ -58,6 +61,7 @@ Row p plan s (entry.Round number) = ⊥
 Row p plan s (entry.Enter thread by at reads) = LegalEnter p plan s thread by at reads
 Row p plan s (entry.Wake thread by at reads) = LegalWake p plan s thread by at reads
 Row p plan s (entry.Work by did) = LegalWork p plan s by did
-Row p plan s (entry.Steal by from thread reads) = LegalAttempt p plan s by reads (entry.Steal by from thread reads)
+Row p plan s (entry.Steal by from thread reads) =
+    LegalAttempt p plan s by reads (entry.Steal by from thread reads)
 Row p plan s (entry.Fail by from reads) = LegalAttempt p plan s by reads (entry.Fail by from reads)
 Row p plan s (entry.Pass by reads) = LegalAttempt p plan s by reads (entry.Pass by reads)

@@ -8,7 +8,7 @@ use Rattle.round_model.specs.declared.plan.Planned.{Planned}
 use Rattle.round_model.specs.declared.state.Blocked.{Blocked}
 use Rattle.round_model.specs.declared.state.ModelCore.{ModelCore}
 use Rattle.round_model.specs.After.{after, round_of}
-use Rattle.round_model.specs.Cores.{Cores, Seen}
+use Rattle.round_model.specs.Cores.{Cores, CountAndLoad}
 use Rattle.round_model.specs.Entries.{acts, lets_in}
 use Rattle.round_model.specs.Kinds.{is_attempt, is_work}
 use Rattle.round_model.specs.Reads.{round_start, value_read}
@@ -26,7 +26,7 @@ pub record Scene : Type 0 where
   -- the cores before the entry
   pub cores : Cores
   -- thread count and load of a core at a position
-  pub seen : ℕ → ℕ → Seen
+  pub seen : ℕ → ℕ → CountAndLoad
 
 -- the core's own entries of the open round
 abbrev pub own_entries : List Entry → ℕ → List Entry

@@ -19,51 +19,58 @@ use Rattle.round_model.specs.Scenes.{Scene, entering_next, has_attempted, has_wo
 use Rattle.round_model.specs.Work.{worked}
 
 -- the history so far, and the look of each core that has looked in the open round and made no attempt yet
-pub record Play : Type 0 where
+pub record SerialState : Type 0 where
   pub history : List Entry
   pub looks : ℕ → Option (List ℕ)
 
-abbrev pub with_entry : Play → Entry → Play
+abbrev pub with_entry : SerialState → Entry → SerialState
 with_entry play e = record play { history = play.history ++ e ∷ [] }
 
 -- an entry by which a thread comes to the core where it is placed
-abbrev pub with_placed : Play → (ℕ → Entry) → Option ℕ → Play
+abbrev pub with_placed : SerialState → (ℕ → Entry) → Option ℕ → SerialState
 with_placed play e None = play
 with_placed play e (Some at) = with_entry play (e at)
 
 -- a unit of work, with the first word that may be said of it
-abbrev pub with_work : Play → ℕ → List Did → Play
+abbrev pub with_work : SerialState → ℕ → List Did → SerialState
 with_work play a [] = play
 with_work play a (d ∷ ds) = with_entry play (entry.Work a d)
 
-module _ (p : Meaning) (plan : Plan) (play : Play) (s : Scene) (a : ℕ) where
+module _ (p : Meaning) (plan : Plan) (play : SerialState) (s : Scene) (a : ℕ) where
   -- the attempt by the look that was kept, or else the look
-  abbrev pub attempt_step : Option (List ℕ) → Play
-  attempt_step None = record play { looks = λ c. cond (c == a) (Some (fresh_reads plan play.history s)) (play.looks c) }
-  attempt_step (Some reads) = with_entry play (attempt_of p plan s.cores (read_values plan s.seen reads) a reads)
+  abbrev pub attempt_step : Option (List ℕ) → SerialState
+  attempt_step None =
+      record play { looks = λ c. cond (c == a) (Some (fresh_reads plan play.history s)) (play.looks c) }
+  attempt_step (Some reads) =
+      with_entry play (attempt_of p plan s.cores (read_values plan s.seen reads) a reads)
 
   -- the step where no thread is left to enter or wake
-  abbrev pub late_step : Play
+  abbrev pub late_step : SerialState
   late_step =
       cond (has_attempted s.own) play
-      (cond (has_worked s.own) (attempt_step (play.looks a)) (with_work play a (worked p plan s.round (s.cores a)).dids))
+      (cond (has_worked s.own)
+      (attempt_step (play.looks a))
+      (with_work play a (worked p plan s.round (s.cores a)).dids))
 
   -- the step where no thread is left to enter
-  abbrev pub wake_step : List ℕ → Option Blocked → Play
+  abbrev pub wake_step : List ℕ → Option Blocked → SerialState
   wake_step reads None = late_step
   wake_step reads (Some b) =
-      with_placed play (λ at. entry.Wake b.task.id a at reads) (target_of p plan.cores (read_values plan s.seen reads) a)
+      with_placed play (λ at. entry.Wake b.task.id a at reads)
+      (target_of p plan.cores (read_values plan s.seen reads) a)
 
-  abbrev pub enter_step : List ℕ → Option Planned → Play
+  abbrev pub enter_step : List ℕ → Option Planned → SerialState
   enter_step reads None = wake_step reads (waking_next s.round (s.cores a))
   enter_step reads (Some t) =
-      with_placed play (λ at. entry.Enter t.id a at reads) (target_of p plan.cores (read_values plan s.seen reads) a)
+      with_placed play (λ at. entry.Enter t.id a at reads)
+      (target_of p plan.cores (read_values plan s.seen reads) a)
 
--- the core's next step: a thread enters or wakes, a unit of work, a look, an attempt. A turn that is over has none
-unfoldable pub step_of : Meaning → Plan → Play → ℕ → Play
+-- the core's next step: a thread enters or wakes, a unit of work, a look, an attempt. After its turn there is none
+unfoldable pub step_of : Meaning → Plan → SerialState → ℕ → SerialState
 step_of p plan play a =
     let s : Scene = scene_of p plan play.history a in
-    enter_step p plan play s a (placement_reads p.place plan play.history s) (entering_next plan s.round a s.own)
+    enter_step p plan play s a (placement_reads p.place plan play.history s)
+    (entering_next plan s.round a s.own)
 
 -- the cores of the round's order line
 abbrev pub order_of : Plan → ℕ → List ℕ
@@ -73,15 +80,17 @@ order_of plan number = cores_of (find (λ (l : OrderLine). l.round == number) pl
     cores_of None = []
     cores_of (Some line) = line.cores
 
--- each core so often that its turn is over: a turn has no more steps than this, and a step past its end is none
+-- each core so often that its turn is over: no turn has more steps, and a step past its end is none
 abbrev pub remaining_turns : Plan → List ℕ
 remaining_turns plan = flat_map (λ c. replicate (2 * length plan.threads + 3) c) (core_numbers plan)
 
 -- the history with one round more, where one is due
 unfoldable pub with_round : Meaning → Plan → List Entry → ℕ → List Entry
 with_round p plan history number =
-    let opened : Play = record { history = history ++ entry.Round number ∷ []; looks = λ c. None } in
-    cond (is_due plan history) (fold (step_of p plan) opened (order_of plan number ++ remaining_turns plan)).history history
+    let opened : SerialState = record { history = history ++ entry.Round number ∷ []; looks = λ c. None } in
+    cond (is_due plan history)
+    (fold (step_of p plan) opened (order_of plan number ++ remaining_turns plan)).history
+    history
 
 -- the serial history of a plan
 abbrev pub serial_history : Meaning → Plan → List Entry

@@ -35,30 +35,38 @@ module _ (p : Meaning) (plan : Plan) (history : List Entry) where
 
   -- a bad and still round has a steal
   abbrev pub BadRoundsSteal : Type 0
-  BadRoundsSteal = (number : ℕ) → IsBad p plan history number → IsStill history number number → StealsIn number
+  BadRoundsSteal = (number : ℕ) → IsBad p plan history number → IsStill history number number →
+      StealsIn number
 
   -- each steal lowers the spread by at least 2
   abbrev pub StealsNarrow : Type 0
-  StealsNarrow = (k : ℕ) (e : Entry) → get_elem? history k ≡ some e → IsTrue (is_steal e) → spread_at (suc k) + 2 ≤ spread_at k
+  StealsNarrow = (k : ℕ) (e : Entry) → get_elem? history k ≡ some e → IsTrue (is_steal e) →
+      spread_at (suc k) + 2 ≤ spread_at k
 
-  -- every other entry by which nobody comes or leaves keeps thread count and load of every core
+  -- apart from steals and the entries that disturb a round, none changes a core's thread count or load
   abbrev pub StillKeepsLoads : Type 0
-  StillKeepsLoads = (k c : ℕ) (e : Entry) → get_elem? history k ≡ some e → IsFalse (is_steal e) → IsFalse (disturbs e) → c < plan.cores
+  StillKeepsLoads = (k c : ℕ) (e : Entry) → get_elem? history k ≡ some e → IsFalse (is_steal e) →
+      IsFalse (disturbs e) → c < plan.cores
       → value_read p plan history c (suc k) ≡ value_read p plan history c k
 
   -- however many bad rounds a still stretch has, twice as many are at most its first spread
   abbrev pub BadRoundsPaid : Type 0
-  BadRoundsPaid = (first last opening : ℕ) (bad : List ℕ) → IsStillStretch history first last → BeginsAt history first opening → IsStrictlyIncreasing bad
-      → All (λ number. (first ≤ number) × (number ≤ last) × IsBad p plan history number) bad → 2 * length bad ≤ spread_at opening
+  BadRoundsPaid = (first last opening : ℕ) (bad : List ℕ) → IsStillStretch history first last →
+      BeginsAt history first opening → IsStrictlyIncreasing bad
+      → All (λ number. (first ≤ number) × (number ≤ last) × IsBad p plan history number) bad →
+      2 * length bad ≤ spread_at opening
 
   -- in a still stretch, where no core is idle beside an overloaded one, none is so later
   abbrev pub StaysBalanced : Type 0
-  StaysBalanced = (first last k later : ℕ) → IsStillStretch history first last → InStretch history first last k → InStretch history first last later
+  StaysBalanced = (first last k later : ℕ) → IsStillStretch history first last →
+      InStretch history first last k → InStretch history first last later
       → k ≤ later → ¬ BesideAt k → ¬ BesideAt later
 
-  -- from the Round on that many rounds after the first, as half the first spread, no core is idle beside an overloaded one
+  -- from the Round on that many rounds after the first, as half the first spread, no core is idle beside an
+  -- overloaded one
   abbrev pub ConservesWorkAfter : Type 0
-  ConservesWorkAfter = (first last opening rounds from k : ℕ) → IsStillStretch history first last → BeginsAt history first opening → spread_at opening ≤ 2 * rounds
+  ConservesWorkAfter = (first last opening rounds from k : ℕ) → IsStillStretch history first last →
+      BeginsAt history first opening → spread_at opening ≤ 2 * rounds
       → BeginsAt history (first + rounds) from → from ≤ k → InStretch history first last k → ¬ BesideAt k
 
   -- what holds of the still rounds of one history
@@ -72,4 +80,5 @@ module _ (p : Meaning) (plan : Plan) (history : List Entry) where
 
 -- the law
 abbrev pub StillRoundsLaw : Type 0
-StillRoundsLaw = (p : Meaning) (plan : Plan) (history : List Entry) → Fits p plan → MeetsObligations p → Legal p plan history → StillRounds p plan history
+StillRoundsLaw = (p : Meaning) (plan : Plan) (history : List Entry) → Fits p plan → MeetsObligations p →
+    Legal p plan history → StillRounds p plan history

@@ -34,7 +34,7 @@ elected_over p core (Some t) = core
 abbrev pub elected : Meaning → ModelCore → ModelCore
 elected p core = elected_over p core core.current
 
--- what a unit leaves: the core, and what may be said of the current thread. With one case that holds there is one word
+-- what a unit leaves: the core, and what may be said of the thread that ran. One case that holds gives one word
 pub record Worked : Type 0 where
   pub core : ModelCore
   pub dids : List Did
@@ -63,7 +63,8 @@ after_meeting p round ending_now t core = record { core = core; dids = did.Ended
 abbrev pub after_unit : Meaning → ℕ → ModelCore → Task → Option Burst → Worked
 after_unit p round core t None = record { core = core; dids = [] }
 after_unit p round core t (Some b) =
-    after_meeting p round (meeting_of b t.place) (record t { place = place_after b t.place }) (record core { current = None })
+    let ran : Task = record t { place = place_after b t.place } in
+    after_meeting p round (meeting_of b t.place) ran (record core { current = None })
 
 -- a unit of the core, once it has elected
 abbrev pub run_over : Meaning → Plan → ℕ → ModelCore → Option Task → Worked

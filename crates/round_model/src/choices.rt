@@ -99,7 +99,8 @@ fn least(expr: &Expr, values: &[CoreValues]) -> CoreId
     requires values { All IsSeenWidely values.now }
     requires some { 1 ≤ length values.now }
     requires few { length values.now ≤ MAX_CORES }
-    ensures { best_of (is_less (expr_tree expr.now) (values_in values.now)) (range_with_len 0 (length values.now)) ≡ Some result }
+    ensures { best_of (is_less (expr_tree expr.now) (values_in values.now))
+        (range_with_len 0 (length values.now)) ≡ Some result }
 {
     let last = values.len() as CoreId - 1;
     let mut least = last;
@@ -116,7 +117,9 @@ fn is_below(expr: &Expr, first: &CoreValues, second: &CoreValues) -> bool
     requires expr { IsEvaluable (expr_tree expr.now) }
     requires first { IsSeenWidely first.now }
     requires second { IsSeenWidely second.now }
-    ensures { result ≡ int_lt (value_of (core_values first.now) (expr_tree expr.now)) (value_of (core_values second.now) (expr_tree expr.now)) }
+    ensures { result ≡ int_lt
+        (value_of (core_values first.now) (expr_tree expr.now))
+        (value_of (core_values second.now) (expr_tree expr.now)) }
 {
     value(expr, &Env::of_core(first)) < value(expr, &Env::of_core(second))
 }

@@ -70,8 +70,33 @@ pub enum Entry {
 }
 
 impl Entry {
-    ghost use Rattle.round_model.specs.Entries.{acts as acts_in, touches as touches_core};
+    ghost use Rattle.round_model.specs.Entries.{acting_core as core_that_acts, acts as acts_in, reads_of, touches as touches_core};
     ghost use Rattle.round_model.specs.Kinds.{is_attempt as makes_attempt, is_round as begins_round};
+
+    /// The core that acts in the entry, `None` where a round begins.
+    pub fn acting_core(&self) -> Option<CoreId>
+        ensures { result ≡ core_that_acts self.now }
+    {
+        match self {
+            Entry::Round { .. } => None,
+            Entry::Enter { by, .. } | Entry::Wake { by, .. } => Some(*by),
+            Entry::Work { by, .. } => Some(*by),
+            Entry::Steal { by, .. } | Entry::Fail { by, .. } => Some(*by),
+            Entry::Pass { by, .. } => Some(*by),
+        }
+    }
+
+    /// The positions that the entry read, none where a round begins and in a unit of work.
+    pub fn reads(&self) -> Reads
+        ensures { result ≡ reads_of self.now }
+    {
+        match self {
+            Entry::Round { .. } | Entry::Work { .. } => Reads::empty(),
+            Entry::Enter { reads, .. } | Entry::Wake { reads, .. } => *reads,
+            Entry::Steal { reads, .. } | Entry::Fail { reads, .. } => *reads,
+            Entry::Pass { reads, .. } => *reads,
+        }
+    }
 
     /// Whether the core acts in the entry. In a round's beginning none does.
     #[tactic(auto, unfolding(crate::specs::Entries::acts))]

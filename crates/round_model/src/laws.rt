@@ -1,8 +1,8 @@
 //! Laws of the model, each a function without parameters whose contract is the law.
 
-ghost use Rattle.round_model.specs.Laws.{ConstantsLaw, LegalGrows, OneMoreLaw, OpeningLaw, PrefixLaw, UntouchedLaw};
+ghost use Rattle.round_model.specs.Laws.{ActingLaw, ConstantsLaw, EnteringLaw, LegalGrows, OneMoreLaw, OpeningLaw, PrefixLaw, UntouchedLaw};
 
-/// One more entry moves the state by its own effect.
+/// The state after a longer history is what its last entry makes of the state before it.
 pub fn law_one_more()
     ensures { OneMoreLaw }
 {}
@@ -30,4 +30,14 @@ pub fn law_constants()
 /// The opening state is in bounds, with no thread.
 pub fn law_opening()
     ensures { OpeningLaw }
+{}
+
+/// A core acts in an entry exactly where it is the acting core.
+pub fn law_acting()
+    ensures { ActingLaw }
+{}
+
+/// In a legal history a thread enters by its planned core in its planned round.
+pub fn law_entering()
+    ensures { EnteringLaw }
 {}

@@ -6,7 +6,7 @@ use crate::limits::MAX_CORES;
 use crate::task::Pos;
 use std::marker::Model;
 
-/// A list of at most `MAX_CORES` positions, the k-th being that of core k.
+/// Of each core from core 0 on, the position at which it was read: at most `MAX_CORES` of them.
 ///
 /// A contract sees the list. The places of `at` past its length are 0, so that the list gives the
 /// fields back. Other crates ask `len` and `get`, and leave the fields alone.

@@ -8,7 +8,7 @@ pub type CoreId = u32;
 /// The number of a thread, from 1.
 pub type ThreadId = u32;
 
-/// A position in a history: position `p` names the state after the first `p` entries.
+/// A place in a history: the number of entries that come before it.
 pub type Pos = u32;
 
 /// How far a thread has come in its program.

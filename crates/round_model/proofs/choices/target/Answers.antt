@@ -1,4 +1,4 @@
-use Rattle.std.proofs.Common.{◌≡◌, ap, ◌∙◌, subst, length, get_or}
+use Rattle.std.proofs.Common.{ap, ◌∙◌, subst, length, get_or}
 use Rattle.policy_tree.specs.Meaning.{meaning_of, place_tree}
 use Rattle.policy_tree.specs.Trees.{expr_tree}
 use Rattle.policy_eval.specs.Resolved.{IsResolvedPlace}

@@ -1,0 +1,125 @@
+//! Each plain body of the model on the worked rows.
+
+ghost use Rattle.std.specs.Prelude.{◌≡◌, ◌<◌, ◌^◌, vec_len};
+
+use crate::builders::{basic_choice, basic_policy};
+use round_model::{
+    BlockedList, Did, Entry, History, ModelCore, TaskList, reads_fit, round_start, spread_of, steal,
+};
+use sched_base::{MAX_ATTRIBUTES, Place, Reads, Task, ThreadId};
+use std::alloc::Global;
+use std::test::Fail;
+
+#[test]
+fn spreads_of_the_eight_threads(rt: HostRuntime) {
+    assert_eq!(rt; spread_of(&[8, 0, 0, 0]), 24);
+    assert_eq!(rt; spread_of(&[5, 1, 1, 1]), 12);
+    assert_eq!(rt; spread_of(&[2, 2, 2, 2]), 0);
+    assert_eq!(rt; spread_of(&[]), 0);
+}
+
+#[test]
+fn choices_of_the_basic_policy(rt: HostRuntime) -> Result<(), Fail> {
+    let policy = basic_policy(rt.alloc())?;
+    assert_eq!(rt;
+        basic_choice(&policy, [2, 0, 0], 1),
+        Some(0),
+        "the only overloaded core"
+    );
+    assert_eq!(rt;
+        basic_choice(&policy, [1, 0, 1], 1),
+        None,
+        "no core has two"
+    );
+    assert_eq!(rt;
+        basic_choice(&policy, [3, 3, 0], 2),
+        Some(0),
+        "of equals the lowest"
+    );
+    assert_eq!(rt; basic_choice(&policy, [9, 0, 0], 0), None, "not itself");
+    Ok(())
+}
+
+#[test]
+fn windows_of_reads(rt: HostRuntime) -> Result<(), Fail> {
+    let mut reads = Reads::empty();
+    reads.push(5);
+    reads.push(6);
+    assert!(rt; reads_fit(&reads, 2, 1, 6));
+    assert!(rt; !reads_fit(&reads, 2, 6, 6), "before the round");
+    assert!(rt; !reads_fit(&reads, 2, 1, 5), "after the entry");
+    assert!(rt; !reads_fit(&reads, 3, 1, 6), "one core is missing");
+    let mut entries = Vec::new(rt.alloc());
+    assert_eq!(rt; round_start(&History::from_vec(Vec::new(rt.alloc()))), 0);
+    entries.push(Entry::Round { number: 1 })?;
+    entries.push(Entry::Work {
+        by: 0,
+        did: Did::Nothing,
+    })?;
+    entries.push(Entry::Round { number: 2 })?;
+    entries.push(Entry::Pass { by: 0, reads })?;
+    assert_eq!(rt; round_start(&History::from_vec(entries)), 3);
+    Ok(())
+}
+
+#[test]
+fn cores_of_an_entry(rt: HostRuntime) {
+    let wake = Entry::Wake {
+        thread: 1,
+        by: 0,
+        at: 2,
+        reads: Reads::empty(),
+    };
+    assert!(rt; wake.acts(0) && !wake.acts(2));
+    assert!(rt; wake.touches(0) && wake.touches(2) && !wake.touches(1));
+    let enter = Entry::Enter {
+        thread: 1,
+        by: 0,
+        at: 2,
+        reads: Reads::empty(),
+    };
+    assert!(rt; enter.acts(0) && enter.touches(2) && !enter.touches(0));
+    assert!(rt; !enter.is_round() && !enter.is_attempt());
+}
+
+#[test]
+fn steal_with_ample_memory(rt: HostRuntime) -> Result<(), Fail> {
+    let mut queued = Vec::new(rt.alloc());
+    queued.push(task(1))?;
+    queued.push(task(2))?;
+    queued.push(task(3))?;
+    let victim = core_with(rt.alloc(), queued);
+    let thief = core_with(rt.alloc(), Vec::new(rt.alloc()));
+    let (thief, victim) = steal(thief, victim, 2)?;
+    assert_eq!(rt; thief.queue.len(), 1);
+    assert_eq!(rt; thief.queue.get(0).id, 2);
+    assert_eq!(rt; victim.queue.len(), 2);
+    assert_eq!(rt; victim.queue.get(0).id, 1);
+    assert_eq!(rt; victim.queue.get(1).id, 3);
+    Ok(())
+}
+
+/// A thread of weight 1 at the start of its program.
+fn task(id: ThreadId) -> Task
+    ensures { result.id ≡ id }
+{
+    Task {
+        id,
+        weight: 1,
+        attrs: [0; MAX_ATTRIBUTES],
+        place: Place { burst: 0, done: 0 },
+    }
+}
+
+/// A core with these threads in its queue, and with no other.
+fn core_with(alloc: Global, queued: Vec<Task>) -> ModelCore
+    requires { vec_len queued < 2 ^ 32 }
+    ensures { result.queue ≡ queued.items }
+{
+    ModelCore {
+        current: None,
+        queue: TaskList::from_vec(queued),
+        blocked: BlockedList::from_vec(Vec::new(alloc)),
+        consts: [0; MAX_ATTRIBUTES],
+    }
+}
