@@ -29,7 +29,13 @@ fn answer(alloc: Global, text: &[u8]) -> (&'static str, u32, u32) {
 }
 
 /// A text in which a part stands so many times.
-fn repeated(alloc: Global, before: &str, part: &str, times: u32, behind: &str) -> Result<String, Fail> {
+fn repeated(
+    alloc: Global,
+    before: &str,
+    part: &str,
+    times: u32,
+    behind: &str,
+) -> Result<String, Fail> {
     let mut text = String::from_str(alloc, before)?;
     for _time in 0..times {
         text.push_str(part)?;
@@ -55,7 +61,11 @@ fn faults_of_tokens(rt: HostRuntime) -> Result<(), Fail> {
         ("1234567890123456789012345678901234567890", "wide-number", 0),
     ];
     for (text, word, at) in cases {
-        assert_eq!(rt; answer(alloc, text.as_bytes()), (word, at, 0), "at {text:?}");
+        assert_eq!(rt;
+            answer(alloc, text.as_bytes()),
+            (word, at, 0),
+            "at {text:?}"
+        );
     }
     Ok(())
 }
@@ -67,24 +77,64 @@ fn faults_of_the_grammar(rt: HostRuntime) -> Result<(), Fail> {
         ("", 0),
         ("policy", 1),
         ("policy cut\nload weight 1..10", 7),
-        ("policy min load count filter always choose first steal first", 1),
-        ("policy fresh load count filter always choose first steal first", 1),
+        (
+            "policy min load count filter always choose first steal first",
+            1,
+        ),
+        (
+            "policy fresh load count filter always choose first steal first",
+            1,
+        ),
         ("policy p load 1 filter always choose first steal first", 3),
-        ("policy p load count place here place here filter always choose first steal first", 6),
-        ("policy p load count elect first place here filter always choose first steal first", 6),
-        ("policy p load count core nr in 0..1 start 0 filter always choose first steal first", 5),
-        ("policy p load count on tick { } filter always choose first steal first", 7),
-        ("policy p load count on tick { when always : t.x = 1 keep } filter always choose first steal first", 15),
+        (
+            "policy p load count place here place here filter always choose first steal first",
+            6,
+        ),
+        (
+            "policy p load count elect first place here filter always choose first steal first",
+            6,
+        ),
+        (
+            "policy p load count core nr in 0..1 start 0 filter always choose first steal first",
+            5,
+        ),
+        (
+            "policy p load count on tick { } filter always choose first steal first",
+            7,
+        ),
+        (
+            "policy p load count on tick { when always : t.x = 1 keep } filter always choose first steal first",
+            15,
+        ),
         ("policy p load count filter choose first steal first", 5),
-        ("policy p load count filter (1) < 2 choose first steal first", 7),
-        ("policy p load count filter 1 < 2 < 3 choose first steal first", 8),
+        (
+            "policy p load count filter (1) < 2 choose first steal first",
+            7,
+        ),
+        (
+            "policy p load count filter 1 < 2 < 3 choose first steal first",
+            8,
+        ),
         ("policy p load count filter not choose first steal first", 6),
-        ("policy p load count filter nr < 2 choose first steal first", 5),
-        ("policy p load count filter always choose first steal min", 10),
-        ("policy p load count filter always choose first steal first steal", 10),
+        (
+            "policy p load count filter nr < 2 choose first steal first",
+            5,
+        ),
+        (
+            "policy p load count filter always choose first steal min",
+            10,
+        ),
+        (
+            "policy p load count filter always choose first steal first steal",
+            10,
+        ),
     ];
     for (text, at) in cases {
-        assert_eq!(rt; answer(alloc, text.as_bytes()), ("unexpected", at, 0), "at {text:?}");
+        assert_eq!(rt;
+            answer(alloc, text.as_bytes()),
+            ("unexpected", at, 0),
+            "at {text:?}"
+        );
     }
     Ok(())
 }
@@ -108,7 +158,11 @@ fn texts_that_are_read(rt: HostRuntime) -> Result<(), Fail> {
         "policy p load count filter always choose min 1, max 2, min 3, max 4 steal min self.load",
     ];
     for text in texts {
-        assert_eq!(rt; answer(alloc, text.as_bytes()), ("read", 0, 0), "at {text:?}");
+        assert_eq!(rt;
+            answer(alloc, text.as_bytes()),
+            ("read", 0, 0),
+            "at {text:?}"
+        );
     }
     Ok(())
 }
@@ -118,24 +172,120 @@ fn limits(rt: HostRuntime) -> Result<(), Fail> {
     let alloc = rt.alloc();
     let end = " choose first steal first";
     let cases = [
-        ("policy p load count ", "core a in 0..1 start 0 ", 8, "filter always", "many", 68, 8),
-        ("policy p load count ", "thread a in 0..1 start 0 ", 8, "filter always", "many", 68, 8),
-        ("policy p load count on tick { ", "when always : keep ", 8, "} filter always", "many", 39, 8),
-        ("policy p load count on tick { when always : ", "t.x = 1, ", 8, "keep } filter always", "many", 58, 8),
-        ("policy p load count elect min 1", ", min 1", 3, " filter always", "many", 17, 4),
-        ("policy p load count filter 1 < 2", " and 1 < 2", 15, "", "many", 70, 16),
-        ("policy p load count filter 1", " + 1", 32, " < 2", "many", 70, 32),
-        ("policy p load count filter 1", " * 1", 32, " < 2", "many", 70, 32),
-        ("policy p load count filter ", "not ", 32, "always", "deep", 37, 0),
-        ("policy p load count filter ", "- ", 32, "1 < 2", "many", 37, 32),
-        ("policy p load count filter not ", "- ", 31, "1 < 2", "deep", 37, 0),
+        (
+            "policy p load count ",
+            "core a in 0..1 start 0 ",
+            8,
+            "filter always",
+            "many",
+            68,
+            8,
+        ),
+        (
+            "policy p load count ",
+            "thread a in 0..1 start 0 ",
+            8,
+            "filter always",
+            "many",
+            68,
+            8,
+        ),
+        (
+            "policy p load count on tick { ",
+            "when always : keep ",
+            8,
+            "} filter always",
+            "many",
+            39,
+            8,
+        ),
+        (
+            "policy p load count on tick { when always : ",
+            "t.x = 1, ",
+            8,
+            "keep } filter always",
+            "many",
+            58,
+            8,
+        ),
+        (
+            "policy p load count elect min 1",
+            ", min 1",
+            3,
+            " filter always",
+            "many",
+            17,
+            4,
+        ),
+        (
+            "policy p load count filter 1 < 2",
+            " and 1 < 2",
+            15,
+            "",
+            "many",
+            70,
+            16,
+        ),
+        (
+            "policy p load count filter 1",
+            " + 1",
+            32,
+            " < 2",
+            "many",
+            70,
+            32,
+        ),
+        (
+            "policy p load count filter 1",
+            " * 1",
+            32,
+            " < 2",
+            "many",
+            70,
+            32,
+        ),
+        (
+            "policy p load count filter ",
+            "not ",
+            32,
+            "always",
+            "deep",
+            37,
+            0,
+        ),
+        (
+            "policy p load count filter ",
+            "- ",
+            32,
+            "1 < 2",
+            "many",
+            37,
+            32,
+        ),
+        (
+            "policy p load count filter not ",
+            "- ",
+            31,
+            "1 < 2",
+            "deep",
+            37,
+            0,
+        ),
     ];
     for (before, part, most, behind, word, at, limit) in cases {
         let behind = format!(in alloc; "{behind}{end}")?;
         let text = repeated(alloc, before, part, most, &behind)?;
-        assert_eq!(rt; answer(alloc, text.as_bytes()), ("read", 0, 0), "at {text:?}");
+        assert_eq!(rt;
+            answer(alloc, text.as_bytes()),
+            ("read", 0, 0),
+            "at {text:?}"
+        );
         let text = repeated(alloc, before, part, most + 1, &behind)?;
-        assert_eq!(rt; answer(alloc, text.as_bytes()), (word, at, limit), "at {text:?}");
+        assert_eq!(rt;
+            answer(alloc, text.as_bytes()),
+            (word, at, limit),
+            "at {text:?}"
+        );
     }
 
     let basic = "policy p load count filter always choose first steal first";

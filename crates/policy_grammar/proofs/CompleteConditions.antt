@@ -28,13 +28,13 @@ first-none (Some f) = refl
 
 pub breaks-conjunction : (limits : Limits) (depth count at : ℕ) (first : ConditionTree) (rest : ConditionTrees) →
     breaks_condition limits depth count (conjunction at first rest)
-        ≡ first_of (breaks_condition limits depth count first) (breaks_parts limits depth (count + comparisons first) rest)
+    ≡ first_of (breaks_condition limits depth count first) (breaks_parts limits depth (count + comparisons first) rest)
 breaks-conjunction limits depth count at first no_more = sym (first-none _)
 breaks-conjunction limits depth count at first (more second rest) = refl
 
 pub breaks-disjunction : (limits : Limits) (depth count at : ℕ) (first : ConditionTree) (rest : ConditionTrees) →
     breaks_condition limits depth count (disjunction at first rest)
-        ≡ first_of (breaks_condition limits depth count first) (breaks_parts limits depth (count + comparisons first) rest)
+    ≡ first_of (breaks_condition limits depth count first) (breaks_parts limits depth (count + comparisons first) rest)
 breaks-disjunction limits depth count at first no_more = sym (first-none _)
 breaks-disjunction limits depth count at first (more second rest) = refl
 
@@ -117,11 +117,11 @@ module _ (limits : Limits) (text : List ℕ) (ts : List Lexeme) where
       go limits ts at count (unit depth ∷ below) ≡ go limits ts at count (operand depth depth 0 ∷ compare depth ∷ below)
   begins-test at count depth below b =
       go-same limits ts at count count (unit depth ∷ below) (operand depth depth 0 ∷ compare depth ∷ below) refl
-          (rw (b.always, b.not, b.group) refl)
+      (rw (b.always, b.not, b.group) refl)
 
   pub compares : (at count depth : ℕ) (below : List Symbol) (c : Cmp) → kind_at ts at ≡ compare_word c →
       go limits ts at count (compare depth ∷ below)
-          ≡ judged (many limits.comparisons at count) (go limits ts (at + 1) (count + 1) (operand depth depth 0 ∷ below))
+      ≡ judged (many limits.comparisons at count) (go limits ts (at + 1) (count + 1) (operand depth depth 0 ∷ below))
   compares at count depth below cmp.Eq k = go-move limits ts at 48 count (count + 1) (compare depth ∷ below) _ (many limits.comparisons at count) k (lit< tt) refl
   compares at count depth below cmp.Ne k = go-move limits ts at 49 count (count + 1) (compare depth ∷ below) _ (many limits.comparisons at count) k (lit< tt) refl
   compares at count depth below cmp.Lt k = go-move limits ts at 50 count (count + 1) (compare depth ∷ below) _ (many limits.comparisons at count) k (lit< tt) refl
@@ -140,78 +140,78 @@ module _ (limits : Limits) (text : List ℕ) (ts : List Lexeme) where
   mutual
     pub unit_read : {at to : ℕ} {v : ConditionTree} → IsUnit text ts at v to → NoOperator ts to → (count depth : ℕ) (below : List Symbol) →
         go limits ts at count (unit depth ∷ below)
-            ≡ judged (breaks_condition limits depth count v) (go limits ts to (count + comparisons v) below)
+        ≡ judged (breaks_condition limits depth count v) (go limits ts to (count + comparisons v) below)
     unit_read {at = at} (unit_always k) n count depth below =
         go-move limits ts at 29 count count (unit depth ∷ below) below None k (lit< tt) refl
-            ∙ go-count (at + 1) below (omega arith)
+        ∙ go-count (at + 1) below (omega arith)
     unit_read {at = at} (unit_not {v = v} k d) n count depth below =
         go-move limits ts at 28 count count (unit depth ∷ below) (unit (depth + 1) ∷ below) (deep limits at depth) k (lit< tt) refl
-            ∙ ap (judged (deep limits at depth)) (unit_read d n count (depth + 1) below)
-            ∙ sym (judged-first (deep limits at depth) _ _)
+        ∙ ap (judged (deep limits at depth)) (unit_read d n count (depth + 1) below)
+        ∙ sym (judged-first (deep limits at depth) _ _)
     unit_read {at = at} (unit_group {mid = mid} {v = v} k d c) n count depth below =
         go-move limits ts at 40 count count (unit depth ∷ below) (unit (depth + 1) ∷ ands (depth + 1) ∷ ors (depth + 1) ∷ close ∷ below)
-            (deep limits at depth) k (lit< tt) refl
-            ∙ ap (judged (deep limits at depth))
-                (condition_read d (close-stops c) count (depth + 1) (close ∷ below)
-                    ∙ ap (judged (breaks_condition limits (depth + 1) count v))
-                        (go-move limits ts mid 41 (count + comparisons v) (count + comparisons v) (close ∷ below) below None c (lit< tt) refl))
-            ∙ sym (judged-first (deep limits at depth) _ _)
+        (deep limits at depth) k (lit< tt) refl
+        ∙ ap (judged (deep limits at depth))
+        (condition_read d (close-stops c) count (depth + 1) (close ∷ below)
+        ∙ ap (judged (breaks_condition limits (depth + 1) count v))
+        (go-move limits ts mid 41 (count + comparisons v) (count + comparisons v) (close ∷ below) below None c (lit< tt) refl))
+        ∙ sym (judged-first (deep limits at depth) _ _)
     unit_read {at = at} {to = to} (unit_test {mid = mid} c {left = left} {right = right} d k e) n count depth below =
         begins-test at count depth below (expr-begins d)
-            ∙ expr_read limits text ts d (compare-no_operator ts mid c k) count depth (compare depth ∷ below)
-            ∙ ap (judged (breaks_expr limits depth left))
-                (compares mid count depth below c k
-                    ∙ ap (judged (many limits.comparisons mid count)) (expr_read limits text ts e n (count + 1) depth below)
-                    ∙ sym (judged-first (many limits.comparisons mid count) _ _))
-            ∙ sym (judged-first (breaks_expr limits depth left) _ _)
+        ∙ expr_read limits text ts d (compare-no_operator ts mid c k) count depth (compare depth ∷ below)
+        ∙ ap (judged (breaks_expr limits depth left))
+        (compares mid count depth below c k
+        ∙ ap (judged (many limits.comparisons mid count)) (expr_read limits text ts e n (count + 1) depth below)
+        ∙ sym (judged-first (many limits.comparisons mid count) _ _))
+        ∙ sym (judged-first (breaks_expr limits depth left) _ _)
 
     pub ands_read : {at to : ℕ} {us : ConditionTrees} → IsAnds text ts at us to → NoAnd ts to → (count depth : ℕ) (below : List Symbol) →
         go limits ts at count (ands depth ∷ below)
-            ≡ judged (breaks_parts limits depth count us) (go limits ts to (count + comparisons_of us) below)
+        ≡ judged (breaks_parts limits depth count us) (go limits ts to (count + comparisons_of us) below)
     ands_read {at = at} ands_none n count depth below =
         ands-end at count depth below n.and ∙ go-count at below (omega arith)
     ands_read {at = at} {to = to} (ands_more {v = v} {rest = rest} k d others) n count depth below =
         go-move limits ts at 26 count count (ands depth ∷ below) (unit depth ∷ ands depth ∷ below) None k (lit< tt) refl
-            ∙ unit_read d (ands-stop others n.operator) count depth (ands depth ∷ below)
-            ∙ ap (judged (breaks_condition limits depth count v))
-                (ands_read others n (count + comparisons v) depth below
-                    ∙ ap (judged (breaks_parts limits depth (count + comparisons v) rest)) (go-count to below (omega arith)))
-            ∙ sym (judged-first (breaks_condition limits depth count v) _ _)
+        ∙ unit_read d (ands-stop others n.operator) count depth (ands depth ∷ below)
+        ∙ ap (judged (breaks_condition limits depth count v))
+        (ands_read others n (count + comparisons v) depth below
+        ∙ ap (judged (breaks_parts limits depth (count + comparisons v) rest)) (go-count to below (omega arith)))
+        ∙ sym (judged-first (breaks_condition limits depth count v) _ _)
 
     pub conjunction_read : {at to : ℕ} {v : ConditionTree} → IsConjunction text ts at v to → NoAnd ts to → (count depth : ℕ) (below : List Symbol) →
         go limits ts at count (unit depth ∷ ands depth ∷ below)
-            ≡ judged (breaks_condition limits depth count v) (go limits ts to (count + comparisons v) below)
+        ≡ judged (breaks_condition limits depth count v) (go limits ts to (count + comparisons v) below)
     conjunction_read {at = at} {to = to} (conjunction_of first rest d others) n count depth below =
         unit_read d (ands-stop others n.operator) count depth (ands depth ∷ below)
-            ∙ ap (judged (breaks_condition limits depth count first)) (ands_read others n (count + comparisons first) depth below)
-            ∙ sym (judged-first (breaks_condition limits depth count first) _ _)
-            ∙ ap (λ o. judged o (go limits ts to (count + comparisons first + comparisons_of rest) below)) (sym (breaks-conjunction limits depth count at first rest))
-            ∙ ap (judged (breaks_condition limits depth count (conjunction at first rest)))
-                (go-count to below (omega (arith, comparisons-conjunction at first rest)))
+        ∙ ap (judged (breaks_condition limits depth count first)) (ands_read others n (count + comparisons first) depth below)
+        ∙ sym (judged-first (breaks_condition limits depth count first) _ _)
+        ∙ ap (λ o. judged o (go limits ts to (count + comparisons first + comparisons_of rest) below)) (sym (breaks-conjunction limits depth count at first rest))
+        ∙ ap (judged (breaks_condition limits depth count (conjunction at first rest)))
+        (go-count to below (omega (arith, comparisons-conjunction at first rest)))
 
     pub ors_read : {at to : ℕ} {cs : ConditionTrees} → IsOrs text ts at cs to → NoOr ts to → (count depth : ℕ) (below : List Symbol) →
         go limits ts at count (ors depth ∷ below)
-            ≡ judged (breaks_parts limits depth count cs) (go limits ts to (count + comparisons_of cs) below)
+        ≡ judged (breaks_parts limits depth count cs) (go limits ts to (count + comparisons_of cs) below)
     ors_read {at = at} ors_none n count depth below =
         ors-end at count depth below n.or ∙ go-count at below (omega arith)
     ors_read {at = at} {to = to} (ors_more {v = v} {rest = rest} k d others) n count depth below =
         go-move limits ts at 27 count count (ors depth ∷ below) (unit depth ∷ ands depth ∷ ors depth ∷ below) None k (lit< tt) refl
-            ∙ conjunction_read d (ors-stop others n.before) count depth (ors depth ∷ below)
-            ∙ ap (judged (breaks_condition limits depth count v))
-                (ors_read others n (count + comparisons v) depth below
-                    ∙ ap (judged (breaks_parts limits depth (count + comparisons v) rest)) (go-count to below (omega arith)))
-            ∙ sym (judged-first (breaks_condition limits depth count v) _ _)
+        ∙ conjunction_read d (ors-stop others n.before) count depth (ors depth ∷ below)
+        ∙ ap (judged (breaks_condition limits depth count v))
+        (ors_read others n (count + comparisons v) depth below
+        ∙ ap (judged (breaks_parts limits depth (count + comparisons v) rest)) (go-count to below (omega arith)))
+        ∙ sym (judged-first (breaks_condition limits depth count v) _ _)
 
     pub condition_read : {at to : ℕ} {v : ConditionTree} → IsCondition text ts at v to → NoOr ts to → (count depth : ℕ) (below : List Symbol) →
         go limits ts at count (unit depth ∷ ands depth ∷ ors depth ∷ below)
-            ≡ judged (breaks_condition limits depth count v) (go limits ts to (count + comparisons v) below)
+        ≡ judged (breaks_condition limits depth count v) (go limits ts to (count + comparisons v) below)
     condition_read {at = at} {to = to} (condition_of first rest d others) n count depth below =
         conjunction_read d (ors-stop others n.before) count depth (ors depth ∷ below)
-            ∙ ap (judged (breaks_condition limits depth count first)) (ors_read others n (count + comparisons first) depth below)
-            ∙ sym (judged-first (breaks_condition limits depth count first) _ _)
-            ∙ ap (λ o. judged o (go limits ts to (count + comparisons first + comparisons_of rest) below)) (sym (breaks-disjunction limits depth count at first rest))
-            ∙ ap (judged (breaks_condition limits depth count (disjunction at first rest)))
-                (go-count to below (omega (arith, comparisons-disjunction at first rest)))
+        ∙ ap (judged (breaks_condition limits depth count first)) (ors_read others n (count + comparisons first) depth below)
+        ∙ sym (judged-first (breaks_condition limits depth count first) _ _)
+        ∙ ap (λ o. judged o (go limits ts to (count + comparisons first + comparisons_of rest) below)) (sym (breaks-disjunction limits depth count at first rest))
+        ∙ ap (judged (breaks_condition limits depth count (disjunction at first rest)))
+        (go-count to below (omega (arith, comparisons-disjunction at first rest)))
 
   pub condition-begins : (at count : ℕ) (below : List Symbol) →
       go limits ts at count (condition ∷ below) ≡ go limits ts at 0 (unit 0 ∷ ands 0 ∷ ors 0 ∷ below)
@@ -222,4 +222,4 @@ module _ (limits : Limits) (text : List ℕ) (ts : List Lexeme) where
       go limits ts at 0 (condition ∷ below) ≡ judged (breaks_condition limits 0 0 v) (go limits ts to (comparisons v) below)
   whole_read {at = at} {to = to} {v = v} d n below =
       condition-begins at 0 below ∙ condition_read d n 0 0 below
-          ∙ ap (judged (breaks_condition limits 0 0 v)) (go-count to below (omega arith))
+      ∙ ap (judged (breaks_condition limits 0 0 v)) (go-count to below (omega arith))

@@ -56,7 +56,7 @@ module _ (limits : Limits) (text : List ℕ) (ts : List Lexeme) where
   int_read {at = at} (int_plain k) below = go-move limits ts at 35 0 0 (int ∷ below) below None k (lit< tt) refl
   int_read {at = at} (int_signed k n) below =
       go-move limits ts at 45 0 0 (int ∷ below) (the Number ∷ below) None k (lit< tt) refl
-          ∙ the-read (at + 1) 0 below Number n (lit< tt) refl ∙ go-at 0 below (two at)
+      ∙ the-read (at + 1) 0 below Number n (lit< tt) refl ∙ go-at 0 below (two at)
 
   pub range_read : {at to : ℕ} {v : RangeSyntax} → IsRange ts at v to → (below : List Symbol) →
       go limits ts at 0 (int ∷ the Range ∷ int ∷ below) ≡ go limits ts to 0 below
@@ -79,51 +79,51 @@ module _ (limits : Limits) (text : List ℕ) (ts : List Lexeme) where
       go-move limits ts at 35 count count (operand base depth before ∷ below) _ None k (lit< tt) refl
   operand_read {at = at} (operand_reference o k d w) count base depth before below =
       owner-read at count base depth before below o k
-          ∙ go-move limits ts (at + 1) 36 count count (dot base before ∷ below) (word base before ∷ below) None d (lit< tt) refl
-          ∙ go-at count (word base before ∷ below) (two at)
-          ∙ go-move limits ts (at + 2) (kind_at ts (at + 2)) count count (word base before ∷ below) (operators base before ∷ below) None refl
-              (word-some (kind_at ts (at + 2)) w) (rw w refl)
-          ∙ go-at count (operators base before ∷ below) (let e : at + 2 + 1 ≡ at + 3 = omega arith in e)
+      ∙ go-move limits ts (at + 1) 36 count count (dot base before ∷ below) (word base before ∷ below) None d (lit< tt) refl
+      ∙ go-at count (word base before ∷ below) (two at)
+      ∙ go-move limits ts (at + 2) (kind_at ts (at + 2)) count count (word base before ∷ below) (operators base before ∷ below) None refl
+      (word-some (kind_at ts (at + 2)) w) (rw w refl)
+      ∙ go-at count (operators base before ∷ below) (let e : at + 2 + 1 ≡ at + 3 = omega arith in e)
 
   pub factor_read : {at to : ℕ} {f : FactorSyntax} → IsFactor text ts at f to → (count base depth before : ℕ) (below : List Symbol) →
       go limits ts at count (operand base depth before ∷ below)
-          ≡ judged (breaks_factor limits depth before f) (go limits ts to count (operators base (before + f.signs) ∷ below))
+      ≡ judged (breaks_factor limits depth before f) (go limits ts to count (operators base (before + f.signs) ∷ below))
   factor_read {to = to} (factor_plain d) count base depth before below =
       operand_read d count base depth before below
-          ∙ ap (λ n. go limits ts to count (operators base n ∷ below)) (let e : before ≡ before + 0 = omega arith in e)
+      ∙ ap (λ n. go limits ts to count (operators base n ∷ below)) (let e : before ≡ before + 0 = omega arith in e)
   factor_read {at = at} {to = to} (factor_signed f k d) count base depth before below =
       let here = first_of (many limits.operators at before) (deep limits at depth) in
       go-move limits ts at 45 count count (operand base depth before ∷ below) (operand base (depth + 1) (before + 1) ∷ below) here k (lit< tt) refl
-          ∙ ap (judged here)
-              (factor_read d count base (depth + 1) (before + 1) below
-                  ∙ ap (λ n. judged (breaks_signs limits (depth + 1) (before + 1) n f.signs) (go limits ts to count (operators base (before + 1 + f.signs) ∷ below))) (factor-at d)
-                  ∙ ap (λ n. judged (breaks_signs limits (depth + 1) (before + 1) (at + 1) f.signs) (go limits ts to count (operators base n ∷ below)))
-                      (let e : before + 1 + f.signs ≡ before + suc f.signs = omega arith in e))
-          ∙ sym (judged-first here _ _)
+      ∙ ap (judged here)
+      (factor_read d count base (depth + 1) (before + 1) below
+      ∙ ap (λ n. judged (breaks_signs limits (depth + 1) (before + 1) n f.signs) (go limits ts to count (operators base (before + 1 + f.signs) ∷ below))) (factor-at d)
+      ∙ ap (λ n. judged (breaks_signs limits (depth + 1) (before + 1) (at + 1) f.signs) (go limits ts to count (operators base n ∷ below)))
+      (let e : before + 1 + f.signs ≡ before + suc f.signs = omega arith in e))
+      ∙ sym (judged-first here _ _)
 
   pub times_read : {at to : ℕ} {fs : List TimesSyntax} → IsTimes text ts at fs to → (count base before : ℕ) (below : List Symbol) →
       go limits ts at count (operators base before ∷ below)
-          ≡ judged (breaks_times limits base before fs) (go limits ts to count (operators base (after_times before fs) ∷ below))
+      ≡ judged (breaks_times limits base before fs) (go limits ts to count (operators base (after_times before fs) ∷ below))
   times_read times_none count base before below = refl
   times_read {at = at} (times_more {f = f} {rest = rest} k d more) count base before below =
       go-move limits ts at 46 count count (operators base before ∷ below) (operand base base (before + 1) ∷ below) (many limits.operators at before) k (lit< tt) refl
-          ∙ ap (judged (many limits.operators at before))
-              (factor_read d count base base (before + 1) below
-                  ∙ ap (judged (breaks_factor limits base (before + 1) f)) (times_read more count base (before + 1 + f.signs) below)
-                  ∙ sym (judged-first (breaks_factor limits base (before + 1) f) _ _))
-          ∙ sym (judged-first (many limits.operators at before) _ _)
+      ∙ ap (judged (many limits.operators at before))
+      (factor_read d count base base (before + 1) below
+      ∙ ap (judged (breaks_factor limits base (before + 1) f)) (times_read more count base (before + 1 + f.signs) below)
+      ∙ sym (judged-first (breaks_factor limits base (before + 1) f) _ _))
+      ∙ sym (judged-first (many limits.operators at before) _ _)
 
   pub term_read : {at to : ℕ} {t : TermSyntax} → IsTerm text ts at t to → (count base before : ℕ) (below : List Symbol) →
       go limits ts at count (operand base base before ∷ below)
-          ≡ judged (breaks_term limits base before t) (go limits ts to count (operators base (after_term before t) ∷ below))
+      ≡ judged (breaks_term limits base before t) (go limits ts to count (operators base (after_term before t) ∷ below))
   term_read (term_of {first = first} d more) count base before below =
       factor_read d count base base before below
-          ∙ ap (judged (breaks_factor limits base before first)) (times_read more count base (before + first.signs) below)
-          ∙ sym (judged-first (breaks_factor limits base before first) _ _)
+      ∙ ap (judged (breaks_factor limits base before first)) (times_read more count base (before + first.signs) below)
+      ∙ sym (judged-first (breaks_factor limits base before first) _ _)
 
   sign-read : (at count base before : ℕ) (below : List Symbol) (minus : Bool) → kind_at ts at ≡ sign_word minus →
       go limits ts at count (operators base before ∷ below)
-          ≡ judged (many limits.operators at before) (go limits ts (at + 1) count (operand base base (before + 1) ∷ below))
+      ≡ judged (many limits.operators at before) (go limits ts (at + 1) count (operand base base (before + 1) ∷ below))
   sign-read at count base before below true k =
       go-move limits ts at 45 count count (operators base before ∷ below) _ (many limits.operators at before) k (lit< tt) refl
   sign-read at count base before below false k =
@@ -131,24 +131,24 @@ module _ (limits : Limits) (text : List ℕ) (ts : List Lexeme) where
 
   pub added_read : {at to : ℕ} {us : List AddedSyntax} → IsAdded text ts at us to → (count base before : ℕ) (below : List Symbol) →
       go limits ts at count (operators base before ∷ below)
-          ≡ judged (breaks_added limits base before us) (go limits ts to count (operators base (after_added before us) ∷ below))
+      ≡ judged (breaks_added limits base before us) (go limits ts to count (operators base (after_added before us) ∷ below))
   added_read added_none count base before below = refl
   added_read {at = at} (added_more minus {t = t} {rest = rest} k d more) count base before below =
       sign-read at count base before below minus k
-          ∙ ap (judged (many limits.operators at before))
-              (term_read d count base (before + 1) below
-                  ∙ ap (judged (breaks_term limits base (before + 1) t)) (added_read more count base (after_term (before + 1) t) below)
-                  ∙ sym (judged-first (breaks_term limits base (before + 1) t) _ _))
-          ∙ sym (judged-first (many limits.operators at before) _ _)
+      ∙ ap (judged (many limits.operators at before))
+      (term_read d count base (before + 1) below
+      ∙ ap (judged (breaks_term limits base (before + 1) t)) (added_read more count base (after_term (before + 1) t) below)
+      ∙ sym (judged-first (breaks_term limits base (before + 1) t) _ _))
+      ∙ sym (judged-first (many limits.operators at before) _ _)
 
   -- the expression is read, and may go on
   pub expr_part : {at to : ℕ} {e : ExprSyntax} → IsExpr text ts at e to → (count base : ℕ) (below : List Symbol) →
       go limits ts at count (operand base base 0 ∷ below)
-          ≡ judged (breaks_expr limits base e) (go limits ts to count (operators base (after_expr e) ∷ below))
+      ≡ judged (breaks_expr limits base e) (go limits ts to count (operators base (after_expr e) ∷ below))
   expr_part (expr_of {first = first} d more) count base below =
       term_read d count base 0 below
-          ∙ ap (judged (breaks_term limits base 0 first)) (added_read more count base (after_term 0 first) below)
-          ∙ sym (judged-first (breaks_term limits base 0 first) _ _)
+      ∙ ap (judged (breaks_term limits base 0 first)) (added_read more count base (after_term 0 first) below)
+      ∙ sym (judged-first (breaks_term limits base 0 first) _ _)
 
   pub operators-end : (at count base before : ℕ) (below : List Symbol) → NoOperator ts at →
       go limits ts at count (operators base before ∷ below) ≡ go limits ts at count below
@@ -162,16 +162,16 @@ module _ (limits : Limits) (text : List ℕ) (ts : List Lexeme) where
 
   key-starts : (at before : ℕ) (below : List Symbol) (greatest : Bool) → kind_at ts at ≡ key_word greatest →
       go limits ts at 0 (key before ∷ below)
-          ≡ judged (many limits.keys at before) (go limits ts (at + 1) 0 (operand 0 0 0 ∷ keys (before + 1) ∷ below))
+      ≡ judged (many limits.keys at before) (go limits ts (at + 1) 0 (operand 0 0 0 ∷ keys (before + 1) ∷ below))
   key-starts at before below true k = go-move limits ts at 12 0 0 (key before ∷ below) _ (many limits.keys at before) k (lit< tt) refl
   key-starts at before below false k = go-move limits ts at 11 0 0 (key before ∷ below) _ (many limits.keys at before) k (lit< tt) refl
 
   pub key_read : {at to : ℕ} {k : KeySyntax} → IsKey text ts at k to → NoOperator ts to → (before : ℕ) (below : List Symbol) →
       go limits ts at 0 (key before ∷ below)
-          ≡ judged (many limits.keys k.at before) (judged (breaks_expr limits 0 k.value) (go limits ts to 0 (keys (before + 1) ∷ below)))
+      ≡ judged (many limits.keys k.at before) (judged (breaks_expr limits 0 k.value) (go limits ts to 0 (keys (before + 1) ∷ below)))
   key_read {at = at} (key_of greatest {v = v} k d) n before below =
       key-starts at before below greatest k
-          ∙ ap (judged (many limits.keys at before)) (expr_read d n 0 0 (keys (before + 1) ∷ below))
+      ∙ ap (judged (many limits.keys at before)) (expr_read d n 0 0 (keys (before + 1) ∷ below))
 
   keys-stop : {at to : ℕ} {ks : List KeySyntax} → IsKeys text ts at ks to → NoOperator ts to → NoOperator ts at
   keys-stop keys_none n = n
@@ -183,11 +183,11 @@ module _ (limits : Limits) (text : List ℕ) (ts : List Lexeme) where
   keys_read {at = at} keys_none n c before below = go-same limits ts at 0 0 (keys before ∷ below) below refl (rw c refl)
   keys_read {at = at} (keys_more {k = k} {rest = rest} e d more) n c before below =
       go-move limits ts at 38 0 0 (keys before ∷ below) (key before ∷ below) None e (lit< tt) refl
-          ∙ key_read d (keys-stop more n) before below
-          ∙ ap (judged (many limits.keys k.at before))
-              (ap (judged (breaks_expr limits 0 k.value)) (keys_read more n c (before + 1) below)
-                  ∙ sym (judged-first (breaks_expr limits 0 k.value) _ _))
-          ∙ sym (judged-first (many limits.keys k.at before) _ _)
+      ∙ key_read d (keys-stop more n) before below
+      ∙ ap (judged (many limits.keys k.at before))
+      (ap (judged (breaks_expr limits 0 k.value)) (keys_read more n c (before + 1) below)
+      ∙ sym (judged-first (breaks_expr limits 0 k.value) _ _))
+      ∙ sym (judged-first (many limits.keys k.at before) _ _)
 
   order-key : (at : ℕ) (below : List Symbol) (greatest : Bool) → kind_at ts at ≡ key_word greatest →
       go limits ts at 0 (order ∷ below) ≡ go limits ts at 0 (key 0 ∷ below)
@@ -203,8 +203,8 @@ module _ (limits : Limits) (text : List ℕ) (ts : List Lexeme) where
   order_read {at = at} (order_first k) n c below = go-move limits ts at 16 0 0 (order ∷ below) below None k (lit< tt) refl
   order_read {at = at} (order_keys {k = k} d more) n c below =
       key-begins d below
-          ∙ key_read d (keys-stop more n) 0 below
-          ∙ ap (judged (many limits.keys k.at 0))
-              (ap (judged (breaks_expr limits 0 k.value)) (keys_read more n c 1 below)
-                  ∙ sym (judged-first (breaks_expr limits 0 k.value) _ _))
-          ∙ sym (judged-first (many limits.keys k.at 0) _ _)
+      ∙ key_read d (keys-stop more n) 0 below
+      ∙ ap (judged (many limits.keys k.at 0))
+      (ap (judged (breaks_expr limits 0 k.value)) (keys_read more n c 1 below)
+      ∙ sym (judged-first (breaks_expr limits 0 k.value) _ _))
+      ∙ sym (judged-first (many limits.keys k.at 0) _ _)

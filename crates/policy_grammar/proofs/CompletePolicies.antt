@@ -86,36 +86,36 @@ module _ (limits : Limits) (text : List ℕ) (ts : List Lexeme) where
       go limits ts at 0 (the Load ∷ load_rule ∷ below) ≡ go limits ts to 0 below
   load_read {at = at} (load_count k c) below =
       the-read limits text ts at 0 (load_rule ∷ below) Load k (lit< tt) refl
-          ∙ go-move limits ts (at + 1) 3 0 0 (load_rule ∷ below) below None c (lit< tt) refl
-          ∙ next (at + 1) 0 below (at + 2) (omega arith)
+      ∙ go-move limits ts (at + 1) 3 0 0 (load_rule ∷ below) below None c (lit< tt) refl
+      ∙ next (at + 1) 0 below (at + 2) (omega arith)
   load_read {at = at} (load_weight k w d) below =
       the-read limits text ts at 0 (load_rule ∷ below) Load k (lit< tt) refl
-          ∙ go-move limits ts (at + 1) 4 0 0 (load_rule ∷ below) _ None w (lit< tt) refl
-          ∙ next (at + 1) 0 _ (at + 2) (omega arith)
-          ∙ range_read limits text ts d below
+      ∙ go-move limits ts (at + 1) 4 0 0 (load_rule ∷ below) _ None w (lit< tt) refl
+      ∙ next (at + 1) 0 _ (at + 2) (omega arith)
+      ∙ range_read limits text ts d below
 
   attr-starts : (at cores threads : ℕ) (below : List Symbol) (of_cores : Bool) → kind_at ts at ≡ attr_word of_cores →
       go limits ts at 0 (attrs cores threads ∷ below)
-          ≡ judged (many limits.attrs at (of_kind of_cores cores threads))
-              (go limits ts (at + 1) 0 (the Name ∷ the In ∷ int ∷ the Range ∷ int ∷ the Start ∷ int ∷ attrs (of_cores_more of_cores cores) (of_threads_more of_cores threads) ∷ below))
+      ≡ judged (many limits.attrs at (of_kind of_cores cores threads))
+      (go limits ts (at + 1) 0 (the Name ∷ the In ∷ int ∷ the Range ∷ int ∷ the Start ∷ int ∷ attrs (of_cores_more of_cores cores) (of_threads_more of_cores threads) ∷ below))
   attr-starts at cores threads below true k = go-move limits ts at 5 0 0 (attrs cores threads ∷ below) _ (many limits.attrs at cores) k (lit< tt) refl
   attr-starts at cores threads below false k = go-move limits ts at 6 0 0 (attrs cores threads ∷ below) _ (many limits.attrs at threads) k (lit< tt) refl
 
   pub attr_read : {at to : ℕ} {a : AttrSyntax} → IsAttr text ts at a to → (cores threads : ℕ) (below : List Symbol) →
       go limits ts at 0 (attrs cores threads ∷ below)
-          ≡ judged (many limits.attrs a.at (of_kind a.of_cores cores threads))
-              (go limits ts to 0 (attrs (of_cores_more a.of_cores cores) (of_threads_more a.of_cores threads) ∷ below))
+      ≡ judged (many limits.attrs a.at (of_kind a.of_cores cores threads))
+      (go limits ts to 0 (attrs (of_cores_more a.of_cores cores) (of_threads_more a.of_cores threads) ∷ below))
   attr_read {at = at} (attr_of {mid = mid} of_cores k n i r s d) cores threads below =
       let rest = attrs (of_cores_more of_cores cores) (of_threads_more of_cores threads) ∷ below in
       attr-starts at cores threads below of_cores k
-          ∙ ap (judged (many limits.attrs at (of_kind of_cores cores threads)))
-              (the-read limits text ts (at + 1) 0 (the In ∷ int ∷ the Range ∷ int ∷ the Start ∷ int ∷ rest) Name n (lit< tt) refl
-                  ∙ next (at + 1) 0 _ (at + 2) (omega arith)
-                  ∙ the-read limits text ts (at + 2) 0 (int ∷ the Range ∷ int ∷ the Start ∷ int ∷ rest) In i (lit< tt) refl
-                  ∙ next (at + 2) 0 _ (at + 3) (omega arith)
-                  ∙ range_read limits text ts r (the Start ∷ int ∷ rest)
-                  ∙ the-read limits text ts mid 0 (int ∷ rest) Start s (lit< tt) refl
-                  ∙ int_read limits text ts d rest)
+      ∙ ap (judged (many limits.attrs at (of_kind of_cores cores threads)))
+      (the-read limits text ts (at + 1) 0 (the In ∷ int ∷ the Range ∷ int ∷ the Start ∷ int ∷ rest) Name n (lit< tt) refl
+      ∙ next (at + 1) 0 _ (at + 2) (omega arith)
+      ∙ the-read limits text ts (at + 2) 0 (int ∷ the Range ∷ int ∷ the Start ∷ int ∷ rest) In i (lit< tt) refl
+      ∙ next (at + 2) 0 _ (at + 3) (omega arith)
+      ∙ range_read limits text ts r (the Start ∷ int ∷ rest)
+      ∙ the-read limits text ts mid 0 (int ∷ rest) Start s (lit< tt) refl
+      ∙ int_read limits text ts d rest)
 
   pub attrs_read : {at to : ℕ} {us : List AttrSyntax} → IsAttrs text ts at us to → From 9 ts to → (cores threads : ℕ) (below : List Symbol) →
       go limits ts at 0 (attrs cores threads ∷ below) ≡ judged (breaks_attrs limits cores threads us) (go limits ts to 0 below)
@@ -123,28 +123,28 @@ module _ (limits : Limits) (text : List ℕ) (ts : List Lexeme) where
       go-same limits ts at 0 0 (attrs cores threads ∷ below) below refl (rw (from-past 5 (omega arith) f, from-past 6 (omega arith) f) refl)
   attrs_read (attrs_more {a = a} d more) f cores threads below =
       attr_read d cores threads below
-          ∙ ap (judged (many limits.attrs a.at (of_kind a.of_cores cores threads))) (attrs_read more f _ _ below)
-          ∙ sym (judged-first (many limits.attrs a.at (of_kind a.of_cores cores threads)) _ _)
+      ∙ ap (judged (many limits.attrs a.at (of_kind a.of_cores cores threads))) (attrs_read more f _ _ below)
+      ∙ sym (judged-first (many limits.attrs a.at (of_kind a.of_cores cores threads)) _ _)
 
   pub place_read : {at to : ℕ} {p : Option PlaceSyntax} → IsPlace text ts at p to → From 13 ts to → (below : List Symbol) →
       go limits ts at 0 (place ∷ below) ≡ judged (breaks_place limits p) (go limits ts to 0 below)
   place_read {at = at} place_none f below = go-same limits ts at 0 0 (place ∷ below) below refl (rw (from-past 9 (omega arith) f) refl)
   place_read {at = at} (place_here k h) f below =
       go-move limits ts at 9 0 0 (place ∷ below) (place_rule ∷ below) None k (lit< tt) refl
-          ∙ go-move limits ts (at + 1) 10 0 0 (place_rule ∷ below) below None h (lit< tt) refl
-          ∙ next (at + 1) 0 below (at + 2) (omega arith)
+      ∙ go-move limits ts (at + 1) 10 0 0 (place_rule ∷ below) below None h (lit< tt) refl
+      ∙ next (at + 1) 0 below (at + 2) (omega arith)
   place_read {at = at} (place_least k m d) f below =
       go-move limits ts at 9 0 0 (place ∷ below) (place_rule ∷ below) None k (lit< tt) refl
-          ∙ go-move limits ts (at + 1) 11 0 0 (place_rule ∷ below) (operand 0 0 0 ∷ below) None m (lit< tt) refl
-          ∙ next (at + 1) 0 _ (at + 2) (omega arith)
-          ∙ expr_read limits text ts d (from-no_operator f) 0 0 below
+      ∙ go-move limits ts (at + 1) 11 0 0 (place_rule ∷ below) (operand 0 0 0 ∷ below) None m (lit< tt) refl
+      ∙ next (at + 1) 0 _ (at + 2) (omega arith)
+      ∙ expr_read limits text ts d (from-no_operator f) 0 0 below
 
   pub elect_read : {at to : ℕ} {e : Option ElectSyntax} → IsElect text ts at e to → From 17 ts to → (below : List Symbol) →
       go limits ts at 0 (elect ∷ below) ≡ judged (breaks_elect limits e) (go limits ts to 0 below)
   elect_read {at = at} elect_none f below = go-same limits ts at 0 0 (elect ∷ below) below refl (rw (from-past 13 (omega arith) f) refl)
   elect_read {at = at} (elect_some k d) f below =
       go-move limits ts at 13 0 0 (elect ∷ below) (order ∷ below) None k (lit< tt) refl
-          ∙ order_read limits text ts d (from-no_operator f) (from-no_comma f) below
+      ∙ order_read limits text ts d (from-no_operator f) (from-no_comma f) below
 
   put-read : (at before : ℕ) (below : List Symbol) (p : Put) → kind_at ts at ≡ put_word p →
       go limits ts at 0 (actions before ∷ below) ≡ go limits ts (at + 1) 0 below
@@ -164,39 +164,39 @@ module _ (limits : Limits) (text : List ℕ) (ts : List Lexeme) where
   actions_read {at = at} sets_none p k before below = put-read at before below p k
   actions_read {at = at} (sets_more {mid = mid} {v = v} t d w g e c more) p k before below =
       go-move limits ts at 32 0 0 (actions before ∷ below) _ (many limits.sets at before) t (lit< tt) refl
-          ∙ ap (judged (many limits.sets at before))
-              (the-read limits text ts (at + 1) 0 (field ∷ the Gets ∷ operand 0 0 0 ∷ the Comma ∷ actions (before + 1) ∷ below) Dot d (lit< tt) refl
-                  ∙ next (at + 1) 0 _ (at + 2) (omega arith)
-                  ∙ go-move limits ts (at + 2) (kind_at ts (at + 2)) 0 0 (field ∷ the Gets ∷ operand 0 0 0 ∷ the Comma ∷ actions (before + 1) ∷ below) _ None refl
-                      (word-some (kind_at ts (at + 2)) w) (rw w refl)
-                  ∙ next (at + 2) 0 _ (at + 3) (omega arith)
-                  ∙ the-read limits text ts (at + 3) 0 (operand 0 0 0 ∷ the Comma ∷ actions (before + 1) ∷ below) Gets g (lit< tt) refl
-                  ∙ next (at + 3) 0 _ (at + 4) (omega arith)
-                  ∙ expr_read limits text ts e (comma-stops mid c) 0 0 (the Comma ∷ actions (before + 1) ∷ below)
-                  ∙ ap (judged (breaks_expr limits 0 v))
-                      (the-read limits text ts mid 0 (actions (before + 1) ∷ below) Comma c (lit< tt) refl
-                          ∙ actions_read more p k (before + 1) below)
-                  ∙ sym (judged-first (breaks_expr limits 0 v) _ _))
-          ∙ sym (judged-first (many limits.sets at before) _ _)
+      ∙ ap (judged (many limits.sets at before))
+      (the-read limits text ts (at + 1) 0 (field ∷ the Gets ∷ operand 0 0 0 ∷ the Comma ∷ actions (before + 1) ∷ below) Dot d (lit< tt) refl
+      ∙ next (at + 1) 0 _ (at + 2) (omega arith)
+      ∙ go-move limits ts (at + 2) (kind_at ts (at + 2)) 0 0 (field ∷ the Gets ∷ operand 0 0 0 ∷ the Comma ∷ actions (before + 1) ∷ below) _ None refl
+      (word-some (kind_at ts (at + 2)) w) (rw w refl)
+      ∙ next (at + 2) 0 _ (at + 3) (omega arith)
+      ∙ the-read limits text ts (at + 3) 0 (operand 0 0 0 ∷ the Comma ∷ actions (before + 1) ∷ below) Gets g (lit< tt) refl
+      ∙ next (at + 3) 0 _ (at + 4) (omega arith)
+      ∙ expr_read limits text ts e (comma-stops mid c) 0 0 (the Comma ∷ actions (before + 1) ∷ below)
+      ∙ ap (judged (breaks_expr limits 0 v))
+      (the-read limits text ts mid 0 (actions (before + 1) ∷ below) Comma c (lit< tt) refl
+      ∙ actions_read more p k (before + 1) below)
+      ∙ sym (judged-first (breaks_expr limits 0 v) _ _))
+      ∙ sym (judged-first (many limits.sets at before) _ _)
 
   case-body : {at to : ℕ} {c : CaseSyntaxTree} → IsCase text ts at c to → (below : List Symbol) →
       go limits ts (at + 1) 0 (condition ∷ the Colon ∷ actions 0 ∷ below)
-          ≡ judged (breaks_condition limits 0 0 c.guard) (judged (breaks_sets limits 0 c.sets) (go limits ts to 0 below))
+      ≡ judged (breaks_condition limits 0 0 c.guard) (judged (breaks_sets limits 0 c.sets) (go limits ts to 0 below))
   case-body (case_of {mid = mid} {guard = guard} p k g c sets q) below =
       whole_read limits text ts g (no_or-by ts mid 39 c refl refl refl refl refl) (the Colon ∷ actions 0 ∷ below)
-          ∙ ap (judged (breaks_condition limits 0 0 guard))
-              (the-read limits text ts mid (comparisons guard) (actions 0 ∷ below) Colon c (lit< tt) refl
-                  ∙ actions_read sets p q 0 below)
+      ∙ ap (judged (breaks_condition limits 0 0 guard))
+      (the-read limits text ts mid (comparisons guard) (actions 0 ∷ below) Colon c (lit< tt) refl
+      ∙ actions_read sets p q 0 below)
 
   case-when : {at to : ℕ} {c : CaseSyntaxTree} → IsCase text ts at c to → (before : ℕ) (below : List Symbol) →
       go limits ts at 0 (case before ∷ below)
-          ≡ judged (many limits.cases c.at before) (go limits ts (at + 1) 0 (condition ∷ the Colon ∷ actions 0 ∷ cases (before + 1) ∷ below))
+      ≡ judged (many limits.cases c.at before) (go limits ts (at + 1) 0 (condition ∷ the Colon ∷ actions 0 ∷ cases (before + 1) ∷ below))
   case-when {at = at} (case_of p k g c sets q) before below =
       go-move limits ts at 22 0 0 (case before ∷ below) _ (many limits.cases at before) k (lit< tt) refl
 
   cases-when : {at to : ℕ} {c : CaseSyntaxTree} → IsCase text ts at c to → (before : ℕ) (below : List Symbol) →
       go limits ts at 0 (cases before ∷ below)
-          ≡ judged (many limits.cases c.at before) (go limits ts (at + 1) 0 (condition ∷ the Colon ∷ actions 0 ∷ cases (before + 1) ∷ below))
+      ≡ judged (many limits.cases c.at before) (go limits ts (at + 1) 0 (condition ∷ the Colon ∷ actions 0 ∷ cases (before + 1) ∷ below))
   cases-when {at = at} (case_of p k g c sets q) before below =
       go-move limits ts at 22 0 0 (cases before ∷ below) _ (many limits.cases at before) k (lit< tt) refl
 
@@ -213,10 +213,10 @@ module _ (limits : Limits) (text : List ℕ) (ts : List Lexeme) where
   cases_read {at = at} cases_none n before below = go-same limits ts at 0 0 (cases before ∷ below) below refl (rw n refl)
   cases_read (cases_more {c = c} d more) n before below =
       cases-when d before below
-          ∙ ap (judged (many limits.cases c.at before))
-              (case-body d (cases (before + 1) ∷ below)
-                  ∙ ap (λ r. judged (breaks_condition limits 0 0 c.guard) (judged (breaks_sets limits 0 c.sets) r)) (cases_read more n (before + 1) below))
-          ∙ joined (many limits.cases c.at before) (breaks_condition limits 0 0 c.guard) (breaks_sets limits 0 c.sets) _ _
+      ∙ ap (judged (many limits.cases c.at before))
+      (case-body d (cases (before + 1) ∷ below)
+      ∙ ap (λ r. judged (breaks_condition limits 0 0 c.guard) (judged (breaks_sets limits 0 c.sets) r)) (cases_read more n (before + 1) below))
+      ∙ joined (many limits.cases c.at before) (breaks_condition limits 0 0 c.guard) (breaks_sets limits 0 c.sets) _ _
 
   event-read : (at : ℕ) (below : List Symbol) (e : Event) → kind_at ts at ≡ event_word e → go limits ts at 0 (event ∷ below) ≡ go limits ts (at + 1) 0 below
   event-read at below event_is.Enqueue k = go-move limits ts at 18 0 0 (event ∷ below) below None k (lit< tt) refl
@@ -229,24 +229,24 @@ module _ (limits : Limits) (text : List ℕ) (ts : List Lexeme) where
   handler_read {at = at} (handler_of {last = last} e {c = c} k v b d more f) below =
       let rest = the Finish ∷ handlers ∷ below in
       go-move limits ts at 17 0 0 (handlers ∷ below) (event ∷ the Begin ∷ case 0 ∷ rest) None k (lit< tt) refl
-          ∙ event-read (at + 1) (the Begin ∷ case 0 ∷ rest) e v
-          ∙ next (at + 1) 0 _ (at + 2) (omega arith)
-          ∙ the-read limits text ts (at + 2) 0 (case 0 ∷ rest) Begin b (lit< tt) refl
-          ∙ next (at + 2) 0 _ (at + 3) (omega arith)
-          ∙ case-when d 0 rest
-          ∙ ap (judged (many limits.cases c.at 0))
-              (case-body d (cases 1 ∷ rest)
-                  ∙ ap (λ r. judged (breaks_condition limits 0 0 c.guard) (judged (breaks_sets limits 0 c.sets) r)) (cases_read more (rw f refl) 1 rest))
-          ∙ joined (many limits.cases c.at 0) (breaks_condition limits 0 0 c.guard) (breaks_sets limits 0 c.sets) _ _
-          ∙ ap (judged (breaks_cases limits 0 (c ∷ _))) (the-read limits text ts last 0 (handlers ∷ below) Finish f (lit< tt) refl)
+      ∙ event-read (at + 1) (the Begin ∷ case 0 ∷ rest) e v
+      ∙ next (at + 1) 0 _ (at + 2) (omega arith)
+      ∙ the-read limits text ts (at + 2) 0 (case 0 ∷ rest) Begin b (lit< tt) refl
+      ∙ next (at + 2) 0 _ (at + 3) (omega arith)
+      ∙ case-when d 0 rest
+      ∙ ap (judged (many limits.cases c.at 0))
+      (case-body d (cases 1 ∷ rest)
+      ∙ ap (λ r. judged (breaks_condition limits 0 0 c.guard) (judged (breaks_sets limits 0 c.sets) r)) (cases_read more (rw f refl) 1 rest))
+      ∙ joined (many limits.cases c.at 0) (breaks_condition limits 0 0 c.guard) (breaks_sets limits 0 c.sets) _ _
+      ∙ ap (judged (breaks_cases limits 0 (c ∷ _))) (the-read limits text ts last 0 (handlers ∷ below) Finish f (lit< tt) refl)
 
   pub handlers_read : {at to : ℕ} {hs : List HandlerSyntaxTree} → IsHandlers text ts at hs to → kind_at ts to ≡ code Filter → (below : List Symbol) →
       go limits ts at 0 (handlers ∷ below) ≡ judged (breaks_handlers limits hs) (go limits ts to 0 below)
   handlers_read {at = at} handlers_none k below = go-same limits ts at 0 0 (handlers ∷ below) below refl (rw k refl)
   handlers_read (handlers_more {h = h} d more) k below =
       handler_read d below
-          ∙ ap (judged (breaks_cases limits 0 h.cases)) (handlers_read more k below)
-          ∙ sym (judged-first (breaks_cases limits 0 h.cases) _ _)
+      ∙ ap (judged (breaks_cases limits 0 h.cases)) (handlers_read more k below)
+      ∙ sym (judged-first (breaks_cases limits 0 h.cases) _ _)
 
 judged-is : (o : Option ParseFault) {r x : Option ParseFault} → r ≡ x → judged o r ≡ first_of o x
 judged-is None e = e
@@ -257,24 +257,24 @@ pub policy_read : (limits : Limits) (text : List ℕ) (ts : List Lexeme) {s : Sy
     go limits ts 0 0 start ≡ breaks_policy limits s
 policy_read limits text ts
     (policy_of {at_attrs = at_attrs} {at_place = at_place} {at_elect = at_elect} {at_handlers = at_handlers} {at_filter = at_filter}
-        {at_choose = at_choose} {at_steal = at_steal} {filter = filter}
-        k0 k1 dl da dp de dh kf df kc dc ks ds) =
+    {at_choose = at_choose} {at_steal = at_steal} {filter = filter}
+    k0 k1 dl da dp de dh kf df kc dc ks ds) =
     let fh = handlers-from dh kf in
     let fe = elect-from de fh in
     let fp = place-from dp fe in
     let none = kind-end ts in
     the-read limits text ts 0 0 _ Policy k0 (lit< tt) refl
-        ∙ the-read limits text ts 1 0 _ Name k1 (lit< tt) refl
-        ∙ load_read limits text ts dl _
-        ∙ attrs_read limits text ts da fp 0 0 _
-        ∙ judged-is _ (place_read limits text ts dp fe _
-            ∙ judged-is _ (elect_read limits text ts de fh _
-                ∙ judged-is _ (handlers_read limits text ts dh kf _
-                    ∙ judged-is _ (the-read limits text ts at_filter 0 _ Filter kf (lit< tt) refl
-                        ∙ whole_read limits text ts df (no_or-by ts at_choose 14 kc refl refl refl refl refl) _
-                        ∙ judged-is _ (the-read limits text ts at_choose (comparisons filter) _ Choose kc (lit< tt) refl
-                            ∙ order_read limits text ts dc (no_operator-by ts at_steal 15 ks refl refl refl) (rw ks refl) _
-                            ∙ judged-is _ (the-read limits text ts at_steal 0 _ Steal ks (lit< tt) refl
-                                ∙ order_read limits text ts ds (no_operator-by ts (length ts) 0 none refl refl refl) (rw none refl) []
-                                ∙ ap (judged _) (is-zero limits ts (length ts) refl 0 [] refl)
-                                ∙ judged-none _))))))
+    ∙ the-read limits text ts 1 0 _ Name k1 (lit< tt) refl
+    ∙ load_read limits text ts dl _
+    ∙ attrs_read limits text ts da fp 0 0 _
+    ∙ judged-is _ (place_read limits text ts dp fe _
+    ∙ judged-is _ (elect_read limits text ts de fh _
+    ∙ judged-is _ (handlers_read limits text ts dh kf _
+    ∙ judged-is _ (the-read limits text ts at_filter 0 _ Filter kf (lit< tt) refl
+    ∙ whole_read limits text ts df (no_or-by ts at_choose 14 kc refl refl refl refl refl) _
+    ∙ judged-is _ (the-read limits text ts at_choose (comparisons filter) _ Choose kc (lit< tt) refl
+    ∙ order_read limits text ts dc (no_operator-by ts at_steal 15 ks refl refl refl) (rw ks refl) _
+    ∙ judged-is _ (the-read limits text ts at_steal 0 _ Steal ks (lit< tt) refl
+    ∙ order_read limits text ts ds (no_operator-by ts (length ts) 0 none refl refl refl) (rw none refl) []
+    ∙ ap (judged _) (is-zero limits ts (length ts) refl 0 [] refl)
+    ∙ judged-none _))))))

@@ -35,7 +35,11 @@ module _ (limits : Limits) (text : List ℕ) where
 
   stays : (ps ts : List Lexeme) (count : ℕ) (stack : List Symbol) → Reach text ps stack → Stops (length ps) count stack ts → Course ps ts count stack
   stays ps ts count stack reach stops = record {
-    xs = []; ys = ts; next = count; to = stack; split = refl;
+    xs = [];
+    ys = ts;
+    next = count;
+    to = stack;
+    split = refl;
     reach = subst (λ x. Reach text x stack) (sym (append-nil ps)) reach;
     same = λ rest. ap (λ x. run limits (length x) (state count stack) rest) (sym (append-nil ps));
     stops = subst (λ x. Stops (length x) count stack ts) (sym (append-nil ps)) stops;
@@ -52,13 +56,17 @@ module _ (limits : Limits) (text : List ℕ) where
       by (goes None (state next to)) e go_on =
           let c = go_on next to (reach-step limits text ps t count next stack to None reach e) in
           record {
-            xs = t ∷ c.xs; ys = c.ys; next = c.next; to = c.to; split = ap (λ x. t ∷ x) c.split;
+            xs = t ∷ c.xs;
+            ys = c.ys;
+            next = c.next;
+            to = c.to;
+            split = ap (λ x. t ∷ x) c.split;
             reach = subst (λ x. Reach text x c.to) (append_assoc ps (t ∷ []) c.xs) c.reach;
             same = λ rest.
                 ap (λ m. after (length ps) m (λ r. run limits (length ps + 1) r (c.xs ++ rest))) e
-                    ∙ ap (λ n. run limits n (state next to) (c.xs ++ rest)) (sym (length-append ps (t ∷ [])))
-                    ∙ c.same rest
-                    ∙ ap (λ x. run limits (length x) (state c.next c.to) rest) (append_assoc ps (t ∷ []) c.xs);
+                ∙ ap (λ n. run limits n (state next to) (c.xs ++ rest)) (sym (length-append ps (t ∷ [])))
+                ∙ c.same rest
+                ∙ ap (λ x. run limits (length x) (state c.next c.to) rest) (append_assoc ps (t ∷ []) c.xs);
             stops = subst (λ x. Stops (length x) c.next c.to c.ys) (append_assoc ps (t ∷ []) c.xs) c.stops;
           }
 
@@ -145,20 +153,21 @@ module _ (limits : Limits) (text : List ℕ) where
       by false n =
           let f_is : Unexpected (length xs) ≡ f = some-same (ap (λ b. if b then None else Some (Unexpected (length xs))) (sym n) ∙ sym (same []) ∙ e) in
           subst (IsParseFault limits text (xs ++ [])) f_is
-              (unexpected xs [] next to reach same (e ∙ ap Some (sym f_is))
-                  (λ short b. absurd (let l : length (xs ++ []) ≡ length xs = ap length (append-nil xs) in omega arith)))
+          (unexpected xs [] next to reach same (e ∙ ap Some (sym f_is))
+          (λ short b. absurd (let l : length (xs ++ []) ≡ length xs = ap length (append-nil xs) in omega arith)))
 
   refused-fault : (xs ys : List Lexeme) (t : Lexeme) (next : ℕ) (to : List Symbol) → Reach text xs to → Comes xs next to →
       moves limits next (length xs) to (kind_of t) ≡ refuses → (f : ParseFault) →
       run limits 0 (state 0 start) (xs ++ t ∷ ys) ≡ Some f → IsParseFault limits text (xs ++ t ∷ ys) f
   refused-fault xs ys t next to reach same m f e =
       subst (IsParseFault limits text (xs ++ t ∷ ys)) (some-same (sym (answer ys) ∙ e))
-          (unexpected xs (t ∷ ys) next to reach same (answer ys)
-              (λ within b. no-policy ((xs ++ t ∷ []) ++ b.rest) b.syntax (length xs)
-                  (subst (λ x. IsPolicy text (x ++ b.rest) b.syntax) (one-more xs ys t) b.is) (behind b.rest)))
+      (unexpected xs (t ∷ ys) next to reach same (answer ys)
+      (λ within b. no-policy ((xs ++ t ∷ []) ++ b.rest) b.syntax (length xs)
+      (subst (λ x. IsPolicy text (x ++ b.rest) b.syntax) (one-more xs ys t) b.is) (behind b.rest)))
     where
       answer : (rest : List Lexeme) → run limits 0 (state 0 start) (xs ++ t ∷ rest) ≡ Some (Unexpected (length xs))
       answer rest = same (t ∷ rest) ∙ ap (λ w. after (length xs) w (λ q. run limits (length xs + 1) q rest)) m
+
       behind : (rest : List Lexeme) → run limits 0 (state 0 start) ((xs ++ t ∷ []) ++ rest) ≡ Some (Unexpected (length xs))
       behind rest = ap (run limits 0 (state 0 start)) (append_assoc xs (t ∷ []) rest) ∙ answer rest
 
@@ -173,15 +182,16 @@ module _ (limits : Limits) (text : List ℕ) where
       run limits 0 (state 0 start) (xs ++ t ∷ ys) ≡ Some f → IsParseFault limits text (xs ++ t ∷ ys) f
   passed-fault xs ys t next to reach same g later there m f e =
       subst (IsParseFault limits text (xs ++ t ∷ ys)) (some-same (sym (answer ys) ∙ e))
-          (excess-fault (xs ++ t ∷ ys) (length xs) g (subst (MovesHere (length xs)) m (moves-here limits next (length xs) to (kind_of t)))
-              (record {
-                within = let l : length (xs ++ t ∷ ys) ≡ length xs + length (t ∷ ys) = length-append xs (t ∷ ys) in omega arith;
-                begins = begins-as (sym (one-more xs ys t)) (reach-begins text (xs ++ t ∷ []) there (reach-step limits text xs t next later to there (Some g) reach m));
-                first = λ rest s d. sym (policy-run ((xs ++ t ∷ []) ++ rest) s (subst (λ x. IsPolicy text (x ++ rest) s) (one-more xs ys t) d)) ∙ behind rest;
-              }))
+      (excess-fault (xs ++ t ∷ ys) (length xs) g (subst (MovesHere (length xs)) m (moves-here limits next (length xs) to (kind_of t)))
+      (record {
+        within = let l : length (xs ++ t ∷ ys) ≡ length xs + length (t ∷ ys) = length-append xs (t ∷ ys) in omega arith;
+        begins = begins-as (sym (one-more xs ys t)) (reach-begins text (xs ++ t ∷ []) there (reach-step limits text xs t next later to there (Some g) reach m));
+        first = λ rest s d. sym (policy-run ((xs ++ t ∷ []) ++ rest) s (subst (λ x. IsPolicy text (x ++ rest) s) (one-more xs ys t) d)) ∙ behind rest;
+      }))
     where
       answer : (rest : List Lexeme) → run limits 0 (state 0 start) (xs ++ t ∷ rest) ≡ Some g
       answer rest = same (t ∷ rest) ∙ ap (λ w. after (length xs) w (λ q. run limits (length xs + 1) q rest)) m
+
       behind : (rest : List Lexeme) → run limits 0 (state 0 start) ((xs ++ t ∷ []) ++ rest) ≡ Some g
       behind rest = ap (run limits 0 (state 0 start)) (append_assoc xs (t ∷ []) rest) ∙ answer rest
 
@@ -197,4 +207,4 @@ module _ (limits : Limits) (text : List ℕ) where
   fault-exact ts f e =
       let c = course ts [] 0 start (reach-start text) in
       subst (λ x. run limits 0 (state 0 start) x ≡ Some f → IsParseFault limits text x f) (sym c.split)
-          (stop-fault c.xs c.next c.to c.reach c.same c.stops f) e
+      (stop-fault c.xs c.next c.to c.reach c.same c.stops f) e

@@ -89,7 +89,7 @@ module _ (limits : Limits) where
   limit-cases count [] = tt
   limit-cases count (c ∷ rest) =
       limit-first _ _ (limit-many limits.cases c.at count)
-          (limit-first _ _ (limit-condition 0 0 c.guard) (limit-first _ _ (limit-sets 0 c.sets) (limit-cases (count + 1) rest)))
+      (limit-first _ _ (limit-condition 0 0 c.guard) (limit-first _ _ (limit-sets 0 c.sets) (limit-cases (count + 1) rest)))
 
   limit-handlers : (hs : List HandlerSyntaxTree) → IsLimit (breaks_handlers limits hs)
   limit-handlers [] = tt
@@ -111,8 +111,8 @@ module _ (limits : Limits) where
   pub limit-policy : (s : SyntaxTree) → IsLimit (breaks_policy limits s)
   limit-policy s =
       limit-first _ _ (limit-attrs 0 0 s.attrs) (limit-first _ _ (limit-place s.place) (limit-first _ _ (limit-elect s.elect)
-          (limit-first _ _ (limit-handlers s.handlers) (limit-first _ _ (limit-condition 0 0 s.filter)
-              (limit-first _ _ (limit-keys 0 s.choose.keys) (limit-keys 0 s.steal.keys))))))
+      (limit-first _ _ (limit-handlers s.handlers) (limit-first _ _ (limit-condition 0 0 s.filter)
+      (limit-first _ _ (limit-keys 0 s.choose.keys) (limit-keys 0 s.steal.keys))))))
 
 -- a limit that is passed at that token
 abbrev pub IsHere : ℕ → ParseFault → Type 0
@@ -155,14 +155,14 @@ module _ (limits : Limits) where
   factor-here : (count base depth before at : ℕ) (below : List Symbol) (k : ℕ) → MovesHere at (factor_move limits count base depth before at below k)
   factor-here count base depth before at below k =
       either-here at (k == 35) _ _ tt
-          (either-here at (k == 45) _ _ (here-first at _ _ (here-many limits.operators at before) (here-deep limits at depth))
-              (either-here at (((k == 30) || (k == 31)) || ((k == 5) || (k == 32))) _ _ tt tt))
+      (either-here at (k == 45) _ _ (here-first at _ _ (here-many limits.operators at before) (here-deep limits at depth))
+      (either-here at (((k == 30) || (k == 31)) || ((k == 5) || (k == 32))) _ _ tt tt))
 
   unit-here : (count depth at : ℕ) (below : List Symbol) (k : ℕ) → MovesHere at (unit_move limits count depth at below k)
   unit-here count depth at below k =
       either-here at (k == 29) _ _ tt
-          (either-here at (k == 28) _ _ (here-deep limits at depth)
-              (either-here at (k == 40) _ _ (here-deep limits at depth) (factor-here count depth depth 0 at (compare depth ∷ below) k)))
+      (either-here at (k == 28) _ _ (here-deep limits at depth)
+      (either-here at (k == 40) _ _ (here-deep limits at depth) (factor-here count depth depth 0 at (compare depth ∷ below) k)))
 
   key-here : (before at : ℕ) (below : List Symbol) (k : ℕ) → MovesHere at (key_move limits before at below k)
   key-here before at below k = either-here at ((k == 11) || (k == 12)) _ _ (here-many limits.keys at before) tt

@@ -33,7 +33,6 @@ use Rattle.policy_grammar.specs.Expressions.{IsInt, int_plain, int_signed, IsRan
 use Rattle.policy_grammar.specs.Conditions.{IsUnit, unit_always, unit_not, unit_group, unit_test, IsAnds, ands_none, ands_more, IsConjunction, conjunction_of, IsOrs, ors_none, ors_more, IsCondition, condition_of}
 use Rattle.policy_grammar.specs.Policies.{IsLoad, load_count, load_weight, IsAttr, attr_of, IsAttrs, attrs_none, attrs_more, IsPlace, place_none, place_here, place_least, IsElect, elect_none, elect_some, IsSets, sets_none, sets_more, IsCase, case_of, IsCases, cases_none, cases_more, IsHandler, handler_of, IsHandlers, handlers_none, handlers_more, IsPolicy, policy_of}
 use Rattle.policy_grammar.specs.Machine.{Symbol, the, load_rule, int, attrs, place, place_rule, elect, handlers, event, case, cases, actions, field, order, key, keys, condition, unit, ands, ors, close, compare, operand, dot, word, operators, State, state, Move, refuses, goes, is_compare, factor_move, unit_move, key_move, case_move, attr_move, symbol_move, moves, start}
-
 use Rattle.policy_grammar.specs.Terminals.{lexeme_at}
 use Rattle.policy_grammar.specs.Machine.{is_nothing, all_nothing, kind_of}
 use Rattle.policy_grammar.specs.Correct.{Begins}
@@ -123,7 +122,7 @@ module _ (text : List ℕ) (ts : List Lexeme) where
       let three : at + 3 ≡ at + 1 + 1 + 1 = omega arith in
       let four : at + 1 + 1 + 1 + 1 ≡ at + 4 = omega arith in
       subst (λ n. Cases text ts at n) four
-          (case-short z (k 1) (subst (λ n. kind_at ts n ≡ code Colon) two (k 2)) (subst (λ n. kind_at ts n ≡ code Queue) three (k 3)))
+      (case-short z (k 1) (subst (λ n. kind_at ts n ≡ code Colon) two (k 2)) (subst (λ n. kind_at ts n ≡ code Queue) three (k 3)))
   short-one at (cases before) ws k z = let e : at ≡ at + 0 = omega arith in subst (λ n. Means text ts (cases before) at n) e ([], cases_none)
   short-one at (actions before) ws k z = acts put_is.Queue sets_none z
   short-one at field ws k z = any_word (rw z refl)
@@ -131,7 +130,7 @@ module _ (text : List ℕ) (ts : List Lexeme) where
   short-one at (key before) ws k z =
       let two : at + 1 + 1 ≡ at + 2 = omega arith in
       subst (λ n. Keys text ts at n) two
-          (record { first = _; rest = []; mid = _; is = key_of false z (number-expr (k 1)).1; are = keys_none })
+      (record { first = _; rest = []; mid = _; is = key_of false z (number-expr (k 1)).1; are = keys_none })
   short-one at (keys before) ws k z = let e : at ≡ at + 0 = omega arith in subst (λ n. Means text ts (keys before) at n) e ([], keys_none)
   short-one at condition ws k z = always-condition z
   short-one at (unit depth) ws k z = (_, unit_always z)
@@ -141,12 +140,12 @@ module _ (text : List ℕ) (ts : List Lexeme) where
   short-one at (compare depth) ws k z =
       let two : at + 1 + 1 ≡ at + 2 = omega arith in
       subst (λ n. Compared text ts at n) two
-          (record { by = cmp.Eq; right = _; sign = z; is = (number-expr (k 1)).1 })
+      (record { by = cmp.Eq; right = _; sign = z; is = (number-expr (k 1)).1 })
   short-one at (operand base depth before) ws k z = number-expr z
   short-one at (dot base before) ws k z = λ from o l.
       let two : at + 1 + 1 ≡ at + 2 = omega arith in
       subst (λ n. (e : ExprSyntax) × IsExpr text ts from e n) two
-          (reference-further text ts o l (token z) (rw (k 1) refl) (nothing-further (at + 1 + 1)))
+      (reference-further text ts o l (token z) (rw (k 1) refl) (nothing-further (at + 1 + 1)))
   short-one at (word base before) ws k z = λ from mid o l d. reference-further text ts o l d (rw z refl) (nothing-further (at + 1))
   short-one at (operators base before) ws k z = let e : at ≡ at + 0 = omega arith in subst (λ n. Further text ts at n) e (nothing-further at)
 
@@ -164,7 +163,7 @@ completes text (s ∷ below) =
         let later = subst (λ ts. Are text ts below (length (xs ++ short s)) (length ts)) same rest in
         let one = short-one text (xs ++ (short s ++ ys)) (length xs) s ys (kind-seam xs (short s ++ ys)) (kind-first xs (short s ++ ys)) in
         are_more (length (xs ++ short s))
-            (subst (λ n. Means text (xs ++ (short s ++ ys)) s (length xs) n) (sym (length-append xs (short s))) one) later
+        (subst (λ n. Means text (xs ++ (short s ++ ys)) s (length xs) n) (sym (length-append xs (short s))) one) later
 
 -- what completes the stack behind these tokens is a policy with them
 abbrev pub Reach : List ℕ → List Lexeme → List Symbol → Type 0
@@ -186,7 +185,7 @@ reach-step limits text ps t count next stack to o reach e = λ ts rest last same
 policy-from : (text : List ℕ) (ts : List Lexeme) → Are text ts start 0 (length ts) → (s : SyntaxTree) × IsPolicy text ts s
 policy-from text ts
     (are_more m0 (token k0) (are_more m1 (token k1) (are_more m2 (token kl) (are_more m3 load (are_more m4 us (are_more m5 p (are_more m6 e (are_more m7 hs
-        (are_more m8 (token kf) (are_more m9 f (are_more m10 (token kc) (are_more m11 c (are_more m12 (token ks) (are_more m13 s are_none)))))))))))))) =
+    (are_more m8 (token kf) (are_more m9 f (are_more m10 (token kc) (are_more m11 c (are_more m12 (token ks) (are_more m13 s are_none)))))))))))))) =
     (_, policy_of k0 k1 (load 2 (token kl)).1 us.1 p.1 e.1 hs.1 kf f.1 kc c.1 ks s.1)
 
 pub reach-begins : (text : List ℕ) (ps : List Lexeme) (stack : List Symbol) → Reach text ps stack → Begins text ps

@@ -56,8 +56,8 @@ module _ (limits : Limits) where
     go-move k count next stack to o is some e =
         let more : suc at ≡ at + 1 = omega arith in
         run-move ts at at count stack (goes o (state next to)) (subst (λ n. 0 < n) (sym is) some) (ap (moves limits count at stack) is ∙ e)
-            ∙ after-goes at o (state next to) _
-            ∙ ap (λ n. judged o (run limits (at + 1) (state next to) (drop n ts))) more
+        ∙ after-goes at o (state next to) _
+        ∙ ap (λ n. judged o (run limits (at + 1) (state next to) (drop n ts))) more
 
     -- no text goes on so
     pub go-stuck : (count : ℕ) (stack : List Symbol) → all_nothing stack ≡ false →

@@ -61,4 +61,3 @@ tag-is Less = refl
 tag-is AtMost = refl
 tag-is More = refl
 tag-is AtLeast = refl
-

@@ -177,9 +177,11 @@ owner-by k e = by (or-cases _ _ e)
     one : ((k == code Itself) ≡ true) ⊎ ((k == code Victim) ≡ true) → (o : Owner) × (k ≡ owner_word o)
     one (inl p) = (owner.Itself, eqb-same k _ p)
     one (inr p) = (owner.Victim, eqb-same k _ p)
+
     other : ((k == code Core) ≡ true) ⊎ ((k == code Task) ≡ true) → (o : Owner) × (k ≡ owner_word o)
     other (inl p) = (owner.Core, eqb-same k _ p)
     other (inr p) = (owner.Thread, eqb-same k _ p)
+
     by : (((k == code Itself) || (k == code Victim)) ≡ true) ⊎ (((k == code Core) || (k == code Task)) ≡ true) → (o : Owner) × (k ≡ owner_word o)
     by (inl p) = one (or-cases _ _ p)
     by (inr p) = other (or-cases _ _ p)
@@ -190,9 +192,11 @@ event-by k e = by (or-cases _ _ e)
     one : ((k == code Enqueue) ≡ true) ⊎ ((k == code Tick) ≡ true) → (e : Event) × (k ≡ event_word e)
     one (inl p) = (event_is.Enqueue, eqb-same k _ p)
     one (inr p) = (event_is.Tick, eqb-same k _ p)
+
     other : ((k == code Yield) ≡ true) ⊎ ((k == code Block) ≡ true) → (e : Event) × (k ≡ event_word e)
     other (inl p) = (event_is.Yield, eqb-same k _ p)
     other (inr p) = (event_is.Block, eqb-same k _ p)
+
     by : (((k == code Enqueue) || (k == code Tick)) ≡ true) ⊎ (((k == code Yield) || (k == code Block)) ≡ true) → (e : Event) × (k ≡ event_word e)
     by (inl p) = one (or-cases _ _ p)
     by (inr p) = other (or-cases _ _ p)
@@ -203,6 +207,7 @@ put-by k e = by (or-cases _ _ e)
     one : ((k == code Queue) ≡ true) ⊎ ((k == code Keep) ≡ true) → (p : Put) × (k ≡ put_word p)
     one (inl p) = (put_is.Queue, eqb-same k _ p)
     one (inr p) = (put_is.Keep, eqb-same k _ p)
+
     by : (((k == code Queue) || (k == code Keep)) ≡ true) ⊎ ((k == code Block) ≡ true) → (p : Put) × (k ≡ put_word p)
     by (inl p) = one (or-cases _ _ p)
     by (inr p) = (put_is.Block, eqb-same k _ p)
@@ -213,15 +218,19 @@ compare-by k e = by (or-cases _ _ e)
     low : ((k == code Equal) ≡ true) ⊎ ((k == code Unequal) ≡ true) → (c : Cmp) × (k ≡ compare_word c)
     low (inl p) = (cmp.Eq, eqb-same k _ p)
     low (inr p) = (cmp.Ne, eqb-same k _ p)
+
     one : (((k == code Equal) || (k == code Unequal)) ≡ true) ⊎ ((k == code Less) ≡ true) → (c : Cmp) × (k ≡ compare_word c)
     one (inl p) = low (or-cases _ _ p)
     one (inr p) = (cmp.Lt, eqb-same k _ p)
+
     high : ((k == code AtMost) ≡ true) ⊎ ((k == code More) ≡ true) → (c : Cmp) × (k ≡ compare_word c)
     high (inl p) = (cmp.Le, eqb-same k _ p)
     high (inr p) = (cmp.Gt, eqb-same k _ p)
+
     other : (((k == code AtMost) || (k == code More)) ≡ true) ⊎ ((k == code AtLeast) ≡ true) → (c : Cmp) × (k ≡ compare_word c)
     other (inl p) = high (or-cases _ _ p)
     other (inr p) = (cmp.Ge, eqb-same k _ p)
+
     by : ((((k == code Equal) || (k == code Unequal)) || (k == code Less)) ≡ true) ⊎ ((((k == code AtMost) || (k == code More)) || (k == code AtLeast)) ≡ true) → (c : Cmp) × (k ≡ compare_word c)
     by (inl p) = one (or-cases _ _ p)
     by (inr p) = other (or-cases _ _ p)
@@ -232,6 +241,7 @@ operator-by k e = by (or-cases _ _ e)
     one : ((k == code Star) ≡ true) ⊎ ((k == code Plus) ≡ true) → (k ≡ code Star) ⊎ ((m : Bool) × (k ≡ sign_word m))
     one (inl p) = inl (eqb-same k _ p)
     one (inr p) = inr (false, eqb-same k _ p)
+
     by : (((k == code Star) || (k == code Plus)) ≡ true) ⊎ ((k == code Minus) ≡ true) → (k ≡ code Star) ⊎ ((m : Bool) × (k ≡ sign_word m))
     by (inl p) = one (or-cases _ _ p)
     by (inr p) = inr (true, eqb-same k _ p)
@@ -271,13 +281,15 @@ module _ (limits : Limits) (text : List ℕ) (ts : List Lexeme) where
       Pulls text ts stack at to (factor_move limits count base depth before at below (kind_at ts at))
   factor-pulls at to count base depth before below stack whole =
       if-pulls text ts stack at to _ 35 _ _ (λ k. number k)
-          (if-pulls text ts stack at to _ 45 _ _ (λ k. sign k)
-              (any-pulls text ts stack at to _ _ _ (λ e. refers (owner-by _ e)) tt))
+      (if-pulls text ts stack at to _ 45 _ _ (λ k. sign k)
+      (any-pulls text ts stack at to _ _ _ (λ e. refers (owner-by _ e)) tt))
     where
       number : kind_at ts at ≡ code Number → Are text ts (operators base before ∷ below) (at + 1) to → Are text ts stack at to
       number k (are_more mid f rest) = let w = operand-further text ts (operand_number k) f in whole w.0 mid w.1 rest
+
       sign : kind_at ts at ≡ code Minus → Are text ts (operand base (depth + 1) (before + 1) ∷ below) (at + 1) to → Are text ts stack at to
       sign k (are_more mid f rest) = let w = signed-expr text ts k f.1 in whole w.0 mid w.1 rest
+
       refers : ((o : Owner) × (kind_at ts at ≡ owner_word o)) → Are text ts (dot base before ∷ below) (at + 1) to → Are text ts stack at to
       refers o (are_more mid f rest) = let w = f at o.0 (token o.1) in whole w.0 mid w.1 rest
 
@@ -286,15 +298,17 @@ module _ (limits : Limits) (text : List ℕ) (ts : List Lexeme) where
       Pulls text ts stack at to (unit_move limits count depth at below (kind_at ts at))
   unit-pulls at to count depth below stack whole =
       takes text ts stack below at to _ _ 29 _ (λ k rest. whole _ (at + 1) (unit_always k) rest)
-          (if-pulls text ts stack at to _ 28 _ _ (λ k. negates k)
-              (if-pulls text ts stack at to _ 40 _ _ (λ k. groups k)
-                  (factor-pulls at to count depth depth 0 (compare depth ∷ below) stack (λ e mid d. tests e mid d))))
+      (if-pulls text ts stack at to _ 28 _ _ (λ k. negates k)
+      (if-pulls text ts stack at to _ 40 _ _ (λ k. groups k)
+      (factor-pulls at to count depth depth 0 (compare depth ∷ below) stack (λ e mid d. tests e mid d))))
     where
       negates : kind_at ts at ≡ code Not → Are text ts (unit (depth + 1) ∷ below) (at + 1) to → Are text ts stack at to
       negates k (are_more mid f rest) = whole _ mid (unit_not k f.1) rest
+
       groups : kind_at ts at ≡ code Open → Are text ts (unit (depth + 1) ∷ ands (depth + 1) ∷ ors (depth + 1) ∷ close ∷ below) (at + 1) to → Are text ts stack at to
       groups k (are_more m1 u (are_more m2 us (are_more m3 cs (are_more m4 (token c) rest)))) =
           whole _ m4 (unit_group k (condition_of _ cs.0 (conjunction_of u.0 us.0 u.1 us.1) cs.1) c) rest
+
       tests : (e : ExprSyntax) (mid : ℕ) → IsExpr text ts at e mid → Are text ts (compare depth ∷ below) mid to → Are text ts stack at to
       tests e mid d (are_more m1 r rest) = whole _ m1 (unit_test r.by d r.sign r.is) rest
 
@@ -323,7 +337,7 @@ module _ (limits : Limits) (text : List ℕ) (ts : List Lexeme) where
       Pulls text ts stack at to (attr_move limits cores threads at below (kind_at ts at) outer)
   attr-pulls at to cores threads below stack outer out whole =
       if-pulls text ts stack at to _ 5 _ _ (λ k. declared true k (cores + 1) threads)
-          (if-pulls text ts stack at to _ 6 _ _ (λ k. declared false k cores (threads + 1)) out)
+      (if-pulls text ts stack at to _ 6 _ _ (λ k. declared false k cores (threads + 1)) out)
     where
       declared : (of_cores : Bool) → kind_at ts at ≡ attr_word of_cores → (c t : ℕ) →
           Are text ts (the Name ∷ the In ∷ int ∷ the Range ∷ int ∷ the Start ∷ int ∷ attrs c t ∷ below) (at + 1) to → Are text ts stack at to
@@ -331,26 +345,26 @@ module _ (limits : Limits) (text : List ℕ) (ts : List Lexeme) where
           let there : at + 1 + 1 ≡ at + 2 = omega arith in
           let further : at + 1 + 1 + 1 ≡ at + 3 = omega arith in
           whole _ m8
-              (attrs_more
-                  (attr_of of_cores k n (subst (λ n. kind_at ts n ≡ code In) there i)
-                      (range_of (subst (λ n. IsInt ts n low.0 m3) further low.1) r high.1) s begin.1)
-                  more.1) rest
+          (attrs_more
+          (attr_of of_cores k n (subst (λ n. kind_at ts n ≡ code In) there i)
+          (range_of (subst (λ n. IsInt ts n low.0 m3) further low.1) r high.1) s begin.1)
+          more.1) rest
 
   symbol-pulls : (at to count : ℕ) (s : Symbol) (below : List Symbol) (outer : Move) → Pulls text ts below at to outer →
       Pulls text ts (s ∷ below) at to (symbol_move limits count at s below (kind_at ts at) outer)
   symbol-pulls at to count (the terminal) below outer out =
       takes text ts (the terminal ∷ below) below at to 0 (kind_at ts at) (code terminal) refuses
-          (λ k rest. are_more {symbol = the terminal} (at + 1) (token k) rest) tt
+      (λ k rest. are_more {symbol = the terminal} (at + 1) (token k) rest) tt
   symbol-pulls at to count load_rule below outer out =
       takes text ts _ below at to _ _ 3 _ (λ k rest. are_more (at + 1) (λ from l. load-count k l refl) rest)
-          (if-pulls text ts _ at to _ 4 _ _ (λ k. weighs k) tt)
+      (if-pulls text ts _ at to _ 4 _ _ (λ k. weighs k) tt)
     where
       weighs : kind_at ts at ≡ code Weight → Are text ts (int ∷ the Range ∷ int ∷ below) (at + 1) to → Are text ts (load_rule ∷ below) at to
       weighs k (are_more m1 low (are_more m2 r (are_more m3 high rest))) =
           are_more m3 (λ from l. load-weight k low.1 r high.1 l) rest
   symbol-pulls at to count int below outer out =
       takes text ts _ below at to _ _ 35 _ (λ k rest. are_more (at + 1) (_, int_plain k) rest)
-          (if-pulls text ts _ at to _ 45 _ _ (λ k. signs k) tt)
+      (if-pulls text ts _ at to _ 45 _ _ (λ k. signs k) tt)
     where
       signs : kind_at ts at ≡ code Minus → Are text ts (the Number ∷ below) (at + 1) to → Are text ts (int ∷ below) at to
       signs k (are_more m1 (token n) rest) =
@@ -358,7 +372,7 @@ module _ (limits : Limits) (text : List ℕ) (ts : List Lexeme) where
           are_more (at + 1 + 1) (subst (λ n. (v : IntSyntax) × IsInt ts at v n) there (_, int_signed k n)) rest
   symbol-pulls at to count (attrs cores threads) below outer out =
       attr-pulls at to cores threads below _ outer (lift-pulls text ts _ below at to outer (λ rest. are_more at ([], attrs_none) rest) out)
-          (λ us mid d rest. are_more mid (us, d) rest)
+      (λ us mid d rest. are_more mid (us, d) rest)
   symbol-pulls at to count place below outer out =
       if-pulls text ts _ at to _ 9 _ _ (λ k. places k) (lift-pulls text ts _ below at to outer (λ rest. are_more at (None, place_none) rest) out)
     where
@@ -366,7 +380,7 @@ module _ (limits : Limits) (text : List ℕ) (ts : List Lexeme) where
       places k (are_more m1 f rest) = are_more m1 (f at (token k)) rest
   symbol-pulls at to count place_rule below outer out =
       takes text ts _ below at to _ _ 10 _ (λ k rest. are_more (at + 1) (λ from l. place-here k l refl) rest)
-          (if-pulls text ts _ at to _ 11 _ _ (λ k. least k) tt)
+      (if-pulls text ts _ at to _ 11 _ _ (λ k. least k) tt)
     where
       least : kind_at ts at ≡ code Min → Are text ts (operand 0 0 0 ∷ below) (at + 1) to → Are text ts (place_rule ∷ below) at to
       least k (are_more m1 e rest) = are_more m1 (λ from l. place-least k e.1 l) rest
@@ -382,9 +396,12 @@ module _ (limits : Limits) (text : List ℕ) (ts : List Lexeme) where
       handles k (are_more m1 (e, token v) (are_more m2 (token b) (are_more m3 c (are_more m4 (token f) (are_more m5 hs rest))))) =
           let there : at + 1 + 1 ≡ at + 2 = omega arith in
           let further : at + 1 + 1 + 1 ≡ at + 3 = omega arith in
-          are_more m5 (_, handlers_more
-              (handler_of e k v (subst (λ n. kind_at ts n ≡ code Begin) there b)
-                  (subst (λ n. IsCase text ts n c.first c.mid) further c.is) c.are f) hs.1) rest
+          are_more m5 (
+            _,
+            handlers_more
+                (handler_of e k v (subst (λ n. kind_at ts n ≡ code Begin) there b)
+                (subst (λ n. IsCase text ts n c.first c.mid) further c.is) c.are f) hs.1,
+          ) rest
   symbol-pulls at to count event below outer out =
       any-takes text ts _ below at to _ _ _ (λ e. happens (event-by _ e)) tt
     where
@@ -393,13 +410,14 @@ module _ (limits : Limits) (text : List ℕ) (ts : List Lexeme) where
   symbol-pulls at to count (case before) below outer out = case-pulls at to before below _ refuses tt (λ mid c rest. are_more mid c rest)
   symbol-pulls at to count (cases before) below outer out =
       case-pulls at to before below _ outer (lift-pulls text ts _ below at to outer (λ rest. are_more at ([], cases_none) rest) out)
-          (λ mid c rest. are_more mid (_, cases_more c.is c.are) rest)
+      (λ mid c rest. are_more mid (_, cases_more c.is c.are) rest)
   symbol-pulls at to count (actions before) below outer out =
       if-pulls text ts _ at to _ 32 _ _ (λ k. sets k)
-          (any-takes text ts _ below at to _ _ _ (λ e. puts (put-by _ e)) tt)
+      (any-takes text ts _ below at to _ _ _ (λ e. puts (put-by _ e)) tt)
     where
       puts : ((p : Put) × (kind_at ts at ≡ put_word p)) → Are text ts below (at + 1) to → Are text ts (actions before ∷ below) at to
       puts p rest = are_more (at + 1) (acts p.0 sets_none p.1) rest
+
       sets : kind_at ts at ≡ code Task → Are text ts (the Dot ∷ field ∷ the Gets ∷ operand 0 0 0 ∷ the Comma ∷ actions (before + 1) ∷ below) (at + 1) to →
           Are text ts (actions before ∷ below) at to
       sets k (are_more m1 (token d) (are_more m2 (any_word w) (are_more m3 (token g) (are_more m4 e (are_more m5 (token c) (are_more m6 (acts p s q) rest)))))) =
@@ -407,15 +425,15 @@ module _ (limits : Limits) (text : List ℕ) (ts : List Lexeme) where
           let three_on : at + 1 + 1 + 1 ≡ at + 3 = omega arith in
           let four_on : at + 1 + 1 + 1 + 1 ≡ at + 4 = omega arith in
           are_more m6
-              (acts p
-                  (sets_more k d (subst (λ n. is_word (kind_at ts n) ≡ true) two_on w) (subst (λ n. kind_at ts n ≡ code Gets) three_on g)
-                      (subst (λ n. IsExpr text ts n e.0 m4) four_on e.1) c s) q) rest
+          (acts p
+          (sets_more k d (subst (λ n. is_word (kind_at ts n) ≡ true) two_on w) (subst (λ n. kind_at ts n ≡ code Gets) three_on g)
+          (subst (λ n. IsExpr text ts n e.0 m4) four_on e.1) c s) q) rest
   symbol-pulls at to count field below outer out =
       any-takes text ts (field ∷ below) below at to 0 (is_word (kind_at ts at)) refuses
-          (λ e rest. are_more {symbol = field} (at + 1) (any_word e) rest) tt
+      (λ e rest. are_more {symbol = field} (at + 1) (any_word e) rest) tt
   symbol-pulls at to count order below outer out =
       takes text ts _ below at to _ _ 16 _ (λ k rest. are_more (at + 1) (_, order_first k) rest)
-          (key-pulls at to 0 below _ (λ mid k rest. are_more mid (_, order_keys k.is k.are) rest))
+      (key-pulls at to 0 below _ (λ mid k rest. are_more mid (_, order_keys k.is k.are) rest))
   symbol-pulls at to count (key before) below outer out = key-pulls at to before below _ (λ mid k rest. are_more mid k rest)
   symbol-pulls at to count (keys before) below outer out =
       if-pulls text ts _ at to _ 38 _ _ (λ k. follows k) (lift-pulls text ts _ below at to outer (λ rest. are_more at ([], keys_none) rest) out)
@@ -439,7 +457,7 @@ module _ (limits : Limits) (text : List ℕ) (ts : List Lexeme) where
       follows k (are_more m1 u (are_more m2 us (are_more m3 cs rest))) = are_more m3 (_, ors_more k (conjunction_of u.0 us.0 u.1 us.1) cs.1) rest
   symbol-pulls at to count close below outer out =
       takes text ts (close ∷ below) below at to count (kind_at ts at) 41 refuses
-          (λ k rest. are_more {symbol = close} (at + 1) (token k) rest) tt
+      (λ k rest. are_more {symbol = close} (at + 1) (token k) rest) tt
   symbol-pulls at to count (compare depth) below outer out =
       any-pulls text ts _ at to _ _ _ (λ e. compares (compare-by _ e)) tt
     where
@@ -459,8 +477,8 @@ module _ (limits : Limits) (text : List ℕ) (ts : List Lexeme) where
       names w (are_more m1 f rest) = are_more m1 (λ from mid o l d. reference-further text ts o l d w f) rest
   symbol-pulls at to count (operators base before) below outer out =
       any-pulls text ts _ at to _ _ _ (λ e. operates (operator-by _ e))
-          (lift-pulls text ts _ below at to outer
-              (λ rest. are_more at (record { times = []; added = []; mid = at; are = times_none; sums = added_none }) rest) out)
+      (lift-pulls text ts _ below at to outer
+      (λ rest. are_more at (record { times = []; added = []; mid = at; are = times_none; sums = added_none }) rest) out)
     where
       operates : ((kind_at ts at ≡ code Star) ⊎ ((m : Bool) × (kind_at ts at ≡ sign_word m))) → Are text ts (operand base base (before + 1) ∷ below) (at + 1) to →
           Are text ts (operators base before ∷ below) at to

@@ -34,7 +34,7 @@ abbrev pub breaks_signs : Limits → ℕ → ℕ → ℕ → ℕ → Option Pars
 breaks_signs limits depth operators at zero = None
 breaks_signs limits depth operators at (suc signs) =
     first_of (first_of (many limits.operators at operators) (deep limits at depth))
-        (breaks_signs limits (depth + 1) (operators + 1) (at + 1) signs)
+    (breaks_signs limits (depth + 1) (operators + 1) (at + 1) signs)
 
 abbrev pub breaks_factor : Limits → ℕ → ℕ → FactorSyntax → Option ParseFault
 breaks_factor limits depth operators f = breaks_signs limits depth operators f.at f.signs
@@ -47,8 +47,8 @@ abbrev pub breaks_times : Limits → ℕ → ℕ → List TimesSyntax → Option
 breaks_times limits depth operators [] = None
 breaks_times limits depth operators (t ∷ rest) =
     first_of (many limits.operators t.at operators)
-        (first_of (breaks_factor limits depth (operators + 1) t.factor)
-            (breaks_times limits depth (operators + 1 + t.factor.signs) rest))
+    (first_of (breaks_factor limits depth (operators + 1) t.factor)
+    (breaks_times limits depth (operators + 1 + t.factor.signs) rest))
 
 -- the operators behind a term, where so many came before it
 abbrev pub after_term : ℕ → TermSyntax → ℕ
@@ -66,8 +66,8 @@ abbrev pub breaks_added : Limits → ℕ → ℕ → List AddedSyntax → Option
 breaks_added limits depth operators [] = None
 breaks_added limits depth operators (a ∷ rest) =
     first_of (many limits.operators a.at operators)
-        (first_of (breaks_term limits depth (operators + 1) a.term)
-            (breaks_added limits depth (after_term (operators + 1) a.term) rest))
+    (first_of (breaks_term limits depth (operators + 1) a.term)
+    (breaks_added limits depth (after_term (operators + 1) a.term) rest))
 
 abbrev pub after_expr : ExprSyntax → ℕ
 after_expr e = after_added (after_term 0 e.first) e.rest
@@ -102,7 +102,7 @@ abbrev mutual
   breaks_condition limits depth count (any at parts) = breaks_parts limits depth count parts
   breaks_condition limits depth count (test at compare left right) =
       first_of (breaks_expr limits depth left)
-          (first_of (many limits.comparisons at count) (breaks_expr limits depth right))
+      (first_of (many limits.comparisons at count) (breaks_expr limits depth right))
 
   pub breaks_parts : Limits → ℕ → ℕ → ConditionTrees → Option ParseFault
   breaks_parts limits depth count no_more = None
@@ -129,8 +129,8 @@ abbrev pub breaks_cases : Limits → ℕ → List CaseSyntaxTree → Option Pars
 breaks_cases limits count [] = None
 breaks_cases limits count (c ∷ rest) =
     first_of (many limits.cases c.at count)
-        (first_of (breaks_condition limits 0 0 c.guard)
-            (first_of (breaks_sets limits 0 c.sets) (breaks_cases limits (count + 1) rest)))
+    (first_of (breaks_condition limits 0 0 c.guard)
+    (first_of (breaks_sets limits 0 c.sets) (breaks_cases limits (count + 1) rest)))
 
 abbrev pub breaks_handlers : Limits → List HandlerSyntaxTree → Option ParseFault
 breaks_handlers limits [] = None
@@ -153,7 +153,7 @@ abbrev pub breaks_attrs : Limits → ℕ → ℕ → List AttrSyntax → Option 
 breaks_attrs limits cores threads [] = None
 breaks_attrs limits cores threads (a ∷ rest) =
     first_of (many limits.attrs a.at (of_kind a.of_cores cores threads))
-        (breaks_attrs limits (of_cores_more a.of_cores cores) (of_threads_more a.of_cores threads) rest)
+    (breaks_attrs limits (of_cores_more a.of_cores cores) (of_threads_more a.of_cores threads) rest)
 
 abbrev pub breaks_place : Limits → Option PlaceSyntax → Option ParseFault
 breaks_place limits None = None
@@ -168,8 +168,8 @@ breaks_elect limits (Some elect) = breaks_order limits elect.order
 abbrev pub breaks_policy : Limits → SyntaxTree → Option ParseFault
 breaks_policy limits s =
     first_of (breaks_attrs limits 0 0 s.attrs)
-        (first_of (breaks_place limits s.place)
-            (first_of (breaks_elect limits s.elect)
-                (first_of (breaks_handlers limits s.handlers)
-                    (first_of (breaks_condition limits 0 0 s.filter)
-                        (first_of (breaks_order limits s.choose) (breaks_order limits s.steal))))))
+    (first_of (breaks_place limits s.place)
+    (first_of (breaks_elect limits s.elect)
+    (first_of (breaks_handlers limits s.handlers)
+    (first_of (breaks_condition limits 0 0 s.filter)
+    (first_of (breaks_order limits s.choose) (breaks_order limits s.steal))))))

@@ -12,32 +12,32 @@ use Rattle.policy_grammar.specs.Breaks.{deep, many, first_of}
 
 -- what may come
 pub data Symbol : Type 0 where
-  the : Terminal → Symbol               -- this token
-  load_rule : Symbol                    -- what follows `load`
+  the : Terminal → Symbol  -- this token
+  load_rule : Symbol  -- what follows `load`
   int : Symbol
-  attrs : ℕ → ℕ → Symbol                -- further attributes, behind so many of cores and of threads
-  place : Symbol                        -- `place` with its rule, or nothing
+  attrs : ℕ → ℕ → Symbol  -- further attributes, behind so many of cores and of threads
+  place : Symbol  -- `place` with its rule, or nothing
   place_rule : Symbol
-  elect : Symbol                        -- `elect` with its order, or nothing
-  handlers : Symbol                     -- further handlers
+  elect : Symbol  -- `elect` with its order, or nothing
+  handlers : Symbol  -- further handlers
   event : Symbol
-  case : ℕ → Symbol                     -- a case, behind so many
-  cases : ℕ → Symbol                    -- further cases, behind so many
-  actions : ℕ → Symbol                  -- assignments, behind so many, and where the thread is put
-  field : Symbol                        -- the word that an assignment names
+  case : ℕ → Symbol  -- a case, behind so many
+  cases : ℕ → Symbol  -- further cases, behind so many
+  actions : ℕ → Symbol  -- assignments, behind so many, and where the thread is put
+  field : Symbol  -- the word that an assignment names
   order : Symbol
-  key : ℕ → Symbol                      -- a key, behind so many
-  keys : ℕ → Symbol                     -- further keys, behind so many
+  key : ℕ → Symbol  -- a key, behind so many
+  keys : ℕ → Symbol  -- further keys, behind so many
   condition : Symbol
-  unit : ℕ → Symbol                     -- a unit, where so many are open
-  ands : ℕ → Symbol                     -- further units
-  ors : ℕ → Symbol                      -- further conjunctions
+  unit : ℕ → Symbol  -- a unit, where so many are open
+  ands : ℕ → Symbol  -- further units
+  ors : ℕ → Symbol  -- further conjunctions
   close : Symbol
-  compare : ℕ → Symbol                  -- the symbol of a comparison, and its right side
-  operand : ℕ → ℕ → ℕ → Symbol          -- an expression's next factor, where so many are open around the expression, and so many here, behind so many operators
-  dot : ℕ → ℕ → Symbol                  -- the dot of a reference
-  word : ℕ → ℕ → Symbol                 -- its word
-  operators : ℕ → ℕ → Symbol            -- the rest of an expression, behind so many operators
+  compare : ℕ → Symbol  -- the symbol of a comparison, and its right side
+  operand : ℕ → ℕ → ℕ → Symbol  -- an expression's next factor, where so many are open around the expression, and so many here, behind so many operators
+  dot : ℕ → ℕ → Symbol  -- the dot of a reference
+  word : ℕ → ℕ → Symbol  -- its word
+  operators : ℕ → ℕ → Symbol  -- the rest of an expression, behind so many operators
 
 -- the comparisons that the open condition has had, and what is still to come
 pub data State : Type 0 where
@@ -72,37 +72,37 @@ module _ (limits : Limits) where
   factor_move count base depth operators_before at below kind =
       if kind == code Number then goes None (state count (operators base operators_before ∷ below)) else
       if kind == code Minus then
-          goes (first_of (many limits.operators at operators_before) (deep limits at depth))
-              (state count (operand base (depth + 1) (operators_before + 1) ∷ below)) else
+      goes (first_of (many limits.operators at operators_before) (deep limits at depth))
+      (state count (operand base (depth + 1) (operators_before + 1) ∷ below)) else
       if is_owner kind then
-          goes None (state count (dot base operators_before ∷ below)) else refuses
+      goes None (state count (dot base operators_before ∷ below)) else refuses
 
   abbrev pub unit_move : ℕ → ℕ → ℕ → List Symbol → ℕ → Move
   unit_move count depth at below kind =
       if kind == code Always then goes None (state count below) else
       if kind == code Not then goes (deep limits at depth) (state count (unit (depth + 1) ∷ below)) else
       if kind == code Open then
-          goes (deep limits at depth) (state count (unit (depth + 1) ∷ ands (depth + 1) ∷ ors (depth + 1) ∷ close ∷ below)) else
+      goes (deep limits at depth) (state count (unit (depth + 1) ∷ ands (depth + 1) ∷ ors (depth + 1) ∷ close ∷ below)) else
       factor_move count depth depth 0 at (compare depth ∷ below) kind
 
   abbrev pub key_move : ℕ → ℕ → List Symbol → ℕ → Move
   key_move before at below kind =
       if is_key kind then
-          goes (many limits.keys at before) (state 0 (operand 0 0 0 ∷ keys (before + 1) ∷ below)) else refuses
+      goes (many limits.keys at before) (state 0 (operand 0 0 0 ∷ keys (before + 1) ∷ below)) else refuses
 
   abbrev pub case_move : ℕ → ℕ → List Symbol → ℕ → Move → Move
   case_move before at below kind outer =
       if kind == code When then
-          goes (many limits.cases at before) (state 0 (condition ∷ the Colon ∷ actions 0 ∷ cases (before + 1) ∷ below)) else outer
+      goes (many limits.cases at before) (state 0 (condition ∷ the Colon ∷ actions 0 ∷ cases (before + 1) ∷ below)) else outer
 
   abbrev pub attr_move : ℕ → ℕ → ℕ → List Symbol → ℕ → Move → Move
   attr_move cores threads at below kind outer =
       if kind == code Core then
-          goes (many limits.attrs at cores)
-              (state 0 (the Name ∷ the In ∷ int ∷ the Range ∷ int ∷ the Start ∷ int ∷ attrs (cores + 1) threads ∷ below)) else
+      goes (many limits.attrs at cores)
+      (state 0 (the Name ∷ the In ∷ int ∷ the Range ∷ int ∷ the Start ∷ int ∷ attrs (cores + 1) threads ∷ below)) else
       if kind == code Thread then
-          goes (many limits.attrs at threads)
-              (state 0 (the Name ∷ the In ∷ int ∷ the Range ∷ int ∷ the Start ∷ int ∷ attrs cores (threads + 1) ∷ below)) else outer
+      goes (many limits.attrs at threads)
+      (state 0 (the Name ∷ the In ∷ int ∷ the Range ∷ int ∷ the Start ∷ int ∷ attrs cores (threads + 1) ∷ below)) else outer
 
   abbrev pub symbol_move : ℕ → ℕ → Symbol → List Symbol → ℕ → Move → Move
   symbol_move count at (the terminal) below kind outer = if kind == code terminal then goes None (state 0 below) else refuses
@@ -120,16 +120,16 @@ module _ (limits : Limits) where
   symbol_move count at elect below kind outer = if kind == code Elect then goes None (state 0 (order ∷ below)) else outer
   symbol_move count at handlers below kind outer =
       if kind == code On then
-          goes None (state 0 (event ∷ the Begin ∷ case 0 ∷ the Finish ∷ handlers ∷ below)) else outer
+      goes None (state 0 (event ∷ the Begin ∷ case 0 ∷ the Finish ∷ handlers ∷ below)) else outer
   symbol_move count at event below kind outer =
       if is_event kind then
-          goes None (state 0 below) else refuses
+      goes None (state 0 below) else refuses
   symbol_move count at (case before) below kind outer = case_move before at below kind refuses
   symbol_move count at (cases before) below kind outer = case_move before at below kind outer
   symbol_move count at (actions before) below kind outer =
       if kind == code Task then
-          goes (many limits.sets at before)
-              (state 0 (the Dot ∷ field ∷ the Gets ∷ operand 0 0 0 ∷ the Comma ∷ actions (before + 1) ∷ below)) else
+      goes (many limits.sets at before)
+      (state 0 (the Dot ∷ field ∷ the Gets ∷ operand 0 0 0 ∷ the Comma ∷ actions (before + 1) ∷ below)) else
       if is_put kind then goes None (state 0 below) else refuses
   symbol_move count at field below kind outer = if is_word kind then goes None (state 0 below) else refuses
   symbol_move count at order below kind outer =
@@ -146,7 +146,7 @@ module _ (limits : Limits) where
   symbol_move count at close below kind outer = if kind == code Close then goes None (state count below) else refuses
   symbol_move count at (compare depth) below kind outer =
       if is_compare kind then
-          goes (many limits.comparisons at count) (state (count + 1) (operand depth depth 0 ∷ below)) else refuses
+      goes (many limits.comparisons at count) (state (count + 1) (operand depth depth 0 ∷ below)) else refuses
   symbol_move count at (operand base depth before) below kind outer = factor_move count base depth before at below kind
   symbol_move count at (dot base before) below kind outer =
       if kind == code Dot then goes None (state count (word base before ∷ below)) else refuses
@@ -154,7 +154,7 @@ module _ (limits : Limits) where
       if is_word kind then goes None (state count (operators base before ∷ below)) else refuses
   symbol_move count at (operators base before) below kind outer =
       if kind == code Star || kind == code Plus || kind == code Minus then
-          goes (many limits.operators at before) (state count (operand base base (before + 1) ∷ below)) else outer
+      goes (many limits.operators at before) (state count (operand base base (before + 1) ∷ below)) else outer
 
   -- what a token does, where a symbol that may be nothing leaves it to those below
   abbrev pub moves : ℕ → ℕ → List Symbol → ℕ → Move

@@ -34,7 +34,7 @@ pub data IsAttr (text : List ℕ) (ts : List Lexeme) : ℕ → AttrSyntax → �
       kind_at ts at ≡ attr_word of_cores → kind_at ts (at + 1) ≡ code Name → kind_at ts (at + 2) ≡ code In →
       IsRange ts (at + 3) range mid → kind_at ts mid ≡ code Start → IsInt ts (mid + 1) start to →
       IsAttr text ts at
-          (record { at = at; of_cores = of_cores; name = word_at text ts (at + 1); range = range; start = start }) to
+      (record { at = at; of_cores = of_cores; name = word_at text ts (at + 1); range = range; start = start }) to
 
 -- attr*
 pub data IsAttrs (text : List ℕ) (ts : List Lexeme) : ℕ → List AttrSyntax → ℕ → Type 0 where
@@ -103,5 +103,16 @@ pub data IsPolicy (text : List ℕ) (ts : List Lexeme) : SyntaxTree → Type 0 w
       kind_at ts at_choose ≡ code Choose → IsOrder text ts (at_choose + 1) choose at_steal →
       kind_at ts at_steal ≡ code Steal → IsOrder text ts (at_steal + 1) steal (length ts) →
       IsPolicy text ts (record {
-        name = word_at text ts 1; load = load; attrs = attrs; place = place; elect = elect; handlers = handlers;
-        filter_at = at_filter; filter = filter; choose_at = at_choose; choose = choose; steal_at = at_steal; steal = steal })
+        name = word_at text ts 1;
+        load = load;
+        attrs = attrs;
+        place = place;
+        elect = elect;
+        handlers = handlers;
+        filter_at = at_filter;
+        filter = filter;
+        choose_at = at_choose;
+        choose = choose;
+        steal_at = at_steal;
+        steal = steal;
+      })

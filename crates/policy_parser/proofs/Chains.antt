@@ -75,9 +75,14 @@ anded-one part e d = record { first = condition_tree part; rest = no_more; mid =
 pub anded-snoc : {text : List ℕ} {ts : List Lexeme} {items new : List ConditionSyntax} {at mid to : ℕ} (part : ConditionSyntax) → Anded text ts items at mid →
     kind_at ts mid ≡ code And → IsUnit text ts (mid + 1) (condition_tree part) to → new ≡ items ++ part ∷ [] → Anded text ts new at to
 anded-snoc {items = items} part a k d e =
-    record { first = a.first; rest = snoc a.rest (condition_tree part); mid = a.mid;
+    record {
+      first = a.first;
+      rest = snoc a.rest (condition_tree part);
+      mid = a.mid;
       same = ap condition_trees e ∙ trees-snoc items part ∙ ap (λ x. snoc x (condition_tree part)) a.same;
-      is = a.is; are = ands-snoc a.are k d }
+      is = a.is;
+      are = ands-snoc a.are k d;
+    }
 
 pub anded-all : {text : List ℕ} {ts : List Lexeme} {items new : List ConditionSyntax} {at mid to : ℕ} {v : ConditionTree} (part : ConditionSyntax) → Anded text ts items at mid →
     kind_at ts mid ≡ code And → IsUnit text ts (mid + 1) (condition_tree part) to → new ≡ items ++ part ∷ [] → v ≡ all at (condition_trees new) →
@@ -85,8 +90,8 @@ pub anded-all : {text : List ℕ} {ts : List Lexeme} {items new : List Condition
 anded-all {text = text} {ts = ts} {items = items} {at = at} {to = to} part a k d e is =
     let trees = ap condition_trees e ∙ trees-snoc items part ∙ ap (λ x. snoc x (condition_tree part)) a.same in
     subst (λ x. IsConjunction text ts at x to)
-        (conjunction-snoc at a.first a.rest (condition_tree part) ∙ ap (all at) (sym trees) ∙ sym is)
-        (conjunction_of a.first (snoc a.rest (condition_tree part)) a.is (ands-snoc a.are k d))
+    (conjunction-snoc at a.first a.rest (condition_tree part) ∙ ap (all at) (sym trees) ∙ sym is)
+    (conjunction_of a.first (snoc a.rest (condition_tree part)) a.is (ands-snoc a.are k d))
 
 -- conjunctions of a condition so far
 pub record Ored (text : List ℕ) (ts : List Lexeme) (items : List ConditionSyntax) (at to : ℕ) : Type 0 where
@@ -104,9 +109,14 @@ ored-one part e d = record { first = condition_tree part; rest = no_more; mid = 
 pub ored-snoc : {text : List ℕ} {ts : List Lexeme} {items new : List ConditionSyntax} {at mid to : ℕ} (part : ConditionSyntax) → Ored text ts items at mid →
     kind_at ts mid ≡ code Or → IsConjunction text ts (mid + 1) (condition_tree part) to → new ≡ items ++ part ∷ [] → Ored text ts new at to
 ored-snoc {items = items} part a k d e =
-    record { first = a.first; rest = snoc a.rest (condition_tree part); mid = a.mid;
+    record {
+      first = a.first;
+      rest = snoc a.rest (condition_tree part);
+      mid = a.mid;
       same = ap condition_trees e ∙ trees-snoc items part ∙ ap (λ x. snoc x (condition_tree part)) a.same;
-      is = a.is; are = ors-snoc a.are k d }
+      is = a.is;
+      are = ors-snoc a.are k d;
+    }
 
 pub ored-any : {text : List ℕ} {ts : List Lexeme} {items new : List ConditionSyntax} {at mid to : ℕ} {v : ConditionTree} (part : ConditionSyntax) → Ored text ts items at mid →
     kind_at ts mid ≡ code Or → IsConjunction text ts (mid + 1) (condition_tree part) to → new ≡ items ++ part ∷ [] → v ≡ any at (condition_trees new) →
@@ -114,5 +124,5 @@ pub ored-any : {text : List ℕ} {ts : List Lexeme} {items new : List ConditionS
 ored-any {text = text} {ts = ts} {items = items} {at = at} {to = to} part a k d e is =
     let trees = ap condition_trees e ∙ trees-snoc items part ∙ ap (λ x. snoc x (condition_tree part)) a.same in
     subst (λ x. IsCondition text ts at x to)
-        (disjunction-snoc at a.first a.rest (condition_tree part) ∙ ap (any at) (sym trees) ∙ sym is)
-        (condition_of a.first (snoc a.rest (condition_tree part)) a.is (ors-snoc a.are k d))
+    (disjunction-snoc at a.first a.rest (condition_tree part) ∙ ap (any at) (sym trees) ∙ sym is)
+    (condition_of a.first (snoc a.rest (condition_tree part)) a.is (ors-snoc a.are k d))

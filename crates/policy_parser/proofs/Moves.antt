@@ -100,7 +100,7 @@ module _ (limits : Limits) (ts : List Lexeme) (at : ℕ) where
   -- a unary sign
   sign-move : (count base depth before : ℕ) (below : List Symbol) → kind_at ts at ≡ code Minus →
       go limits ts at count (operand base depth before ∷ below)
-          ≡ judged (first_of (many limits.operators at before) (deep limits at depth)) (go limits ts (at + 1) count (operand base (depth + 1) (before + 1) ∷ below))
+      ≡ judged (first_of (many limits.operators at before) (deep limits at depth)) (go limits ts (at + 1) count (operand base (depth + 1) (before + 1) ∷ below))
   sign-move count base depth before below k =
       go-move limits ts at 45 count count (operand base depth before ∷ below) _ (first_of (many limits.operators at before) (deep limits at depth)) k (lit< tt) refl
 
@@ -120,12 +120,12 @@ module _ (limits : Limits) (ts : List Lexeme) (at : ℕ) where
       go limits ts at count (operand base depth before ∷ below) ≡ Some (Deep at)
   sign-deep count base depth before below k few most =
       broken _ (sign-move count base depth before below k)
-          (ap (λ o. first_of o (deep limits at depth)) (within-many limits.operators at before few) ∙ past-deep limits at depth most)
+      (ap (λ o. first_of o (deep limits at depth)) (within-many limits.operators at before few) ∙ past-deep limits at depth most)
 
   -- an operator between factors or terms
   star-move : (count base before : ℕ) (below : List Symbol) → kind_at ts at ≡ code Star →
       go limits ts at count (operators base before ∷ below)
-          ≡ judged (many limits.operators at before) (go limits ts (at + 1) count (operand base base (before + 1) ∷ below))
+      ≡ judged (many limits.operators at before) (go limits ts (at + 1) count (operand base base (before + 1) ∷ below))
   star-move count base before below k =
       go-move limits ts at 46 count count (operators base before ∷ below) _ (many limits.operators at before) k (lit< tt) refl
 
@@ -139,7 +139,7 @@ module _ (limits : Limits) (ts : List Lexeme) (at : ℕ) where
 
   added-move : (count base before : ℕ) (below : List Symbol) (minus : Bool) → kind_at ts at ≡ sign_word minus →
       go limits ts at count (operators base before ∷ below)
-          ≡ judged (many limits.operators at before) (go limits ts (at + 1) count (operand base base (before + 1) ∷ below))
+      ≡ judged (many limits.operators at before) (go limits ts (at + 1) count (operand base base (before + 1) ∷ below))
   added-move count base before below true k =
       go-move limits ts at 45 count count (operators base before ∷ below) _ (many limits.operators at before) k (lit< tt) refl
   added-move count base before below false k =
@@ -198,7 +198,7 @@ module _ (limits : Limits) (ts : List Lexeme) (at : ℕ) where
 
   open-move : (count depth : ℕ) (below : List Symbol) → kind_at ts at ≡ code Open →
       go limits ts at count (unit depth ∷ below)
-          ≡ judged (deep limits at depth) (go limits ts (at + 1) count (unit (depth + 1) ∷ ands (depth + 1) ∷ ors (depth + 1) ∷ close ∷ below))
+      ≡ judged (deep limits at depth) (go limits ts (at + 1) count (unit (depth + 1) ∷ ands (depth + 1) ∷ ors (depth + 1) ∷ close ∷ below))
   open-move count depth below k = go-move limits ts at 40 count count (unit depth ∷ below) _ (deep limits at depth) k (lit< tt) refl
 
   pub open-goes : (count depth : ℕ) (below : List Symbol) → kind_at ts at ≡ code Open → depth < limits.nesting →
@@ -278,12 +278,12 @@ module _ (limits : Limits) (ts : List Lexeme) (at : ℕ) where
   pub here-goes : (below : List Symbol) → kind_at ts at ≡ code Place → kind_at ts (at + 1) ≡ code Here → go limits ts at 0 (place ∷ below) ≡ go limits ts (at + 2) 0 below
   here-goes below k h =
       place-goes below k ∙ go-move limits ts (at + 1) 10 0 0 (place_rule ∷ below) below None h (lit< tt) refl
-          ∙ go-from limits ts 0 below (let e : at + 1 + 1 ≡ at + 2 = omega arith in e)
+      ∙ go-from limits ts 0 below (let e : at + 1 + 1 ≡ at + 2 = omega arith in e)
 
   pub least-goes : (below : List Symbol) → kind_at ts at ≡ code Place → kind_at ts (at + 1) ≡ code Min → go limits ts at 0 (place ∷ below) ≡ go limits ts (at + 2) 0 (operand 0 0 0 ∷ below)
   least-goes below k m =
       place-goes below k ∙ go-move limits ts (at + 1) 11 0 0 (place_rule ∷ below) (operand 0 0 0 ∷ below) None m (lit< tt) refl
-          ∙ go-from limits ts 0 (operand 0 0 0 ∷ below) (let e : at + 1 + 1 ≡ at + 2 = omega arith in e)
+      ∙ go-from limits ts 0 (operand 0 0 0 ∷ below) (let e : at + 1 + 1 ≡ at + 2 = omega arith in e)
 
   pub place-stuck : (below : List Symbol) → kind_at ts at ≡ code Place → (kind_at ts (at + 1) == code Here) ≡ false → (kind_at ts (at + 1) == code Min) ≡ false →
       go limits ts at 0 (place ∷ below) ≡ Some (Unexpected (at + 1))
@@ -298,14 +298,14 @@ module _ (limits : Limits) (ts : List Lexeme) (at : ℕ) where
   -- attributes
   attr-move : (cores threads : ℕ) (below : List Symbol) (of_cores : Bool) → kind_at ts at ≡ attr_word of_cores →
       go limits ts at 0 (attrs cores threads ∷ below)
-          ≡ judged (many limits.attrs at (of_kind of_cores cores threads))
-              (go limits ts (at + 1) 0 (the Name ∷ the In ∷ int ∷ the Range ∷ int ∷ the Start ∷ int ∷ attrs (of_cores_more of_cores cores) (of_threads_more of_cores threads) ∷ below))
+      ≡ judged (many limits.attrs at (of_kind of_cores cores threads))
+      (go limits ts (at + 1) 0 (the Name ∷ the In ∷ int ∷ the Range ∷ int ∷ the Start ∷ int ∷ attrs (of_cores_more of_cores cores) (of_threads_more of_cores threads) ∷ below))
   attr-move cores threads below true k = go-move limits ts at 5 0 0 (attrs cores threads ∷ below) _ (many limits.attrs at cores) k (lit< tt) refl
   attr-move cores threads below false k = go-move limits ts at 6 0 0 (attrs cores threads ∷ below) _ (many limits.attrs at threads) k (lit< tt) refl
 
   pub attr-goes : (cores threads count : ℕ) (below : List Symbol) (of_cores : Bool) → kind_at ts at ≡ attr_word of_cores → count ≡ of_kind of_cores cores threads → count < limits.attrs →
       go limits ts at 0 (attrs cores threads ∷ below)
-          ≡ go limits ts (at + 1) 0 (the Name ∷ the In ∷ int ∷ the Range ∷ int ∷ the Start ∷ int ∷ attrs (of_cores_more of_cores cores) (of_threads_more of_cores threads) ∷ below)
+      ≡ go limits ts (at + 1) 0 (the Name ∷ the In ∷ int ∷ the Range ∷ int ∷ the Start ∷ int ∷ attrs (of_cores_more of_cores cores) (of_threads_more of_cores threads) ∷ below)
   attr-goes cores threads count below of_cores k e few = kept _ (attr-move cores threads below of_cores k) (ap (many limits.attrs at) (sym e) ∙ within-many limits.attrs at count few)
 
   pub attr-many : (cores threads count : ℕ) (below : List Symbol) (of_cores : Bool) → kind_at ts at ≡ attr_word of_cores → count ≡ of_kind of_cores cores threads → limits.attrs ≤ count →
@@ -319,7 +319,7 @@ module _ (limits : Limits) (ts : List Lexeme) (at : ℕ) where
   -- assignments of a case, and where the thread is put
   set-move : (before : ℕ) (below : List Symbol) → kind_at ts at ≡ code Task →
       go limits ts at 0 (actions before ∷ below)
-          ≡ judged (many limits.sets at before) (go limits ts (at + 1) 0 (the Dot ∷ field ∷ the Gets ∷ operand 0 0 0 ∷ the Comma ∷ actions (before + 1) ∷ below))
+      ≡ judged (many limits.sets at before) (go limits ts (at + 1) 0 (the Dot ∷ field ∷ the Gets ∷ operand 0 0 0 ∷ the Comma ∷ actions (before + 1) ∷ below))
   set-move before below k = go-move limits ts at 32 0 0 (actions before ∷ below) _ (many limits.sets at before) k (lit< tt) refl
 
   pub set-goes : (before : ℕ) (below : List Symbol) → kind_at ts at ≡ code Task → before < limits.sets →
@@ -346,7 +346,7 @@ module _ (limits : Limits) (ts : List Lexeme) (at : ℕ) where
       go limits ts at 0 (case before ∷ below) ≡ go limits ts (at + 1) 0 (unit 0 ∷ ands 0 ∷ ors 0 ∷ the Colon ∷ actions 0 ∷ cases (before + 1) ∷ below)
   case-goes before below k few =
       kept _ (case-move before below k) (within-many limits.cases at before few)
-          ∙ go-same limits ts (at + 1) 0 0 (condition ∷ the Colon ∷ actions 0 ∷ cases (before + 1) ∷ below) (unit 0 ∷ ands 0 ∷ ors 0 ∷ the Colon ∷ actions 0 ∷ cases (before + 1) ∷ below) refl refl
+      ∙ go-same limits ts (at + 1) 0 0 (condition ∷ the Colon ∷ actions 0 ∷ cases (before + 1) ∷ below) (unit 0 ∷ ands 0 ∷ ors 0 ∷ the Colon ∷ actions 0 ∷ cases (before + 1) ∷ below) refl refl
 
   pub case-many : (before : ℕ) (below : List Symbol) → kind_at ts at ≡ code When → limits.cases ≤ before → go limits ts at 0 (case before ∷ below) ≡ Some (Many at limits.cases)
   case-many before below k most = broken _ (case-move before below k) (past-many limits.cases at before most)

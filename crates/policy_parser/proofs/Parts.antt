@@ -38,7 +38,7 @@ reference_of {text = text} {ts = ts} {at = at} {dot = dot} {next = next} {w = w}
     let end : at + 3 ≡ next = omega (arith, there, on) in
     let whole : IsOperand text ts at (operand_is.Reference o (word_at text ts (at + 2))) (at + 3) = operand_reference o k d (subst (λ n. is_word (kind_at ts n) ≡ true) there is_a) in
     subst (λ n. IsOperand text ts at (operand_is.Reference o w) n) end
-        (subst (λ x. IsOperand text ts at (operand_is.Reference o x) (at + 3)) (ap (word_at text ts) (sym there) ∙ sym same) whole)
+    (subst (λ x. IsOperand text ts at (operand_is.Reference o x) (at + 3)) (ap (word_at text ts) (sym there) ∙ sym same) whole)
 
 pub signed_of : {text : List ℕ} {ts : List Lexeme} {at to signs : ℕ} (f : FactorSyntax) → kind_at ts at ≡ code Minus → IsFactor text ts (at + 1) f to →
     signs ≡ f.signs + 1 → IsFactor text ts at (record { at = at; signs = signs; operand = f.operand }) to
@@ -66,7 +66,7 @@ pub signed-int : {ts : List Lexeme} {at next value : ℕ} → kind_at ts at ≡ 
 signed-int {ts = ts} {at = at} {next = next} {value = value} k n on v =
     let end : at + 2 ≡ next = omega (arith, on) in
     subst (λ m. IsInt ts at (record { at = at; negative = true; value = value }) m) end
-        (subst (λ x. IsInt ts at (record { at = at; negative = true; value = x }) (at + 2)) (sym v) (int_signed k n))
+    (subst (λ x. IsInt ts at (record { at = at; negative = true; value = x }) (at + 2)) (sym v) (int_signed k n))
 
 pub count-load : {ts : List Lexeme} {at rule next : ℕ} → kind_at ts at ≡ code Load → rule ≡ at + 1 → kind_at ts rule ≡ code Count → next ≡ rule + 1 → IsLoad ts at (load_is.Count at) next
 count-load {ts = ts} {at = at} {rule = rule} {next = next} k on c last =
@@ -88,8 +88,8 @@ attr-parts {text = text} {ts = ts} {at = at} {in_at = in_at} {start_at = start_a
     let there : in_at ≡ at + 2 = omega (arith, e1) in
     let further : _ ≡ at + 3 = omega (arith, e1, e2) in
     subst (λ x. IsAttr text ts at (record { at = at; of_cores = of_cores; name = x; range = range; start = start }) to) (sym w)
-        (attr_of of_cores k n (subst (λ m. kind_at ts m ≡ code In) there i) (subst (λ m. IsRange ts m range start_at) further r) s
-            (subst (λ m. IsInt ts m start to) e3 d))
+    (attr_of of_cores k n (subst (λ m. kind_at ts m ≡ code In) there i) (subst (λ m. IsRange ts m range start_at) further r) s
+    (subst (λ m. IsInt ts m start to) e3 d))
 
 pub set-parts : {text : List ℕ} {ts : List Lexeme} {at dot gets value_at comma to : ℕ} {w : List ℕ} {v : ExprSyntax} →
     kind_at ts at ≡ code Task → kind_at ts (at + 1) ≡ code Dot → dot ≡ at + 1 + 1 → is_word (kind_at ts dot) ≡ true → w ≡ word_at text ts dot → gets ≡ dot + 1 →
@@ -100,9 +100,9 @@ set-parts {text = text} {ts = ts} {at = at} {dot = dot} {gets = gets} {value_at 
     let three : gets ≡ at + 3 = omega (arith, e1, e2) in
     let four : value_at ≡ at + 4 = omega (arith, e1, e2, e3) in
     subst (λ m. IsSets text ts at (record { at = at; word = w; value = v } ∷ []) m) (sym e4)
-        (subst (λ y. IsSets text ts at (record { at = at; word = y; value = v } ∷ []) (comma + 1)) (sym (word ∙ ap (word_at text ts) two))
-            (sets_more t d (subst (λ m. is_word (kind_at ts m) ≡ true) two is_a) (subst (λ m. kind_at ts m ≡ code Gets) three g)
-                (subst (λ m. IsExpr text ts m v comma) four x) c sets_none))
+    (subst (λ y. IsSets text ts at (record { at = at; word = y; value = v } ∷ []) (comma + 1)) (sym (word ∙ ap (word_at text ts) two))
+    (sets_more t d (subst (λ m. is_word (kind_at ts m) ≡ true) two is_a) (subst (λ m. kind_at ts m ≡ code Gets) three g)
+    (subst (λ m. IsExpr text ts m v comma) four x) c sets_none))
 
 map-snoc : {X Y : Type 0} (f : X → Y) (xs : List X) (x : X) → map f (xs ++ x ∷ []) ≡ map f xs ++ f x ∷ []
 map-snoc f [] x = refl
@@ -149,9 +149,14 @@ cased-one first e d = record { first = case_syntax_tree first; rest = []; mid = 
 pub cased-snoc : {text : List ℕ} {ts : List Lexeme} {at mid to : ℕ} {items new : List CaseSyntax} (last : CaseSyntax) → Cased text ts items at mid →
     IsCase text ts mid (case_syntax_tree last) to → new ≡ items ++ last ∷ [] → Cased text ts new at to
 cased-snoc {items = items} last k d e =
-    record { first = k.first; rest = k.rest ++ case_syntax_tree last ∷ []; mid = k.mid;
+    record {
+      first = k.first;
+      rest = k.rest ++ case_syntax_tree last ∷ [];
+      mid = k.mid;
       same = ap (map case_syntax_tree) e ∙ map-snoc case_syntax_tree items last ∙ ap (λ x. x ++ case_syntax_tree last ∷ []) k.same;
-      is = k.is; are = cases-snoc k.are d }
+      is = k.is;
+      are = cases-snoc k.are d;
+    }
 
 -- a case of a handler
 pub case-parts : {text : List ℕ} {ts : List Lexeme} {at mid sets_at last : ℕ} {guard : ConditionTree} {sets : List SetSyntax} (put : Put) → kind_at ts at ≡ code When →
@@ -166,8 +171,8 @@ pub handler-parts : {text : List ℕ} {ts : List Lexeme} {at cases_at last to : 
 handler-parts {text = text} {ts = ts} {at = at} {last = last} {to = to} {items = items} event o v b e c f e2 =
     let there : _ ≡ at + 3 = omega (arith, e) in
     subst (λ x. IsHandler text ts at (record { at = at; event = event; cases = x }) to) (sym c.same)
-        (subst (λ n. IsHandler text ts at (record { at = at; event = event; cases = c.first ∷ c.rest }) n) (sym e2)
-            (handler_of event o v b (subst (λ n. IsCase text ts n c.first c.mid) there c.is) c.are f))
+    (subst (λ n. IsHandler text ts at (record { at = at; event = event; cases = c.first ∷ c.rest }) n) (sym e2)
+    (handler_of event o v b (subst (λ n. IsCase text ts n c.first c.mid) there c.is) c.are f))
 
 -- a whole policy
 pub policy-parts : {text : List ℕ} {ts : List Lexeme} {name_at load_at attrs_at place_at elect_at handlers_at filter_at guard_at choose_at first_at steal_at second_at end : ℕ}
@@ -179,17 +184,39 @@ pub policy-parts : {text : List ℕ} {ts : List Lexeme} {name_at load_at attrs_a
     first_at ≡ choose_at + 1 → IsOrder text ts first_at choose steal_at → kind_at ts steal_at ≡ code Steal → second_at ≡ steal_at + 1 →
     IsOrder text ts second_at steal end → end ≡ length ts →
     IsPolicy text ts (record {
-      name = name; load = load; attrs = attrs; place = place; elect = elect; handlers = handlers;
-      filter_at = filter_at; filter = filter; choose_at = choose_at; choose = choose; steal_at = steal_at; steal = steal })
+      name = name;
+      load = load;
+      attrs = attrs;
+      place = place;
+      elect = elect;
+      handlers = handlers;
+      filter_at = filter_at;
+      filter = filter;
+      choose_at = choose_at;
+      choose = choose;
+      steal_at = steal_at;
+      steal = steal;
+    })
 policy-parts {text = text} {ts = ts} {attrs_at = attrs_at} {place_at = place_at} {elect_at = elect_at} {handlers_at = handlers_at} {filter_at = filter_at}
     {choose_at = choose_at} {steal_at = steal_at} {second_at = second_at} {end = end} {name = name} {load = load} {attrs = attrs} {place = place} {elect = elect} {handlers = handlers}
     {filter = filter} {choose = choose} {steal = steal}
     k0 e1 k1 w e2 dl da dp de dh kf e3 df kc e4 dc ks e5 ds e6 =
     let two : _ ≡ 2 = omega (arith, e1, e2) in
     subst (λ x. IsPolicy text ts (record {
-        name = x; load = load; attrs = attrs; place = place; elect = elect; handlers = handlers;
-        filter_at = filter_at; filter = filter; choose_at = choose_at; choose = choose; steal_at = steal_at; steal = steal }))
-      (sym (w ∙ ap (word_at text ts) e1))
-      (policy_of k0 (subst (λ n. kind_at ts n ≡ code Name) e1 k1) (subst (λ n. IsLoad ts n load attrs_at) two dl) da dp de dh
-        kf (subst (λ n. IsCondition text ts n filter choose_at) e3 df) kc (subst (λ n. IsOrder text ts n choose steal_at) e4 dc) ks
-        (subst (λ n. IsOrder text ts n steal (length ts)) e5 (subst (λ m. IsOrder text ts second_at steal m) e6 ds)))
+      name = x;
+      load = load;
+      attrs = attrs;
+      place = place;
+      elect = elect;
+      handlers = handlers;
+      filter_at = filter_at;
+      filter = filter;
+      choose_at = choose_at;
+      choose = choose;
+      steal_at = steal_at;
+      steal = steal;
+    }))
+    (sym (w ∙ ap (word_at text ts) e1))
+    (policy_of k0 (subst (λ n. kind_at ts n ≡ code Name) e1 k1) (subst (λ n. IsLoad ts n load attrs_at) two dl) da dp de dh
+    kf (subst (λ n. IsCondition text ts n filter choose_at) e3 df) kc (subst (λ n. IsOrder text ts n choose steal_at) e4 dc) ks
+    (subst (λ n. IsOrder text ts n steal (length ts)) e5 (subst (λ m. IsOrder text ts second_at steal m) e6 ds)))

@@ -9,24 +9,26 @@ ghost use Rattle.policy_grammar.specs.Conditions.{IsUnit, IsConjunction, IsCondi
 ghost use Rattle.policy_grammar.specs.Machine.{Symbol, unit, ands, ors, compare, operand, is_compare, go};
 ghost use Rattle.policy_parser.specs.Answers.{Answers};
 
+use crate::source::Source;
 use policy_grammar::{ParseFault, Terminal};
 use policy_tree::{Cmp, ConditionSyntax};
-
-use crate::source::Source;
 
 impl<'a> Source<'a> {
     /// A condition where so many are open, behind so many comparisons, and how many it has had then.
     #[cycle(nested)]
-    pub(crate) fn condition(&self, at: u32, depth: u32, count: u32) -> Result<(ConditionSyntax, u32, u32), ParseFault>
+    pub(crate) fn condition(
+        &self,
+        at: u32,
+        depth: u32,
+        count: u32,
+    ) -> Result<(ConditionSyntax, u32, u32), ParseFault>
         requires within { at ≤ length self.now.lexemes.now }
         requires opens { depth ≤ self.now.limits.nesting }
         ensures later { IfOk result (λ x. (at < x.1) × (x.1 ≤ length self.now.lexemes.now)) }
         ensures is { IfOk result (λ x. IsCondition self.now.text.now self.now.lexemes.now at (condition_tree x.0) x.1) }
-        ensures reads {
-            (below : List Symbol) →
+        ensures reads { (below : List Symbol) →
             Answers (go self.now.limits self.now.lexemes.now at count (unit depth ∷ ands depth ∷ ors depth ∷ below))
-                (λ x. go self.now.limits self.now.lexemes.now x.1 x.2 below) result
-        }
+            (λ x. go self.now.limits self.now.lexemes.now x.1 x.2 below) result }
     {
         let (first, mut next, mut counted) = self.conjunction(at, depth, count)?;
         if !self.has(next, Terminal::Or) {
@@ -47,16 +49,19 @@ impl<'a> Source<'a> {
 
     /// A conjunction, in the same way.
     #[cycle(nested)]
-    fn conjunction(&self, at: u32, depth: u32, count: u32) -> Result<(ConditionSyntax, u32, u32), ParseFault>
+    fn conjunction(
+        &self,
+        at: u32,
+        depth: u32,
+        count: u32,
+    ) -> Result<(ConditionSyntax, u32, u32), ParseFault>
         requires within { at ≤ length self.now.lexemes.now }
         requires opens { depth ≤ self.now.limits.nesting }
         ensures later { IfOk result (λ x. (at < x.1) × (x.1 ≤ length self.now.lexemes.now)) }
         ensures is { IfOk result (λ x. IsConjunction self.now.text.now self.now.lexemes.now at (condition_tree x.0) x.1) }
-        ensures reads {
-            (below : List Symbol) →
+        ensures reads { (below : List Symbol) →
             Answers (go self.now.limits self.now.lexemes.now at count (unit depth ∷ ands depth ∷ below))
-                (λ x. go self.now.limits self.now.lexemes.now x.1 x.2 below) result
-        }
+            (λ x. go self.now.limits self.now.lexemes.now x.1 x.2 below) result }
     {
         let (first, mut next, mut counted) = self.unit(at, depth, count)?;
         if !self.has(next, Terminal::And) {
@@ -77,16 +82,19 @@ impl<'a> Source<'a> {
 
     /// A unit, in the same way.
     #[cycle(nested)]
-    fn unit(&self, at: u32, depth: u32, count: u32) -> Result<(ConditionSyntax, u32, u32), ParseFault>
+    fn unit(
+        &self,
+        at: u32,
+        depth: u32,
+        count: u32,
+    ) -> Result<(ConditionSyntax, u32, u32), ParseFault>
         requires within { at ≤ length self.now.lexemes.now }
         requires opens { depth ≤ self.now.limits.nesting }
         ensures later { IfOk result (λ x. (at < x.1) × (x.1 ≤ length self.now.lexemes.now)) }
         ensures is { IfOk result (λ x. IsUnit self.now.text.now self.now.lexemes.now at (condition_tree x.0) x.1) }
-        ensures reads {
-            (below : List Symbol) →
+        ensures reads { (below : List Symbol) →
             Answers (go self.now.limits self.now.lexemes.now at count (unit depth ∷ below))
-                (λ x. go self.now.limits self.now.lexemes.now x.1 x.2 below) result
-        }
+            (λ x. go self.now.limits self.now.lexemes.now x.1 x.2 below) result }
     {
         if self.has(at, Terminal::Always) {
             Ok((ConditionSyntax::Always { at }, at + 1, count))
@@ -101,17 +109,20 @@ impl<'a> Source<'a> {
 
     /// `not` and a unit.
     #[cycle(nested)]
-    fn negation(&self, at: u32, depth: u32, count: u32) -> Result<(ConditionSyntax, u32, u32), ParseFault>
+    fn negation(
+        &self,
+        at: u32,
+        depth: u32,
+        count: u32,
+    ) -> Result<(ConditionSyntax, u32, u32), ParseFault>
         requires within { at < length self.now.lexemes.now }
         requires opens { depth ≤ self.now.limits.nesting }
         requires begins { kind_at self.now.lexemes.now at ≡ code Not }
         ensures later { IfOk result (λ x. (at < x.1) × (x.1 ≤ length self.now.lexemes.now)) }
         ensures is { IfOk result (λ x. IsUnit self.now.text.now self.now.lexemes.now at (condition_tree x.0) x.1) }
-        ensures reads {
-            (below : List Symbol) →
+        ensures reads { (below : List Symbol) →
             Answers (go self.now.limits self.now.lexemes.now at count (unit depth ∷ below))
-                (λ x. go self.now.limits self.now.lexemes.now x.1 x.2 below) result
-        }
+            (λ x. go self.now.limits self.now.lexemes.now x.1 x.2 below) result }
     {
         if depth >= self.limits.nesting {
             return Err(ParseFault::Deep(at));
@@ -123,17 +134,20 @@ impl<'a> Source<'a> {
 
     /// A condition in parentheses.
     #[cycle(nested)]
-    fn group(&self, at: u32, depth: u32, count: u32) -> Result<(ConditionSyntax, u32, u32), ParseFault>
+    fn group(
+        &self,
+        at: u32,
+        depth: u32,
+        count: u32,
+    ) -> Result<(ConditionSyntax, u32, u32), ParseFault>
         requires within { at < length self.now.lexemes.now }
         requires opens { depth ≤ self.now.limits.nesting }
         requires begins { kind_at self.now.lexemes.now at ≡ code Open }
         ensures later { IfOk result (λ x. (at < x.1) × (x.1 ≤ length self.now.lexemes.now)) }
         ensures is { IfOk result (λ x. IsUnit self.now.text.now self.now.lexemes.now at (condition_tree x.0) x.1) }
-        ensures reads {
-            (below : List Symbol) →
+        ensures reads { (below : List Symbol) →
             Answers (go self.now.limits self.now.lexemes.now at count (unit depth ∷ below))
-                (λ x. go self.now.limits self.now.lexemes.now x.1 x.2 below) result
-        }
+            (λ x. go self.now.limits self.now.lexemes.now x.1 x.2 below) result }
     {
         if depth >= self.limits.nesting {
             return Err(ParseFault::Deep(at));
@@ -145,16 +159,19 @@ impl<'a> Source<'a> {
     }
 
     /// A comparison.
-    fn comparison(&self, at: u32, depth: u32, count: u32) -> Result<(ConditionSyntax, u32, u32), ParseFault>
+    fn comparison(
+        &self,
+        at: u32,
+        depth: u32,
+        count: u32,
+    ) -> Result<(ConditionSyntax, u32, u32), ParseFault>
         requires within { at ≤ length self.now.lexemes.now }
         requires opens { depth ≤ self.now.limits.nesting }
         ensures later { IfOk result (λ x. (at < x.1) × (x.1 ≤ length self.now.lexemes.now)) }
         ensures is { IfOk result (λ x. IsUnit self.now.text.now self.now.lexemes.now at (condition_tree x.0) x.1) }
-        ensures reads {
-            (below : List Symbol) →
+        ensures reads { (below : List Symbol) →
             Answers (go self.now.limits self.now.lexemes.now at count (operand depth depth 0 ∷ compare depth ∷ below))
-                (λ x. go self.now.limits self.now.lexemes.now x.1 x.2 below) result
-        }
+            (λ x. go self.now.limits self.now.lexemes.now x.1 x.2 below) result }
     {
         let (left, sign_at) = self.expression(at, depth)?;
         let compare = match self.compare(sign_at) {
@@ -165,7 +182,16 @@ impl<'a> Source<'a> {
             return Err(ParseFault::Many(sign_at, self.limits.comparisons));
         }
         let (right, next) = self.expression(sign_at + 1, depth)?;
-        Ok((ConditionSyntax::Test { sign_at, compare, left, right }, next, count + 1))
+        Ok((
+            ConditionSyntax::Test {
+                sign_at,
+                compare,
+                left,
+                right,
+            },
+            next,
+            count + 1,
+        ))
     }
 
     /// The symbol of a comparison that stands there.

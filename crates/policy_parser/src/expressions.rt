@@ -8,11 +8,12 @@ ghost use Rattle.policy_grammar.specs.Expressions.{IsOperand, IsFactor, IsTerm, 
 ghost use Rattle.policy_grammar.specs.Machine.{Symbol, operand, operators, is_owner, go};
 ghost use Rattle.policy_parser.specs.Answers.{Answers, IsOver};
 
+use crate::source::Source;
 use lists::Items;
 use policy_grammar::{ParseFault, Terminal};
-use policy_tree::{AddedSyntax, ExprSyntax, FactorSyntax, OperandSyntax, Owner, TermSyntax, TimesSyntax};
-
-use crate::source::Source;
+use policy_tree::{
+    AddedSyntax, ExprSyntax, FactorSyntax, OperandSyntax, Owner, TermSyntax, TimesSyntax,
+};
 
 impl<'a> Source<'a> {
     /// An expression, where so many are open around it.
@@ -22,24 +23,33 @@ impl<'a> Source<'a> {
         ensures later { IfOk result (λ x. (at < x.1) × (x.1 ≤ length self.now.lexemes.now)) }
         ensures is { IfOk result (λ x. IsExpr self.now.text.now self.now.lexemes.now at x.0 x.1) }
         ensures over { IfOk result (λ x. IsOver self.now.lexemes.now x.1) }
-        ensures reads {
-            (count : ℕ) (below : List Symbol) →
+        ensures reads { (count : ℕ) (below : List Symbol) →
             Answers (go self.now.limits self.now.lexemes.now at count (operand depth depth 0 ∷ below))
-                (λ x. go self.now.limits self.now.lexemes.now x.1 count below) result
-        }
+            (λ x. go self.now.limits self.now.lexemes.now x.1 count below) result }
     {
         let (first, mut next, mut counted) = self.term(at, depth, 0)?;
         let mut rest = Vec::new(self.alloc);
         'sums: loop {
             let minus = match self.sign(next) {
                 Some(minus) => minus,
-                None => return Ok((ExprSyntax { at, first, rest: Items::from_vec(rest) }, next)),
+                None => return Ok((
+                    ExprSyntax {
+                        at,
+                        first,
+                        rest: Items::from_vec(rest),
+                    },
+                    next,
+                )),
             };
             if counted >= self.limits.operators {
                 return Err(ParseFault::Many(next, self.limits.operators));
             }
             let (term, after, more) = self.term(next + 1, depth, counted + 1)?;
-            rest.push(AddedSyntax { at: next, minus, term })?;
+            rest.push(AddedSyntax {
+                at: next,
+                minus,
+                term,
+            })?;
             next = after;
             counted = more;
         }
@@ -54,11 +64,9 @@ impl<'a> Source<'a> {
         ensures few { IfOk result (λ x. x.2 ≤ self.now.limits.operators) }
         ensures is { IfOk result (λ x. IsTerm self.now.text.now self.now.lexemes.now at x.0 x.1) }
         ensures over { IfOk result (λ x. (kind_at self.now.lexemes.now x.1 == code Star) ≡ false) }
-        ensures reads {
-            (count : ℕ) (below : List Symbol) →
+        ensures reads { (count : ℕ) (below : List Symbol) →
             Answers (go self.now.limits self.now.lexemes.now at count (operand depth depth before ∷ below))
-                (λ x. go self.now.limits self.now.lexemes.now x.1 count (operators depth x.2 ∷ below)) result
-        }
+            (λ x. go self.now.limits self.now.lexemes.now x.1 count (operators depth x.2 ∷ below)) result }
     {
         let (first, mut next, mut counted) = self.factor(at, depth, depth, before)?;
         let mut rest = Vec::new(self.alloc);
@@ -71,7 +79,15 @@ impl<'a> Source<'a> {
             next = after;
             counted = more;
         }
-        Ok((TermSyntax { at, first, rest: Items::from_vec(rest) }, next, counted))
+        Ok((
+            TermSyntax {
+                at,
+                first,
+                rest: Items::from_vec(rest),
+            },
+            next,
+            counted,
+        ))
     }
 
     /// A factor of an expression around which `base` are open, where `depth` are and so many operators came before it,
@@ -90,15 +106,21 @@ impl<'a> Source<'a> {
         ensures few { IfOk result (λ x. x.2 ≤ self.now.limits.operators) }
         ensures signs { IfOk result (λ x. at + x.0.signs < x.1) }
         ensures is { IfOk result (λ x. IsFactor self.now.text.now self.now.lexemes.now at x.0 x.1) }
-        ensures reads {
-            (count : ℕ) (below : List Symbol) →
+        ensures reads { (count : ℕ) (below : List Symbol) →
             Answers (go self.now.limits self.now.lexemes.now at count (operand base depth before ∷ below))
-                (λ x. go self.now.limits self.now.lexemes.now x.1 count (operators base x.2 ∷ below)) result
-        }
+            (λ x. go self.now.limits self.now.lexemes.now x.1 count (operators base x.2 ∷ below)) result }
     {
         if !self.has(at, Terminal::Minus) {
             let (operand, next) = self.operand(at)?;
-            return Ok((FactorSyntax { at, signs: 0, operand }, next, before));
+            return Ok((
+                FactorSyntax {
+                    at,
+                    signs: 0,
+                    operand,
+                },
+                next,
+                before,
+            ));
         }
         if before >= self.limits.operators {
             return Err(ParseFault::Many(at, self.limits.operators));
@@ -107,7 +129,15 @@ impl<'a> Source<'a> {
             return Err(ParseFault::Deep(at));
         }
         let (inner, next, counted) = self.factor(at + 1, base, depth + 1, before + 1)?;
-        Ok((FactorSyntax { at, signs: inner.signs + 1, operand: inner.operand }, next, counted))
+        Ok((
+            FactorSyntax {
+                at,
+                signs: inner.signs + 1,
+                operand: inner.operand,
+            },
+            next,
+            counted,
+        ))
     }
 
     /// A number or a reference.
@@ -115,12 +145,10 @@ impl<'a> Source<'a> {
         requires within { at ≤ length self.now.lexemes.now }
         ensures later { IfOk result (λ x. (at < x.1) × (x.1 ≤ length self.now.lexemes.now)) }
         ensures is { IfOk result (λ x. IsOperand self.now.text.now self.now.lexemes.now at x.0 x.1) }
-        ensures reads {
-            (count base depth before : ℕ) (below : List Symbol) →
+        ensures reads { (count base depth before : ℕ) (below : List Symbol) →
             (kind_at self.now.lexemes.now at == code Minus) ≡ false →
             Answers (go self.now.limits self.now.lexemes.now at count (operand base depth before ∷ below))
-                (λ x. go self.now.limits self.now.lexemes.now x.1 count (operators base before ∷ below)) result
-        }
+            (λ x. go self.now.limits self.now.lexemes.now x.1 count (operators base before ∷ below)) result }
     {
         if self.has(at, Terminal::Number) {
             return Ok((OperandSyntax::Number(self.lexeme(at).value), at + 1));

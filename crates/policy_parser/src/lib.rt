@@ -4,10 +4,10 @@
 mod conditions;
 mod expressions;
 mod orders;
-mod reading;
 mod policies;
+mod reading;
 mod source;
 mod words;
 
+pub use policy_grammar::{Limits, POLICY_LIMITS, ParseFault};
 pub use reading::parse;
-pub use policy_grammar::{Limits, ParseFault, POLICY_LIMITS};

@@ -8,11 +8,10 @@ ghost use Rattle.policy_grammar.specs.Expressions.{IsKey, IsOrder};
 ghost use Rattle.policy_grammar.specs.Machine.{Symbol, order, key, keys, is_key, go};
 ghost use Rattle.policy_parser.specs.Answers.{Answers, IsOver};
 
+use crate::source::Source;
 use lists::Items;
 use policy_grammar::{ParseFault, Terminal};
 use policy_tree::{KeySyntax, OrderSyntax};
-
-use crate::source::Source;
 
 impl<'a> Source<'a> {
     /// An order.
@@ -20,14 +19,18 @@ impl<'a> Source<'a> {
         requires within { at ≤ length self.now.lexemes.now }
         ensures later { IfOk result (λ x. (at < x.1) × (x.1 ≤ length self.now.lexemes.now)) }
         ensures is { IfOk result (λ x. IsOrder self.now.text.now self.now.lexemes.now at x.0 x.1) }
-        ensures reads {
-            (below : List Symbol) →
+        ensures reads { (below : List Symbol) →
             Answers (go self.now.limits self.now.lexemes.now at 0 (order ∷ below))
-                (λ x. go self.now.limits self.now.lexemes.now x.1 0 below) result
-        }
+            (λ x. go self.now.limits self.now.lexemes.now x.1 0 below) result }
     {
         if self.has(at, Terminal::First) {
-            return Ok((OrderSyntax { at, keys: Items::from_vec(Vec::new(self.alloc)) }, at + 1));
+            return Ok((
+                OrderSyntax {
+                    at,
+                    keys: Items::from_vec(Vec::new(self.alloc)),
+                },
+                at + 1,
+            ));
         }
         let (first, mut next) = self.key(at, 0)?;
         let mut keys = Vec::new(self.alloc);
@@ -39,7 +42,13 @@ impl<'a> Source<'a> {
             next = after;
             count += 1;
         }
-        Ok((OrderSyntax { at, keys: Items::from_vec(keys) }, next))
+        Ok((
+            OrderSyntax {
+                at,
+                keys: Items::from_vec(keys),
+            },
+            next,
+        ))
     }
 
     /// A key of an order that has so many before it.
@@ -47,11 +56,9 @@ impl<'a> Source<'a> {
         requires within { at ≤ length self.now.lexemes.now }
         ensures later { IfOk result (λ x. (at < x.1) × (x.1 ≤ length self.now.lexemes.now)) }
         ensures is { IfOk result (λ x. IsKey self.now.text.now self.now.lexemes.now at x.0 x.1) }
-        ensures reads {
-            (below : List Symbol) →
+        ensures reads { (below : List Symbol) →
             Answers (go self.now.limits self.now.lexemes.now at 0 (key before ∷ below))
-                (λ x. go self.now.limits self.now.lexemes.now x.1 0 (keys (before + 1) ∷ below)) result
-        }
+            (λ x. go self.now.limits self.now.lexemes.now x.1 0 (keys (before + 1) ∷ below)) result }
     {
         let greatest = match self.greatest(at) {
             Some(greatest) => greatest,
@@ -61,7 +68,14 @@ impl<'a> Source<'a> {
             return Err(ParseFault::Many(at, self.limits.keys));
         }
         let (value, next) = self.expression(at + 1, 0)?;
-        Ok((KeySyntax { at, greatest, value }, next))
+        Ok((
+            KeySyntax {
+                at,
+                greatest,
+                value,
+            },
+            next,
+        ))
     }
 
     /// Whether the word that stands there is `max`, and not `min`.

@@ -12,11 +12,13 @@ ghost use Rattle.policy_grammar.specs.Breaks.{of_kind};
 ghost use Rattle.policy_parser.specs.Answers.{Answers};
 ghost use Rattle.policy_parser.specs.Cases.{Cased};
 
+use crate::source::Source;
 use lists::Items;
 use policy_grammar::{ParseFault, Terminal};
-use policy_tree::{AttrSyntax, CaseSyntax, ElectSyntax, Event, HandlerSyntax, IntSyntax, LoadSyntax, Name, PlaceSyntax, Put, RangeSyntax, SetSyntax, Syntax};
-
-use crate::source::Source;
+use policy_tree::{
+    AttrSyntax, CaseSyntax, ElectSyntax, Event, HandlerSyntax, IntSyntax, LoadSyntax, Name,
+    PlaceSyntax, Put, RangeSyntax, SetSyntax, Syntax,
+};
 
 impl<'a> Source<'a> {
     /// The policy that the tokens are.
@@ -40,7 +42,20 @@ impl<'a> Source<'a> {
         if (end as usize) < self.lexemes.len() {
             return Err(ParseFault::Unexpected(end));
         }
-        Ok(Syntax { name, load, attrs, place, elect, handlers, filter_at, filter, choose_at, choose, steal_at, steal })
+        Ok(Syntax {
+            name,
+            load,
+            attrs,
+            place,
+            elect,
+            handlers,
+            filter_at,
+            filter,
+            choose_at,
+            choose,
+            steal_at,
+            steal,
+        })
     }
 
     /// A number that may have a sign.
@@ -48,22 +63,34 @@ impl<'a> Source<'a> {
         requires within { at ≤ length self.now.lexemes.now }
         ensures later { IfOk result (λ x. (at < x.1) × (x.1 ≤ length self.now.lexemes.now)) }
         ensures is { IfOk result (λ x. IsInt self.now.lexemes.now at x.0 x.1) }
-        ensures reads {
-            (below : List Symbol) →
+        ensures reads { (below : List Symbol) →
             Answers (go self.now.limits self.now.lexemes.now at 0 (int ∷ below))
-                (λ x. go self.now.limits self.now.lexemes.now x.1 0 below) result
-        }
+            (λ x. go self.now.limits self.now.lexemes.now x.1 0 below) result }
     {
         if self.has(at, Terminal::Number) {
             let value = self.lexeme(at).value;
-            return Ok((IntSyntax { at, negative: false, value }, at + 1));
+            return Ok((
+                IntSyntax {
+                    at,
+                    negative: false,
+                    value,
+                },
+                at + 1,
+            ));
         }
         if !self.has(at, Terminal::Minus) {
             return Err(ParseFault::Unexpected(at));
         }
         let next = self.expect(at + 1, Terminal::Number)?;
         let value = self.lexeme(at + 1).value;
-        Ok((IntSyntax { at, negative: true, value }, next))
+        Ok((
+            IntSyntax {
+                at,
+                negative: true,
+                value,
+            },
+            next,
+        ))
     }
 
     /// A range.
@@ -71,11 +98,9 @@ impl<'a> Source<'a> {
         requires within { at ≤ length self.now.lexemes.now }
         ensures later { IfOk result (λ x. (at < x.1) × (x.1 ≤ length self.now.lexemes.now)) }
         ensures is { IfOk result (λ x. IsRange self.now.lexemes.now at x.0 x.1) }
-        ensures reads {
-            (below : List Symbol) →
+        ensures reads { (below : List Symbol) →
             Answers (go self.now.limits self.now.lexemes.now at 0 (int ∷ the Range ∷ int ∷ below))
-                (λ x. go self.now.limits self.now.lexemes.now x.1 0 below) result
-        }
+            (λ x. go self.now.limits self.now.lexemes.now x.1 0 below) result }
     {
         let (low, dots) = self.int(at)?;
         let high_at = self.expect(dots, Terminal::Range)?;
@@ -88,11 +113,9 @@ impl<'a> Source<'a> {
         requires within { at ≤ length self.now.lexemes.now }
         ensures later { IfOk result (λ x. (at < x.1) × (x.1 ≤ length self.now.lexemes.now)) }
         ensures is { IfOk result (λ x. IsLoad self.now.lexemes.now at x.0 x.1) }
-        ensures reads {
-            (below : List Symbol) →
+        ensures reads { (below : List Symbol) →
             Answers (go self.now.limits self.now.lexemes.now at 0 (the Load ∷ load_rule ∷ below))
-                (λ x. go self.now.limits self.now.lexemes.now x.1 0 below) result
-        }
+            (λ x. go self.now.limits self.now.lexemes.now x.1 0 below) result }
     {
         let rule = self.expect(at, Terminal::Load)?;
         if self.has(rule, Terminal::Count) {
@@ -112,18 +135,25 @@ impl<'a> Source<'a> {
         ensures later { IfOk result (λ x. (at < x.1) × (x.1 ≤ length self.now.lexemes.now)) }
         ensures is { IfOk result (λ x. IsAttr self.now.text.now self.now.lexemes.now at x.0 x.1) }
         ensures kind { IfOk result (λ x. x.0.of_cores ≡ of_cores) }
-        ensures reads {
-            (below : List Symbol) →
+        ensures reads { (below : List Symbol) →
             Answers (go self.now.limits self.now.lexemes.now (at + 1) 0 (the Name ∷ the In ∷ int ∷ the Range ∷ int ∷ the Start ∷ int ∷ below))
-                (λ x. go self.now.limits self.now.lexemes.now x.1 0 below) result
-        }
+            (λ x. go self.now.limits self.now.lexemes.now x.1 0 below) result }
     {
         let (name, in_at) = self.name_at(at + 1)?;
         let range_at = self.expect(in_at, Terminal::In)?;
         let (range, start_at) = self.range(range_at)?;
         let number_at = self.expect(start_at, Terminal::Start)?;
         let (start, next) = self.int(number_at)?;
-        Ok((AttrSyntax { at, of_cores, name, range, start }, next))
+        Ok((
+            AttrSyntax {
+                at,
+                of_cores,
+                name,
+                range,
+                start,
+            },
+            next,
+        ))
     }
 
     /// A name that must stand there: a word that isn't reserved.
@@ -131,11 +161,9 @@ impl<'a> Source<'a> {
         ensures next { IfOk result (λ x. (x.1 ≡ at + 1) × (x.1 ≤ length self.now.lexemes.now)) }
         ensures is { IfOk result (λ x. kind_at self.now.lexemes.now at ≡ code Name) }
         ensures word { IfOk result (λ x. x.0 ≡ word_at self.now.text.now self.now.lexemes.now at) }
-        ensures reads {
-            (count : ℕ) (below : List Symbol) →
+        ensures reads { (count : ℕ) (below : List Symbol) →
             Answers (go self.now.limits self.now.lexemes.now at count (the Name ∷ below))
-                (λ x. go self.now.limits self.now.lexemes.now x.1 0 below) result
-        }
+            (λ x. go self.now.limits self.now.lexemes.now x.1 0 below) result }
     {
         let next = self.expect(at, Terminal::Name)?;
         let name = self.name(at)?;
@@ -147,11 +175,9 @@ impl<'a> Source<'a> {
         requires within { at ≤ length self.now.lexemes.now }
         ensures later { IfOk result (λ x. (at ≤ x.1) × (x.1 ≤ length self.now.lexemes.now)) }
         ensures is { IfOk result (λ x. IsPlace self.now.text.now self.now.lexemes.now at x.0 x.1) }
-        ensures reads {
-            (below : List Symbol) →
+        ensures reads { (below : List Symbol) →
             Answers (go self.now.limits self.now.lexemes.now at 0 (place ∷ below))
-                (λ x. go self.now.limits self.now.lexemes.now x.1 0 below) result
-        }
+            (λ x. go self.now.limits self.now.lexemes.now x.1 0 below) result }
     {
         if !self.has(at, Terminal::Place) {
             return Ok((None, at));
@@ -171,11 +197,9 @@ impl<'a> Source<'a> {
         requires within { at ≤ length self.now.lexemes.now }
         ensures later { IfOk result (λ x. (at ≤ x.1) × (x.1 ≤ length self.now.lexemes.now)) }
         ensures is { IfOk result (λ x. IsElect self.now.text.now self.now.lexemes.now at x.0 x.1) }
-        ensures reads {
-            (below : List Symbol) →
+        ensures reads { (below : List Symbol) →
             Answers (go self.now.limits self.now.lexemes.now at 0 (elect ∷ below))
-                (λ x. go self.now.limits self.now.lexemes.now x.1 0 below) result
-        }
+            (λ x. go self.now.limits self.now.lexemes.now x.1 0 below) result }
     {
         if !self.has(at, Terminal::Elect) {
             return Ok((None, at));
@@ -189,11 +213,9 @@ impl<'a> Source<'a> {
         requires within { at < length self.now.lexemes.now }
         ensures later { IfOk result (λ x. (at < x.1) × (x.1 ≤ length self.now.lexemes.now)) }
         ensures is { kind_at self.now.lexemes.now at ≡ code Task → IfOk result (λ x. IsSets self.now.text.now self.now.lexemes.now at (x.0 ∷ []) x.1) }
-        ensures reads {
-            (below : List Symbol) →
+        ensures reads { (below : List Symbol) →
             Answers (go self.now.limits self.now.lexemes.now (at + 1) 0 (the Dot ∷ field ∷ the Gets ∷ operand 0 0 0 ∷ the Comma ∷ below))
-                (λ x. go self.now.limits self.now.lexemes.now x.1 0 below) result
-        }
+            (λ x. go self.now.limits self.now.lexemes.now x.1 0 below) result }
     {
         let word_at = self.expect(at + 1, Terminal::Dot)?;
         let (word, gets_at) = self.word(word_at)?;
@@ -208,11 +230,9 @@ impl<'a> Source<'a> {
         requires within { at ≤ length self.now.lexemes.now }
         ensures later { IfOk result (λ x. (at ≤ x.1) × (x.1 ≤ length self.now.lexemes.now)) }
         ensures is { IfOk result (λ x. IsAttrs self.now.text.now self.now.lexemes.now at x.0 x.1) }
-        ensures reads {
-            (below : List Symbol) →
+        ensures reads { (below : List Symbol) →
             Answers (go self.now.limits self.now.lexemes.now at 0 (attrs 0 0 ∷ below))
-                (λ x. go self.now.limits self.now.lexemes.now x.1 0 below) result
-        }
+            (λ x. go self.now.limits self.now.lexemes.now x.1 0 below) result }
     {
         let mut attrs = Vec::new(self.alloc);
         let mut next = at;
@@ -257,11 +277,9 @@ impl<'a> Source<'a> {
         ensures later { IfOk result (λ x. (at ≤ x.1) × (x.1 < length self.now.lexemes.now)) }
         ensures is { IfOk result (λ x. IsSets self.now.text.now self.now.lexemes.now at x.0 x.1) }
         ensures puts { IfOk result (λ x. kind_at self.now.lexemes.now x.1 ≡ put_word x.2) }
-        ensures reads {
-            (below : List Symbol) →
+        ensures reads { (below : List Symbol) →
             Answers (go self.now.limits self.now.lexemes.now at 0 (actions 0 ∷ below))
-                (λ x. go self.now.limits self.now.lexemes.now (x.1 + 1) 0 below) result
-        }
+            (λ x. go self.now.limits self.now.lexemes.now (x.1 + 1) 0 below) result }
     {
         let mut sets = Vec::new(self.alloc);
         let mut next = at;
@@ -303,11 +321,9 @@ impl<'a> Source<'a> {
         requires within { at ≤ length self.now.lexemes.now }
         ensures later { IfOk result (λ x. (at < x.1) × (x.1 ≤ length self.now.lexemes.now)) }
         ensures is { IfOk result (λ x. IsCase self.now.text.now self.now.lexemes.now at (case_syntax_tree x.0) x.1) }
-        ensures reads {
-            (below : List Symbol) →
+        ensures reads { (below : List Symbol) →
             Answers (go self.now.limits self.now.lexemes.now at 0 (case before ∷ below))
-                (λ x. go self.now.limits self.now.lexemes.now x.1 0 (cases (before + 1) ∷ below)) result
-        }
+            (λ x. go self.now.limits self.now.lexemes.now x.1 0 (cases (before + 1) ∷ below)) result }
     {
         if !self.has(at, Terminal::When) {
             return Err(ParseFault::Unexpected(at));
@@ -318,7 +334,16 @@ impl<'a> Source<'a> {
         let (guard, colon_at, _count) = self.condition(at + 1, 0, 0)?;
         let sets_at = self.expect(colon_at, Terminal::Colon)?;
         let (sets, put_at, put) = self.actions(sets_at)?;
-        Ok((CaseSyntax { at, guard, sets, put_at, put }, put_at + 1))
+        Ok((
+            CaseSyntax {
+                at,
+                guard,
+                sets,
+                put_at,
+                put,
+            },
+            put_at + 1,
+        ))
     }
 
     /// The cases that stand there, of which there is one at least.
@@ -326,11 +351,9 @@ impl<'a> Source<'a> {
         requires within { at ≤ length self.now.lexemes.now }
         ensures later { IfOk result (λ x. (at < x.1) × (x.1 ≤ length self.now.lexemes.now)) }
         ensures is { IfOk result (λ x. Cased self.now.text.now self.now.lexemes.now x.0 at x.1) }
-        ensures reads {
-            (below : List Symbol) →
+        ensures reads { (below : List Symbol) →
             Answers (go self.now.limits self.now.lexemes.now at 0 (case 0 ∷ below))
-                (λ x. go self.now.limits self.now.lexemes.now x.1 0 below) result
-        }
+            (λ x. go self.now.limits self.now.lexemes.now x.1 0 below) result }
     {
         let (first, mut next) = self.case(at, 0)?;
         let mut cases = Vec::new(self.alloc);
@@ -351,11 +374,9 @@ impl<'a> Source<'a> {
         requires begins { kind_at self.now.lexemes.now at ≡ code On }
         ensures later { IfOk result (λ x. (at < x.1) × (x.1 ≤ length self.now.lexemes.now)) }
         ensures is { IfOk result (λ x. IsHandler self.now.text.now self.now.lexemes.now at (handler_syntax_tree x.0) x.1) }
-        ensures reads {
-            (below : List Symbol) →
+        ensures reads { (below : List Symbol) →
             Answers (go self.now.limits self.now.lexemes.now at 0 (handlers ∷ below))
-                (λ x. go self.now.limits self.now.lexemes.now x.1 0 (handlers ∷ below)) result
-        }
+            (λ x. go self.now.limits self.now.lexemes.now x.1 0 (handlers ∷ below)) result }
     {
         let event = match self.event(at + 1) {
             Some(event) => event,
@@ -391,11 +412,9 @@ impl<'a> Source<'a> {
         requires within { at ≤ length self.now.lexemes.now }
         ensures later { IfOk result (λ x. (at ≤ x.1) × (x.1 ≤ length self.now.lexemes.now)) }
         ensures is { IfOk result (λ x. IsHandlers self.now.text.now self.now.lexemes.now at (map handler_syntax_tree x.0) x.1) }
-        ensures reads {
-            (below : List Symbol) →
+        ensures reads { (below : List Symbol) →
             Answers (go self.now.limits self.now.lexemes.now at 0 (handlers ∷ below))
-                (λ x. go self.now.limits self.now.lexemes.now x.1 0 below) result
-        }
+            (λ x. go self.now.limits self.now.lexemes.now x.1 0 below) result }
     {
         let mut handlers = Vec::new(self.alloc);
         let mut next = at;

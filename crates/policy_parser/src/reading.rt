@@ -9,14 +9,12 @@ ghost use Rattle.policy_grammar.specs.declared.limits.TheConstants.{POLICY_LIMIT
 ghost use Rattle.policy_parser.specs.Answers.{IsReadUnlessMemory};
 ghost use Rattle.policy_parser.specs.Lexemes.{lexemes_of};
 
-use std::alloc::Global;
-
+use crate::source::Source;
+use crate::words::lexemes;
 use policy_grammar::{POLICY_LIMITS, ParseFault};
 use policy_lexer::Token;
 use policy_tree::Syntax;
-
-use crate::source::Source;
-use crate::words::lexemes;
+use std::alloc::Global;
 
 /// The syntax of a text with these tokens, or its first fault.
 pub fn parse(alloc: Global, text: &[u8], tokens: &[Token]) -> Result<Syntax, ParseFault>
@@ -26,10 +24,8 @@ pub fn parse(alloc: Global, text: &[u8], tokens: &[Token]) -> Result<Syntax, Par
     ensures fault { IfErr result (IsParseFault POLICY_LIMITS text.now (lexemes_of text.now tokens.now)) }
 
     // A policy within the limits isn't refused.
-    ensures reads {
-        (syntax : SyntaxTree) → IsWithin POLICY_LIMITS text.now (lexemes_of text.now tokens.now) syntax →
-        IsReadUnlessMemory result
-    }
+    ensures reads { (syntax : SyntaxTree) → IsWithin POLICY_LIMITS text.now (lexemes_of text.now tokens.now) syntax →
+        IsReadUnlessMemory result }
 {
     let lexemes = lexemes(alloc, text, tokens)?;
     let source = Source {

@@ -6,11 +6,10 @@ ghost use Rattle.policy_grammar.specs.Machine.{Symbol, the, field, go};
 ghost use Rattle.policy_grammar.specs.declared.fault.ParseFault.TheVariants.{Memory, Unexpected};
 ghost use Rattle.policy_parser.specs.Answers.{Answers, LiesIn, IsWordFault};
 
-use std::alloc::Global;
-
 use lists::Items;
 use policy_grammar::{Lexeme, Limits, ParseFault, Terminal};
 use policy_tree::Name;
+use std::alloc::Global;
 
 /// The tokens of a text, with the limits of its language and the memory for its syntax.
 #[derive(Clone, Copy)]
@@ -55,11 +54,9 @@ impl<'a> Source<'a> {
         ensures is { IfOk result (λ next. kind_at self.now.lexemes.now at ≡ code terminal) }
         ensures fails { IfErr result (λ e. e ≡ Unexpected at) }
         ensures isnt { IfErr result (λ e. (kind_at self.now.lexemes.now at == code terminal) ≡ false) }
-        ensures reads {
-            (count : ℕ) (below : List Symbol) →
+        ensures reads { (count : ℕ) (below : List Symbol) →
             Answers (go self.now.limits self.now.lexemes.now at count (the terminal ∷ below))
-                (λ next. go self.now.limits self.now.lexemes.now next 0 below) result
-        }
+            (λ next. go self.now.limits self.now.lexemes.now next 0 below) result }
     {
         if self.has(at, terminal) {
             Ok(at + 1)

@@ -4,10 +4,9 @@ ghost use Rattle.std.specs.Prelude.{◌≡◌, ◌<◌, ◌^◌, List, map, leng
 ghost use Rattle.policy_parser.specs.Answers.{LiesIn};
 ghost use Rattle.policy_parser.specs.Lexemes.{lexeme_of, lexemes_of, reserved_words, symbol_terminal, terminal_among, word_terminal};
 
-use std::alloc::{AllocError, Global};
-
 use policy_grammar::{Lexeme, Terminal};
 use policy_lexer::{Symbol, Token, TokenKind};
+use std::alloc::{AllocError, Global};
 
 /// The reserved words, and what each is to the grammar.
 const RESERVED: [(&str, Terminal); 34] = [
@@ -48,7 +47,11 @@ const RESERVED: [(&str, Terminal); 34] = [
 ];
 
 /// The tokens of the text, told apart.
-pub(crate) fn lexemes(alloc: Global, text: &[u8], tokens: &[Token]) -> Result<Vec<Lexeme>, AllocError>
+pub(crate) fn lexemes(
+    alloc: Global,
+    text: &[u8],
+    tokens: &[Token],
+) -> Result<Vec<Lexeme>, AllocError>
     requires lie { All (LiesIn text.now) (lexemes_of text.now tokens.now) }
     requires few { length tokens.now < 2 ^ 32 }
     ensures are { IfOk result (λ v. v.items ≡ lexemes_of text.now tokens.now) }
@@ -68,11 +71,19 @@ fn lexeme(text: &[u8], token: Token) -> Lexeme
     ensures { result ≡ lexeme_of text.now token }
 {
     let (terminal, value) = match token.kind {
-        TokenKind::Word => (word_terminal(&text[token.start as usize..token.end as usize]), 0),
+        TokenKind::Word => (
+            word_terminal(&text[token.start as usize..token.end as usize]),
+            0,
+        ),
         TokenKind::Number(value) => (Terminal::Number, value),
         TokenKind::Symbol(symbol) => (symbol_terminal(symbol), 0),
     };
-    Lexeme { terminal, start: token.start, end: token.end, value }
+    Lexeme {
+        terminal,
+        start: token.start,
+        end: token.end,
+        value,
+    }
 }
 
 /// What the word is to the grammar.

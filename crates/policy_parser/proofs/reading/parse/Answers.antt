@@ -25,14 +25,14 @@ invariant_of-source c =
 pub returns-clause-syntax : goal.returns-clause-syntax
 returns-clause-syntax c =
     within-exact POLICY_LIMITS c.args.text.now _ (lexemes_of c.args.text.now c.args.tokens.now) (c.as_slice.ensures.value ∙ c.in_ok-lexemes.ensures.are) c.policy.result
-        c.policy.ensures.is c.policy.ensures.reads
+    c.policy.ensures.is c.policy.ensures.reads
 
 pub returns-clause-fault : goal.returns-clause-fault
 returns-clause-fault c =
     faults-exact POLICY_LIMITS c.args.text.now _ (lexemes_of c.args.text.now c.args.tokens.now) (c.as_slice.ensures.value ∙ c.in_ok-lexemes.ensures.are) c.policy.result
-        c.policy.ensures.reads
+    c.policy.ensures.reads
 
 pub returns-clause-reads : goal.returns-clause-reads
 returns-clause-reads c =
     reads-exact POLICY_LIMITS c.args.text.now _ (lexemes_of c.args.text.now c.args.tokens.now) (c.as_slice.ensures.value ∙ c.in_ok-lexemes.ensures.are) c.policy.result
-        c.policy.ensures.reads
+    c.policy.ensures.reads

@@ -8,4 +8,4 @@ use Rattle.policy_grammar.proofs.terminal.Terminal.is.Goals as goal
 pub returns : goal.returns
 returns c =
     ap (λ n. nat_eq n (tag_of the_type c.args.other)) (tag-is c.args.self)
-        ∙ ap (nat_eq (code c.args.self)) (tag-is c.args.other)
+    ∙ ap (nat_eq (code c.args.self)) (tag-is c.args.other)

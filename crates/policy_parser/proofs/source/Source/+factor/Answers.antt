@@ -28,9 +28,9 @@ pub returns-in_err-inner-clause-reads : goal.returns-in_err-inner-clause-reads
 returns-in_err-inner-clause-reads t c = λ count below.
     let p = err_from_is_err_and c.from_residual-in_err-inner.result c.from_residual-in_err-inner.ensures.1 in
     rw (p.1, p.2)
-        (passes _
-            (sign-goes _ _ c.args.at count c.args.base c.args.depth c.args.before below (yes c.has.ensures.is c.if-not-has.false) c.if-before-self.false c.if-depth-self.false)
-            (c.in_err-inner.ensures.reads count below))
+    (passes _
+    (sign-goes _ _ c.args.at count c.args.base c.args.depth c.args.before below (yes c.has.ensures.is c.if-not-has.false) c.if-before-self.false c.if-depth-self.false)
+    (c.in_err-inner.ensures.reads count below))
 
 pub returns-clause-is : goal.returns-clause-is
 returns-clause-is t c = signed_of c.in_ok-inner.inner (yes c.has.ensures.is c.if-not-has.false) c.in_ok-inner.ensures.is refl
@@ -38,4 +38,4 @@ returns-clause-is t c = signed_of c.in_ok-inner.inner (yes c.has.ensures.is c.if
 pub returns-clause-reads : goal.returns-clause-reads
 returns-clause-reads t c = λ count below.
     sign-goes _ _ c.args.at count c.args.base c.args.depth c.args.before below (yes c.has.ensures.is c.if-not-has.false) c.if-before-self.false c.if-depth-self.false
-        ∙ c.in_ok-inner.ensures.reads count below
+    ∙ c.in_ok-inner.ensures.reads count below

@@ -18,7 +18,7 @@ condition-returns-then-not-has-clause-is t c = condition_of (condition_tree c.in
 pub condition-returns-then-not-has-clause-reads : goal.condition-returns-then-not-has-clause-reads
 condition-returns-then-not-has-clause-reads t c = λ below.
     c.in_ok-first.ensures.reads (ors c.args.depth ∷ below)
-        ∙ ors-over _ _ c.in_ok-first.next c.in_ok-first.counted c.args.depth below (isnt c.has.ensures.is c.if-not-has.true)
+    ∙ ors-over _ _ c.in_ok-first.next c.in_ok-first.counted c.args.depth below (isnt c.has.ensures.is c.if-not-has.true)
 
 pub condition-ors-init : goal.condition-ors-init
 condition-ors-init t c = record {
@@ -33,8 +33,8 @@ pub condition-returns-in_err-part-clause-reads : goal.condition-returns-in_err-p
 condition-returns-in_err-part-clause-reads t c = λ below.
     let p = err_from_is_err_and c.from_residual-in_err-part.result c.from_residual-in_err-part.ensures.1 in
     rw (p.1, p.2)
-        (passes _ (c.ors.invariant.reads below ∙ ors-goes _ _ c.ors.next c.ors.counted c.args.depth below c.ors.invariant.or)
-            (c.in_err-part.ensures.reads (ors c.args.depth ∷ below)))
+    (passes _ (c.ors.invariant.reads below ∙ ors-goes _ _ c.ors.next c.ors.counted c.args.depth below c.ors.invariant.or)
+    (c.in_err-part.ensures.reads (ors c.args.depth ∷ below)))
 
 pub condition-returns-then-not-has-2-clause-is : goal.condition-returns-then-not-has-2-clause-is
 condition-returns-then-not-has-2-clause-is t c =
@@ -43,9 +43,9 @@ condition-returns-then-not-has-2-clause-is t c =
 pub condition-returns-then-not-has-2-clause-reads : goal.condition-returns-then-not-has-2-clause-reads
 condition-returns-then-not-has-2-clause-reads t c = λ below.
     c.ors.invariant.reads below
-        ∙ ors-goes _ _ c.ors.next c.ors.counted c.args.depth below c.ors.invariant.or
-        ∙ c.in_ok-part.ensures.reads (ors c.args.depth ∷ below)
-        ∙ ors-over _ _ c.in_ok-part.after c.in_ok-part.more c.args.depth below (isnt c.has-in-ors.ensures.is c.if-not-has-2.true)
+    ∙ ors-goes _ _ c.ors.next c.ors.counted c.args.depth below c.ors.invariant.or
+    ∙ c.in_ok-part.ensures.reads (ors c.args.depth ∷ below)
+    ∙ ors-over _ _ c.in_ok-part.after c.in_ok-part.more c.args.depth below (isnt c.has-in-ors.ensures.is c.if-not-has-2.true)
 
 pub condition-ors-preserved : goal.condition-ors-preserved
 condition-ors-preserved t c = record {
@@ -55,8 +55,8 @@ condition-ors-preserved t c = record {
   are = ored-snoc c.in_ok-part.part c.ors.invariant.are c.ors.invariant.or c.in_ok-part.ensures.is c.in_ok-push-2.ensures.items;
   reads = λ below.
       c.ors.invariant.reads below
-          ∙ ors-goes _ _ c.ors.next c.ors.counted c.args.depth below c.ors.invariant.or
-          ∙ c.in_ok-part.ensures.reads (ors c.args.depth ∷ below);
+      ∙ ors-goes _ _ c.ors.next c.ors.counted c.args.depth below c.ors.invariant.or
+      ∙ c.in_ok-part.ensures.reads (ors c.args.depth ∷ below);
 }
 
 pub conjunction-returns-in_err-first-clause-reads : goal.conjunction-returns-in_err-first-clause-reads
@@ -70,7 +70,7 @@ conjunction-returns-then-not-has-clause-is t c = conjunction_of (condition_tree 
 pub conjunction-returns-then-not-has-clause-reads : goal.conjunction-returns-then-not-has-clause-reads
 conjunction-returns-then-not-has-clause-reads t c = λ below.
     c.in_ok-first.ensures.reads (ands c.args.depth ∷ below)
-        ∙ ands-over _ _ c.in_ok-first.next c.in_ok-first.counted c.args.depth below (isnt c.has.ensures.is c.if-not-has.true)
+    ∙ ands-over _ _ c.in_ok-first.next c.in_ok-first.counted c.args.depth below (isnt c.has.ensures.is c.if-not-has.true)
 
 pub conjunction-ands-init : goal.conjunction-ands-init
 conjunction-ands-init t c = record {
@@ -85,8 +85,8 @@ pub conjunction-returns-in_err-part-clause-reads : goal.conjunction-returns-in_e
 conjunction-returns-in_err-part-clause-reads t c = λ below.
     let p = err_from_is_err_and c.from_residual-in_err-part.result c.from_residual-in_err-part.ensures.1 in
     rw (p.1, p.2)
-        (passes _ (c.ands.invariant.reads below ∙ ands-goes _ _ c.ands.next c.ands.counted c.args.depth below c.ands.invariant.and)
-            (c.in_err-part.ensures.reads (ands c.args.depth ∷ below)))
+    (passes _ (c.ands.invariant.reads below ∙ ands-goes _ _ c.ands.next c.ands.counted c.args.depth below c.ands.invariant.and)
+    (c.in_err-part.ensures.reads (ands c.args.depth ∷ below)))
 
 pub conjunction-returns-then-not-has-2-clause-is : goal.conjunction-returns-then-not-has-2-clause-is
 conjunction-returns-then-not-has-2-clause-is t c =
@@ -95,9 +95,9 @@ conjunction-returns-then-not-has-2-clause-is t c =
 pub conjunction-returns-then-not-has-2-clause-reads : goal.conjunction-returns-then-not-has-2-clause-reads
 conjunction-returns-then-not-has-2-clause-reads t c = λ below.
     c.ands.invariant.reads below
-        ∙ ands-goes _ _ c.ands.next c.ands.counted c.args.depth below c.ands.invariant.and
-        ∙ c.in_ok-part.ensures.reads (ands c.args.depth ∷ below)
-        ∙ ands-over _ _ c.in_ok-part.after c.in_ok-part.more c.args.depth below (isnt c.has-in-ands.ensures.is c.if-not-has-2.true)
+    ∙ ands-goes _ _ c.ands.next c.ands.counted c.args.depth below c.ands.invariant.and
+    ∙ c.in_ok-part.ensures.reads (ands c.args.depth ∷ below)
+    ∙ ands-over _ _ c.in_ok-part.after c.in_ok-part.more c.args.depth below (isnt c.has-in-ands.ensures.is c.if-not-has-2.true)
 
 pub conjunction-ands-preserved : goal.conjunction-ands-preserved
 conjunction-ands-preserved t c = record {
@@ -107,8 +107,8 @@ conjunction-ands-preserved t c = record {
   are = anded-snoc c.in_ok-part.part c.ands.invariant.are c.ands.invariant.and c.in_ok-part.ensures.is c.in_ok-push-2.ensures.items;
   reads = λ below.
       c.ands.invariant.reads below
-          ∙ ands-goes _ _ c.ands.next c.ands.counted c.args.depth below c.ands.invariant.and
-          ∙ c.in_ok-part.ensures.reads (ands c.args.depth ∷ below);
+      ∙ ands-goes _ _ c.ands.next c.ands.counted c.args.depth below c.ands.invariant.and
+      ∙ c.in_ok-part.ensures.reads (ands c.args.depth ∷ below);
 }
 
 pub unit-returns-then-has-clause-is : goal.unit-returns-then-has-clause-is
@@ -120,9 +120,9 @@ unit-returns-then-has-clause-reads t c = λ below. always-goes _ _ c.args.at c.a
 pub unit-returns-else-has-3-clause-reads : goal.unit-returns-else-has-3-clause-reads
 unit-returns-else-has-3-clause-reads t c = λ below.
     answers-as _ c.comparison.result
-        (test-begins _ _ c.args.at c.args.count c.args.depth below (isnt c.has.ensures.is c.if-has.false)
-            (isnt c.has-else-has.ensures.is c.if-has-2.false) (isnt c.has-else-has-2.ensures.is c.if-has-3.false))
-        (c.comparison.ensures.reads below)
+    (test-begins _ _ c.args.at c.args.count c.args.depth below (isnt c.has.ensures.is c.if-has.false)
+    (isnt c.has-else-has.ensures.is c.if-has-2.false) (isnt c.has-else-has-2.ensures.is c.if-has-3.false))
+    (c.comparison.ensures.reads below)
 
 pub negation-returns-then-depth-self-clause-reads : goal.negation-returns-then-depth-self-clause-reads
 negation-returns-then-depth-self-clause-reads t c = λ below. not-deep _ _ c.args.at c.args.count c.args.depth below c.requires.begins c.if-depth-self.true
@@ -131,7 +131,7 @@ pub negation-returns-in_err-inner-clause-reads : goal.negation-returns-in_err-in
 negation-returns-in_err-inner-clause-reads t c = λ below.
     let p = err_from_is_err_and c.from_residual.result c.from_residual.ensures.1 in
     rw (p.1, p.2)
-        (passes _ (not-goes _ _ c.args.at c.args.count c.args.depth below c.requires.begins c.if-depth-self.false) (c.in_err-inner.ensures.reads below))
+    (passes _ (not-goes _ _ c.args.at c.args.count c.args.depth below c.requires.begins c.if-depth-self.false) (c.in_err-inner.ensures.reads below))
 
 pub negation-returns-clause-is : goal.negation-returns-clause-is
 negation-returns-clause-is t c = rw c.in_ok-whole.ensures (unit_not c.requires.begins c.in_ok-inner.ensures.is)
@@ -147,26 +147,26 @@ pub group-returns-in_err-inner-clause-reads : goal.group-returns-in_err-inner-cl
 group-returns-in_err-inner-clause-reads t c = λ below.
     let p = err_from_is_err_and c.from_residual.result c.from_residual.ensures.1 in
     rw (p.1, p.2)
-        (passes _ (open-goes _ _ c.args.at c.args.count c.args.depth below c.requires.begins c.if-depth-self.false) (c.in_err-inner.ensures.reads (close ∷ below)))
+    (passes _ (open-goes _ _ c.args.at c.args.count c.args.depth below c.requires.begins c.if-depth-self.false) (c.in_err-inner.ensures.reads (close ∷ below)))
 
 pub group-returns-in_err-next-clause-reads : goal.group-returns-in_err-next-clause-reads
 group-returns-in_err-next-clause-reads t c = λ below.
     let p = err_from_is_err_and c.from_residual-in_err-next.result c.from_residual-in_err-next.ensures.1 in
     rw (p.1, p.2)
-        (fails-at _ c.in_err-next.ensures.fails
-            (open-goes _ _ c.args.at c.args.count c.args.depth below c.requires.begins c.if-depth-self.false
-                ∙ c.in_ok-inner.ensures.reads (close ∷ below)
-                ∙ close-none _ _ c.in_ok-inner.end c.in_ok-inner.counted below c.in_err-next.ensures.isnt))
+    (fails-at _ c.in_err-next.ensures.fails
+    (open-goes _ _ c.args.at c.args.count c.args.depth below c.requires.begins c.if-depth-self.false
+    ∙ c.in_ok-inner.ensures.reads (close ∷ below)
+    ∙ close-none _ _ c.in_ok-inner.end c.in_ok-inner.counted below c.in_err-next.ensures.isnt))
 
 pub group-returns-clause-is : goal.group-returns-clause-is
 group-returns-clause-is t c =
     rw c.in_ok-whole.ensures
-        (subst (λ n. IsUnit c.args.self.now.text.now c.args.self.now.lexemes.now c.args.at (grouped c.args.at (condition_tree c.in_ok-inner.inner)) n)
-            (sym c.in_ok-next.ensures.next.0) (unit_group c.requires.begins c.in_ok-inner.ensures.is c.in_ok-next.ensures.is))
+    (subst (λ n. IsUnit c.args.self.now.text.now c.args.self.now.lexemes.now c.args.at (grouped c.args.at (condition_tree c.in_ok-inner.inner)) n)
+    (sym c.in_ok-next.ensures.next.0) (unit_group c.requires.begins c.in_ok-inner.ensures.is c.in_ok-next.ensures.is))
 
 pub group-returns-clause-reads : goal.group-returns-clause-reads
 group-returns-clause-reads t c = λ below.
     open-goes _ _ c.args.at c.args.count c.args.depth below c.requires.begins c.if-depth-self.false
-        ∙ c.in_ok-inner.ensures.reads (close ∷ below)
-        ∙ close-goes _ _ c.in_ok-inner.end c.in_ok-inner.counted below c.in_ok-next.ensures.is
-        ∙ go-from _ _ c.in_ok-inner.counted below (sym c.in_ok-next.ensures.next.0)
+    ∙ c.in_ok-inner.ensures.reads (close ∷ below)
+    ∙ close-goes _ _ c.in_ok-inner.end c.in_ok-inner.counted below c.in_ok-next.ensures.is
+    ∙ go-from _ _ c.in_ok-inner.counted below (sym c.in_ok-next.ensures.next.0)

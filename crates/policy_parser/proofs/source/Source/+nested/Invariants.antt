@@ -28,7 +28,7 @@ invariant-condition-ors l = record {
   are : Ored l.self.text.now l.self.lexemes.now l.parts.items l.at l.next;
   reads : (below : List Symbol) →
       go l.self.limits l.self.lexemes.now l.at l.count (unit l.depth ∷ ands l.depth ∷ ors l.depth ∷ below)
-          ≡ go l.self.limits l.self.lexemes.now l.next l.counted (ors l.depth ∷ below);
+      ≡ go l.self.limits l.self.lexemes.now l.next l.counted (ors l.depth ∷ below);
 }
 
 abbrev pub decreases-condition-ors : goal.decreases-condition-ors
@@ -42,7 +42,7 @@ invariant-conjunction-ands l = record {
   are : Anded l.self.text.now l.self.lexemes.now l.parts.items l.at l.next;
   reads : (below : List Symbol) →
       go l.self.limits l.self.lexemes.now l.at l.count (unit l.depth ∷ ands l.depth ∷ below)
-          ≡ go l.self.limits l.self.lexemes.now l.next l.counted (ands l.depth ∷ below);
+      ≡ go l.self.limits l.self.lexemes.now l.next l.counted (ands l.depth ∷ below);
 }
 
 abbrev pub decreases-conjunction-ands : goal.decreases-conjunction-ands

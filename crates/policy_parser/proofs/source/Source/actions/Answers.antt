@@ -25,9 +25,9 @@ pub returns-in_err-set-clause-reads : goal.returns-in_err-set-clause-reads
 returns-in_err-set-clause-reads c = λ below.
     let p = err_from_is_err_and c.from_residual.result c.from_residual.ensures.1 in
     rw (p.1, p.2)
-        (passes _
-            (c.sets.invariant.reads below ∙ set-goes _ _ c.sets.next c.sets.count below (yes c.has.ensures.is c.sets-test.true) (omega (arith, c.if-count-self.false)))
-            (c.in_err-set.ensures.reads (actions (c.sets.count + 1) ∷ below)))
+    (passes _
+    (c.sets.invariant.reads below ∙ set-goes _ _ c.sets.next c.sets.count below (yes c.has.ensures.is c.sets-test.true) (omega (arith, c.if-count-self.false)))
+    (c.in_err-set.ensures.reads (actions (c.sets.count + 1) ∷ below)))
 
 pub sets-preserved : goal.sets-preserved
 sets-preserved c = record {
@@ -39,8 +39,8 @@ sets-preserved c = record {
       (sets-snoc c.sets.invariant.are (c.in_ok-set.ensures.is (yes c.has.ensures.is c.sets-test.true)));
   reads = λ below.
       c.sets.invariant.reads below
-          ∙ set-goes _ _ c.sets.next c.sets.count below (yes c.has.ensures.is c.sets-test.true) (omega (arith, c.if-count-self.false))
-          ∙ c.in_ok-set.ensures.reads (actions (c.sets.count + 1) ∷ below);
+      ∙ set-goes _ _ c.sets.next c.sets.count below (yes c.has.ensures.is c.sets-test.true) (omega (arith, c.if-count-self.false))
+      ∙ c.in_ok-set.ensures.reads (actions (c.sets.count + 1) ∷ below);
 }
 
 pub returns-in-Some-clause-reads : goal.returns-in-Some-clause-reads

@@ -38,5 +38,5 @@ returns-clause-reads c = λ below.
 pub returns-clause-is : goal.returns-clause-is
 returns-clause-is c =
     attr-parts c.args.of_cores c.requires.begins c.in_ok-name.ensures.is c.in_ok-name.ensures.word c.in_ok-name.ensures.next.0
-        c.in_ok-range_at.ensures.is c.in_ok-range_at.ensures.next.0 c.in_ok-range.ensures.is c.in_ok-number_at.ensures.is
-        c.in_ok-number_at.ensures.next.0 c.in_ok-start.ensures.is
+    c.in_ok-range_at.ensures.is c.in_ok-range_at.ensures.next.0 c.in_ok-range.ensures.is c.in_ok-number_at.ensures.is
+    c.in_ok-number_at.ensures.next.0 c.in_ok-start.ensures.is

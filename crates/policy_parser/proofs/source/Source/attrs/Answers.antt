@@ -27,16 +27,16 @@ returns-in-None-clause-reads c = λ below.
 pub returns-then-count-self-clause-reads : goal.returns-then-count-self-clause-reads
 returns-then-count-self-clause-reads c = λ below.
     c.attrs.invariant.reads below
-        ∙ attr-many _ _ c.attrs.next c.attrs.cores c.attrs.threads _ below c.in-Some.of_cores c.in-Some.ensures.some c.count_of_kind-count.ensures c.if-count-self.true
+    ∙ attr-many _ _ c.attrs.next c.attrs.cores c.attrs.threads _ below c.in-Some.of_cores c.in-Some.ensures.some c.count_of_kind-count.ensures c.if-count-self.true
 
 pub returns-in_err-attr-clause-reads : goal.returns-in_err-attr-clause-reads
 returns-in_err-attr-clause-reads c = λ below.
     let p = err_from_is_err_and c.from_residual.result c.from_residual.ensures.1 in
     rw (p.1, p.2)
-        (passes _
-            (c.attrs.invariant.reads below
-                ∙ attr-goes _ _ c.attrs.next c.attrs.cores c.attrs.threads _ below c.in-Some.of_cores c.in-Some.ensures.some c.count_of_kind-count.ensures (omega (arith, c.if-count-self.false)))
-            (c.in_err-attr.ensures.reads (attrs (of_cores_more c.in-Some.of_cores c.attrs.cores) (of_threads_more c.in-Some.of_cores c.attrs.threads) ∷ below)))
+    (passes _
+    (c.attrs.invariant.reads below
+    ∙ attr-goes _ _ c.attrs.next c.attrs.cores c.attrs.threads _ below c.in-Some.of_cores c.in-Some.ensures.some c.count_of_kind-count.ensures (omega (arith, c.if-count-self.false)))
+    (c.in_err-attr.ensures.reads (attrs (of_cores_more c.in-Some.of_cores c.attrs.cores) (of_threads_more c.in-Some.of_cores c.attrs.threads) ∷ below)))
 
 pub attrs-preserved : goal.attrs-preserved
 attrs-preserved c = record {
@@ -48,8 +48,8 @@ attrs-preserved c = record {
   are = subst (λ x. IsAttrs c.args.self.now.text.now c.args.self.now.lexemes.now c.args.at x c.in_ok-attr.after) (sym c.in_ok-push.ensures.items) (attrs-snoc c.attrs.invariant.are c.in_ok-attr.ensures.is);
   reads = λ below.
       c.attrs.invariant.reads below
-          ∙ attr-goes _ _ c.attrs.next c.attrs.cores c.attrs.threads _ below c.in-Some.of_cores c.in-Some.ensures.some c.count_of_kind-count.ensures (omega (arith, c.if-count-self.false))
-          ∙ c.in_ok-attr.ensures.reads (attrs (of_cores_more c.in-Some.of_cores c.attrs.cores) (of_threads_more c.in-Some.of_cores c.attrs.threads) ∷ below)
-          ∙ ap (λ x. go c.args.self.now.limits c.args.self.now.lexemes.now c.in_ok-attr.after 0 (attrs x (of_threads_more c.in-Some.of_cores c.attrs.threads) ∷ below)) (sym (cores-more c.in-Some.of_cores c.one_more-cores.ensures.yes c.one_more-cores.ensures.nay))
-          ∙ ap (λ x. go c.args.self.now.limits c.args.self.now.lexemes.now c.in_ok-attr.after 0 (attrs c.one_more-cores.result x ∷ below)) (sym (threads-more c.in-Some.of_cores c.one_more-threads.ensures.yes c.one_more-threads.ensures.nay));
+      ∙ attr-goes _ _ c.attrs.next c.attrs.cores c.attrs.threads _ below c.in-Some.of_cores c.in-Some.ensures.some c.count_of_kind-count.ensures (omega (arith, c.if-count-self.false))
+      ∙ c.in_ok-attr.ensures.reads (attrs (of_cores_more c.in-Some.of_cores c.attrs.cores) (of_threads_more c.in-Some.of_cores c.attrs.threads) ∷ below)
+      ∙ ap (λ x. go c.args.self.now.limits c.args.self.now.lexemes.now c.in_ok-attr.after 0 (attrs x (of_threads_more c.in-Some.of_cores c.attrs.threads) ∷ below)) (sym (cores-more c.in-Some.of_cores c.one_more-cores.ensures.yes c.one_more-cores.ensures.nay))
+      ∙ ap (λ x. go c.args.self.now.limits c.args.self.now.lexemes.now c.in_ok-attr.after 0 (attrs c.one_more-cores.result x ∷ below)) (sym (threads-more c.in-Some.of_cores c.one_more-threads.ensures.yes c.one_more-threads.ensures.nay));
 }

@@ -24,8 +24,8 @@ pub returns-in_err-case-clause-reads : goal.returns-in_err-case-clause-reads
 returns-in_err-case-clause-reads c = λ below.
     let p = err_from_is_err_and c.from_residual-in_err-case.result c.from_residual-in_err-case.ensures.1 in
     rw (p.1, p.2)
-        (passes _ (c.cases.invariant.reads below ∙ cases-case _ _ c.cases.next c.cases.count below (yes c.has.ensures.is c.cases-test.true))
-            (c.in_err-case.ensures.reads below))
+    (passes _ (c.cases.invariant.reads below ∙ cases-case _ _ c.cases.next c.cases.count below (yes c.has.ensures.is c.cases-test.true))
+    (c.in_err-case.ensures.reads below))
 
 pub cases-preserved : goal.cases-preserved
 cases-preserved c = record {
@@ -36,8 +36,8 @@ cases-preserved c = record {
   are = cased-snoc c.in_ok-case.case c.cases.invariant.are c.in_ok-case.ensures.is c.in_ok-push-2.ensures.items;
   reads = λ below.
       c.cases.invariant.reads below
-          ∙ cases-case _ _ c.cases.next c.cases.count below (yes c.has.ensures.is c.cases-test.true)
-          ∙ c.in_ok-case.ensures.reads below;
+      ∙ cases-case _ _ c.cases.next c.cases.count below (yes c.has.ensures.is c.cases-test.true)
+      ∙ c.in_ok-case.ensures.reads below;
 }
 
 pub returns-clause-reads : goal.returns-clause-reads

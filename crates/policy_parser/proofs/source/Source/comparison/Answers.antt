@@ -13,21 +13,21 @@ returns-in_err-left-clause-reads c = λ below.
 pub returns-in-None-clause-reads : goal.returns-in-None-clause-reads
 returns-in-None-clause-reads c = λ below.
     c.in_ok-left.ensures.reads c.args.count (compare c.args.depth ∷ below)
-        ∙ compare-none _ _ c.in_ok-left.sign_at c.args.count c.args.depth below c.in-None.ensures.none
+    ∙ compare-none _ _ c.in_ok-left.sign_at c.args.count c.args.depth below c.in-None.ensures.none
 
 pub returns-then-count-self-clause-reads : goal.returns-then-count-self-clause-reads
 returns-then-count-self-clause-reads c = λ below.
     c.in_ok-left.ensures.reads c.args.count (compare c.args.depth ∷ below)
-        ∙ compare-many _ _ c.in_ok-left.sign_at c.args.self.now.text.now c.args.count c.args.depth below c.in-Some.compare c.in-Some.ensures.some c.if-count-self.true
+    ∙ compare-many _ _ c.in_ok-left.sign_at c.args.self.now.text.now c.args.count c.args.depth below c.in-Some.compare c.in-Some.ensures.some c.if-count-self.true
 
 pub returns-in_err-right-clause-reads : goal.returns-in_err-right-clause-reads
 returns-in_err-right-clause-reads c = λ below.
     let p = err_from_is_err_and c.from_residual-in_err-right.result c.from_residual-in_err-right.ensures.1 in
     rw (p.1, p.2)
-        (passes _
-            (c.in_ok-left.ensures.reads c.args.count (compare c.args.depth ∷ below)
-                ∙ compare-goes _ _ c.in_ok-left.sign_at c.args.self.now.text.now c.args.count c.args.depth below c.in-Some.compare c.in-Some.ensures.some c.if-count-self.false)
-            (c.in_err-right.ensures.reads (c.args.count + 1) below))
+    (passes _
+    (c.in_ok-left.ensures.reads c.args.count (compare c.args.depth ∷ below)
+    ∙ compare-goes _ _ c.in_ok-left.sign_at c.args.self.now.text.now c.args.count c.args.depth below c.in-Some.compare c.in-Some.ensures.some c.if-count-self.false)
+    (c.in_err-right.ensures.reads (c.args.count + 1) below))
 
 pub returns-clause-is : goal.returns-clause-is
 returns-clause-is c = unit_test c.in-Some.compare c.in_ok-left.ensures.is c.in-Some.ensures.some c.in_ok-right.ensures.is
@@ -35,5 +35,5 @@ returns-clause-is c = unit_test c.in-Some.compare c.in_ok-left.ensures.is c.in-S
 pub returns-clause-reads : goal.returns-clause-reads
 returns-clause-reads c = λ below.
     c.in_ok-left.ensures.reads c.args.count (compare c.args.depth ∷ below)
-        ∙ compare-goes _ _ c.in_ok-left.sign_at c.args.self.now.text.now c.args.count c.args.depth below c.in-Some.compare c.in-Some.ensures.some c.if-count-self.false
-        ∙ c.in_ok-right.ensures.reads (c.args.count + 1) below
+    ∙ compare-goes _ _ c.in_ok-left.sign_at c.args.self.now.text.now c.args.count c.args.depth below c.in-Some.compare c.in-Some.ensures.some c.if-count-self.false
+    ∙ c.in_ok-right.ensures.reads (c.args.count + 1) below

@@ -9,7 +9,7 @@ use Rattle.policy_parser.proofs.source.Source.expect.Goals as goal
 pub returns-then-has-clause-reads : goal.returns-then-has-clause-reads
 returns-then-has-clause-reads c = λ count below.
     the-read _ c.args.self.now.text.now _ c.args.at count below c.args.terminal (yes c.has.ensures.is c.if-has.true) c.requires.real
-        (eq-eqb (code c.args.terminal) (code c.args.terminal) refl)
+    (eq-eqb (code c.args.terminal) (code c.args.terminal) refl)
 
 pub returns-else-has-clause-reads : goal.returns-else-has-clause-reads
 returns-else-has-clause-reads c = λ count below.

@@ -29,27 +29,29 @@ returns-in-None-clause-is c = rw c.from_vec.ensures (expr_of c.in_ok-first.ensur
 
 pub returns-in-None-clause-over : goal.returns-in-None-clause-over
 returns-in-None-clause-over c = record {
-  star = c.sums.invariant.star; plus = c.in-None.ensures.plus; minus = c.in-None.ensures.minus;
+  star = c.sums.invariant.star;
+  plus = c.in-None.ensures.plus;
+  minus = c.in-None.ensures.minus;
 }
 
 pub returns-in-None-clause-reads : goal.returns-in-None-clause-reads
 returns-in-None-clause-reads c = λ count below.
     c.sums.invariant.reads count below
-        ∙ operators-over _ _ c.sums.next count c.args.depth c.sums.counted below c.sums.invariant.star c.in-None.ensures.plus c.in-None.ensures.minus
+    ∙ operators-over _ _ c.sums.next count c.args.depth c.sums.counted below c.sums.invariant.star c.in-None.ensures.plus c.in-None.ensures.minus
 
 pub returns-then-counted-self-clause-reads : goal.returns-then-counted-self-clause-reads
 returns-then-counted-self-clause-reads c = λ count below.
     c.sums.invariant.reads count below
-        ∙ added-many _ _ c.sums.next count c.args.depth c.sums.counted below c.in-Some.minus c.in-Some.ensures.some c.if-counted-self.true
+    ∙ added-many _ _ c.sums.next count c.args.depth c.sums.counted below c.in-Some.minus c.in-Some.ensures.some c.if-counted-self.true
 
 pub returns-in_err-term-clause-reads : goal.returns-in_err-term-clause-reads
 returns-in_err-term-clause-reads c = λ count below.
     let p = err_from_is_err_and c.from_residual-in_err-term.result c.from_residual-in_err-term.ensures.1 in
     rw (p.1, p.2)
-        (passes _
-            (c.sums.invariant.reads count below
-                ∙ added-goes _ _ c.sums.next count c.args.depth c.sums.counted below c.in-Some.minus c.in-Some.ensures.some c.if-counted-self.false)
-            (c.in_err-term.ensures.reads count below))
+    (passes _
+    (c.sums.invariant.reads count below
+    ∙ added-goes _ _ c.sums.next count c.args.depth c.sums.counted below c.in-Some.minus c.in-Some.ensures.some c.if-counted-self.false)
+    (c.in_err-term.ensures.reads count below))
 
 pub sums-preserved : goal.sums-preserved
 sums-preserved c = record {
@@ -63,6 +65,6 @@ sums-preserved c = record {
       (added-snoc c.in-Some.minus c.sums.invariant.is c.in-Some.ensures.some c.in_ok-term.ensures.is);
   reads = λ count below.
       c.sums.invariant.reads count below
-          ∙ added-goes _ _ c.sums.next count c.args.depth c.sums.counted below c.in-Some.minus c.in-Some.ensures.some c.if-counted-self.false
-          ∙ c.in_ok-term.ensures.reads count below;
+      ∙ added-goes _ _ c.sums.next count c.args.depth c.sums.counted below c.in-Some.minus c.in-Some.ensures.some c.if-counted-self.false
+      ∙ c.in_ok-term.ensures.reads count below;
 }

@@ -15,7 +15,7 @@ invariant-sums l = record {
   is : IsAdded l.self.text.now l.self.lexemes.now l.initial.next l.rest.items l.next;
   reads : (count : ℕ) (below : List Symbol) →
       go l.self.limits l.self.lexemes.now l.at count (operand l.depth l.depth 0 ∷ below)
-          ≡ go l.self.limits l.self.lexemes.now l.next count (operators l.depth l.counted ∷ below);
+      ≡ go l.self.limits l.self.lexemes.now l.next count (operators l.depth l.counted ∷ below);
 }
 
 abbrev pub decreases-sums : goal.decreases-sums

@@ -16,8 +16,8 @@ pub returns-in_err-value-clause-reads : goal.returns-in_err-value-clause-reads
 returns-in_err-value-clause-reads c = λ below.
     let p = err_from_is_err_and c.from_residual.result c.from_residual.ensures.1 in
     rw (p.1, p.2)
-        (passes _ (key-goes _ _ c.args.at c.args.before below c.in-Some.greatest c.in-Some.ensures.some c.if-before-self.false)
-            (c.in_err-value.ensures.reads 0 (keys (c.args.before + 1) ∷ below)))
+    (passes _ (key-goes _ _ c.args.at c.args.before below c.in-Some.greatest c.in-Some.ensures.some c.if-before-self.false)
+    (c.in_err-value.ensures.reads 0 (keys (c.args.before + 1) ∷ below)))
 
 pub returns-clause-is : goal.returns-clause-is
 returns-clause-is c = key_of c.in-Some.greatest c.in-Some.ensures.some c.in_ok-value.ensures.is
@@ -25,4 +25,4 @@ returns-clause-is c = key_of c.in-Some.greatest c.in-Some.ensures.some c.in_ok-v
 pub returns-clause-reads : goal.returns-clause-reads
 returns-clause-reads c = λ below.
     key-goes _ _ c.args.at c.args.before below c.in-Some.greatest c.in-Some.ensures.some c.if-before-self.false
-        ∙ c.in_ok-value.ensures.reads 0 (keys (c.args.before + 1) ∷ below)
+    ∙ c.in_ok-value.ensures.reads 0 (keys (c.args.before + 1) ∷ below)

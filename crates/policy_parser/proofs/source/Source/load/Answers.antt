@@ -20,14 +20,14 @@ returns-then-has-clause-reads c = λ below.
 pub returns-then-not-has-clause-reads : goal.returns-then-not-has-clause-reads
 returns-then-not-has-clause-reads c = λ below.
     c.in_ok-rule.ensures.reads 0 (load_rule ∷ below)
-        ∙ load-none _ _ c.in_ok-rule.rule below (isnt c.has.ensures.is c.if-has.false) (isnt c.has-2.ensures.is c.if-not-has.true)
+    ∙ load-none _ _ c.in_ok-rule.rule below (isnt c.has.ensures.is c.if-has.false) (isnt c.has-2.ensures.is c.if-not-has.true)
 
 pub returns-in_err-range-clause-reads : goal.returns-in_err-range-clause-reads
 returns-in_err-range-clause-reads c = λ below.
     let p = err_from_is_err_and c.from_residual-in_err-range.result c.from_residual-in_err-range.ensures.1 in
     rw (p.1, p.2)
-        (passes _ (c.in_ok-rule.ensures.reads 0 (load_rule ∷ below) ∙ weight-goes _ _ c.in_ok-rule.rule below (yes c.has-2.ensures.is c.if-not-has.false))
-            (c.in_err-range.ensures.reads below))
+    (passes _ (c.in_ok-rule.ensures.reads 0 (load_rule ∷ below) ∙ weight-goes _ _ c.in_ok-rule.rule below (yes c.has-2.ensures.is c.if-not-has.false))
+    (c.in_err-range.ensures.reads below))
 
 pub returns-clause-is : goal.returns-clause-is
 returns-clause-is c = weight-load c.in_ok-rule.ensures.is c.in_ok-rule.ensures.next.0 (yes c.has-2.ensures.is c.if-not-has.false) c.in_ok-range.ensures.is
@@ -35,4 +35,4 @@ returns-clause-is c = weight-load c.in_ok-rule.ensures.is c.in_ok-rule.ensures.n
 pub returns-clause-reads : goal.returns-clause-reads
 returns-clause-reads c = λ below.
     c.in_ok-rule.ensures.reads 0 (load_rule ∷ below) ∙ weight-goes _ _ c.in_ok-rule.rule below (yes c.has-2.ensures.is c.if-not-has.false)
-        ∙ c.in_ok-range.ensures.reads below
+    ∙ c.in_ok-range.ensures.reads below

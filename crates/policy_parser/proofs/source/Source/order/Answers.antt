@@ -10,7 +10,7 @@ use Rattle.policy_parser.proofs.source.Source.order.Goals as goal
 pub returns-then-has-clause-is : goal.returns-then-has-clause-is
 returns-then-has-clause-is c =
     subst (λ (ks : List KeySyntax). IsOrder c.args.self.now.text.now c.args.self.now.lexemes.now c.args.at (record { at = c.args.at; keys = ks }) (c.args.at + 1))
-        (sym (c.from_vec.ensures ∙ c.new.ensures.items)) (order_first (yes c.has.ensures.is c.if-has.true))
+    (sym (c.from_vec.ensures ∙ c.new.ensures.items)) (order_first (yes c.has.ensures.is c.if-has.true))
 
 pub returns-then-has-clause-reads : goal.returns-then-has-clause-reads
 returns-then-has-clause-reads c = λ below. order-first _ _ c.args.at below (yes c.has.ensures.is c.if-has.true)
@@ -34,8 +34,8 @@ pub returns-in_err-key-clause-reads : goal.returns-in_err-key-clause-reads
 returns-in_err-key-clause-reads c = λ below.
     let p = err_from_is_err_and c.from_residual-in_err-key.result c.from_residual-in_err-key.ensures.1 in
     rw (p.1, p.2)
-        (passes _ (c.keys.invariant.reads below ∙ keys-goes _ _ c.keys.next c.keys.count below (yes c.has-in-keys.ensures.is c.keys-test.true))
-            (c.in_err-key.ensures.reads below))
+    (passes _ (c.keys.invariant.reads below ∙ keys-goes _ _ c.keys.next c.keys.count below (yes c.has-in-keys.ensures.is c.keys-test.true))
+    (c.in_err-key.ensures.reads below))
 
 pub keys-preserved : goal.keys-preserved
 keys-preserved c = record {
@@ -46,8 +46,8 @@ keys-preserved c = record {
   are = keyed-snoc c.keys.invariant.are (yes c.has-in-keys.ensures.is c.keys-test.true) c.in_ok-key.ensures.is c.in_ok-push-2.ensures.items;
   reads = λ below.
       c.keys.invariant.reads below
-          ∙ keys-goes _ _ c.keys.next c.keys.count below (yes c.has-in-keys.ensures.is c.keys-test.true)
-          ∙ c.in_ok-key.ensures.reads below;
+      ∙ keys-goes _ _ c.keys.next c.keys.count below (yes c.has-in-keys.ensures.is c.keys-test.true)
+      ∙ c.in_ok-key.ensures.reads below;
 }
 
 pub returns-clause-is : goal.returns-clause-is

@@ -24,8 +24,8 @@ pub returns-in_err-value-clause-reads : goal.returns-in_err-value-clause-reads
 returns-in_err-value-clause-reads c = λ below.
     let p = err_from_is_err_and c.from_residual.result c.from_residual.ensures.1 in
     rw (p.1, p.2)
-        (passes _ (least-goes _ _ c.args.at below (yes c.has.ensures.is c.if-not-has.false) (yes c.has-3.ensures.is c.if-not-has-2.false))
-            (c.in_err-value.ensures.reads 0 below))
+    (passes _ (least-goes _ _ c.args.at below (yes c.has.ensures.is c.if-not-has.false) (yes c.has-3.ensures.is c.if-not-has-2.false))
+    (c.in_err-value.ensures.reads 0 below))
 
 pub returns-clause-is : goal.returns-clause-is
 returns-clause-is c = place_least (yes c.has.ensures.is c.if-not-has.false) (yes c.has-3.ensures.is c.if-not-has-2.false) c.in_ok-value.ensures.is
@@ -33,4 +33,4 @@ returns-clause-is c = place_least (yes c.has.ensures.is c.if-not-has.false) (yes
 pub returns-clause-reads : goal.returns-clause-reads
 returns-clause-reads c = λ below.
     least-goes _ _ c.args.at below (yes c.has.ensures.is c.if-not-has.false) (yes c.has-3.ensures.is c.if-not-has-2.false)
-        ∙ c.in_ok-value.ensures.reads 0 below
+    ∙ c.in_ok-value.ensures.reads 0 below

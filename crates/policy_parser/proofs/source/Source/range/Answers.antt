@@ -20,12 +20,12 @@ pub returns-in_err-high-clause-reads : goal.returns-in_err-high-clause-reads
 returns-in_err-high-clause-reads c = λ below.
     let p = err_from_is_err_and c.from_residual-in_err-high.result c.from_residual-in_err-high.ensures.1 in
     rw (p.1, p.2)
-        (passes _ (c.in_ok-low.ensures.reads (the Range ∷ int ∷ below) ∙ c.in_ok-high_at.ensures.reads 0 (int ∷ below)) (c.in_err-high.ensures.reads below))
+    (passes _ (c.in_ok-low.ensures.reads (the Range ∷ int ∷ below) ∙ c.in_ok-high_at.ensures.reads 0 (int ∷ below)) (c.in_err-high.ensures.reads below))
 
 pub returns-clause-is : goal.returns-clause-is
 returns-clause-is c =
     range_of c.in_ok-low.ensures.is c.in_ok-high_at.ensures.is
-        (subst (λ n. IsInt c.args.self.now.lexemes.now n c.in_ok-high.high c.in_ok-high.next) c.in_ok-high_at.ensures.next.0 c.in_ok-high.ensures.is)
+    (subst (λ n. IsInt c.args.self.now.lexemes.now n c.in_ok-high.high c.in_ok-high.next) c.in_ok-high_at.ensures.next.0 c.in_ok-high.ensures.is)
 
 pub returns-clause-reads : goal.returns-clause-reads
 returns-clause-reads c = λ below.

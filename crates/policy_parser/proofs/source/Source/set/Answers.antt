@@ -37,4 +37,4 @@ returns-clause-reads c = λ below. c.in_ok-word_at.ensures.reads 0 (field ∷ th
 pub returns-clause-is : goal.returns-clause-is
 returns-clause-is c = λ task.
     set-parts task c.in_ok-word_at.ensures.is c.in_ok-word_at.ensures.next.0 c.in_ok-word.ensures.is c.in_ok-word.ensures.word c.in_ok-word.ensures.next.0
-        c.in_ok-value_at.ensures.is c.in_ok-value_at.ensures.next.0 c.in_ok-value.ensures.is c.in_ok-next.ensures.is c.in_ok-next.ensures.next.0
+    c.in_ok-value_at.ensures.is c.in_ok-value_at.ensures.next.0 c.in_ok-value.ensures.is c.in_ok-next.ensures.is c.in_ok-next.ensures.next.0

@@ -26,16 +26,16 @@ stars-init c = record {
 pub returns-then-counted-self-clause-reads : goal.returns-then-counted-self-clause-reads
 returns-then-counted-self-clause-reads c = λ count below.
     c.stars.invariant.reads count below
-        ∙ star-many _ _ c.stars.next count c.args.depth c.stars.counted below (yes c.has.ensures.is c.stars-test.true) c.if-counted-self.true
+    ∙ star-many _ _ c.stars.next count c.args.depth c.stars.counted below (yes c.has.ensures.is c.stars-test.true) c.if-counted-self.true
 
 pub returns-in_err-factor-clause-reads : goal.returns-in_err-factor-clause-reads
 returns-in_err-factor-clause-reads c = λ count below.
     let p = err_from_is_err_and c.from_residual-in_err-factor.result c.from_residual-in_err-factor.ensures.1 in
     rw (p.1, p.2)
-        (passes _
-            (c.stars.invariant.reads count below
-                ∙ star-goes _ _ c.stars.next count c.args.depth c.stars.counted below (yes c.has.ensures.is c.stars-test.true) c.if-counted-self.false)
-            (c.in_err-factor.ensures.reads count below))
+    (passes _
+    (c.stars.invariant.reads count below
+    ∙ star-goes _ _ c.stars.next count c.args.depth c.stars.counted below (yes c.has.ensures.is c.stars-test.true) c.if-counted-self.false)
+    (c.in_err-factor.ensures.reads count below))
 
 pub stars-preserved : goal.stars-preserved
 stars-preserved c = record {
@@ -48,8 +48,8 @@ stars-preserved c = record {
       (times-snoc c.stars.invariant.is (yes c.has.ensures.is c.stars-test.true) c.in_ok-factor.ensures.is);
   reads = λ count below.
       c.stars.invariant.reads count below
-          ∙ star-goes _ _ c.stars.next count c.args.depth c.stars.counted below (yes c.has.ensures.is c.stars-test.true) c.if-counted-self.false
-          ∙ c.in_ok-factor.ensures.reads count below;
+      ∙ star-goes _ _ c.stars.next count c.args.depth c.stars.counted below (yes c.has.ensures.is c.stars-test.true) c.if-counted-self.false
+      ∙ c.in_ok-factor.ensures.reads count below;
 }
 
 pub returns-clause-is : goal.returns-clause-is

@@ -12,7 +12,7 @@ invariant-stars l = record {
   is : IsTimes l.self.text.now l.self.lexemes.now l.initial.next l.rest.items l.next;
   reads : (count : ℕ) (below : List Symbol) →
       go l.self.limits l.self.lexemes.now l.at count (operand l.depth l.depth l.before ∷ below)
-          ≡ go l.self.limits l.self.lexemes.now l.next count (operators l.depth l.counted ∷ below);
+      ≡ go l.self.limits l.self.lexemes.now l.next count (operators l.depth l.counted ∷ below);
 }
 
 abbrev pub decreases-stars : goal.decreases-stars
