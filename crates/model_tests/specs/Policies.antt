@@ -4,6 +4,8 @@ use Rattle.policy_tree.specs.declared.trees.Cmp.TheVariants as cmp
 use Rattle.policy_tree.specs.declared.typed.Load.TheVariants as load
 use Rattle.policy_tree.specs.declared.typed.Put.{Put}
 use Rattle.policy_tree.specs.declared.typed.Put.TheVariants as put
+use Rattle.policy_eval.specs.declared.env.CoreValues.{CoreValues}
+use Rattle.policy_eval.specs.Sights.{no_attributes}
 use Rattle.policy_tree.specs.Trees.{ExprTree, number, variable, plus, minus, CondTree, always, both, either, test}
 use Rattle.policy_tree.specs.Meaning.{CaseTree, HandlerTrees, KeyTree, Meaning, SetTree, here, least}
 
@@ -38,6 +40,10 @@ basic = record {
   choose = [];
   steal = [];
 }
+
+-- what is seen of a core with so many threads of weight 1, and without attributes
+abbrev pub seen_count : ℕ → CoreValues
+seen_count nr = record { nr = nr; load = nr; consts = no_attributes }
 
 -- a key that prefers the lesser value, and one that prefers the greater
 abbrev pub lesser : ExprTree → List KeyTree

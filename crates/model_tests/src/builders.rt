@@ -4,7 +4,8 @@ ghost use Rattle.std.specs.Prelude.{◌≡◌, ◌<◌, ◌≤◌, [], All, IfOk
 ghost use Rattle.policy_tree.specs.Meaning.{case_tree, meaning_of};
 ghost use Rattle.policy_tree.specs.Trees.{cond_tree};
 ghost use Rattle.policy_eval.specs.Fitting.{CoreFits};
-ghost use Rattle.model_tests.specs.Policies.{basic, gap_of, whenever};
+ghost use Rattle.round_model.specs.Choices.{choice_of, values_in};
+ghost use Rattle.model_tests.specs.Policies.{basic, gap_of, seen_count, whenever};
 
 use policy_eval::CoreValues;
 use policy_tree::{
@@ -75,7 +76,8 @@ fn gap(alloc: Global, least: u32) -> Result<Cond, AllocError>
 /// What is seen of a core with so many threads of weight 1, and without attributes.
 pub fn counted(nr: u32) -> CoreValues
     requires { nr ≤ MAX_THREADS }
-    ensures { CoreFits basic result }
+    ensures fits { CoreFits basic result }
+    ensures seen { result ≡ seen_count nr }
 {
     CoreValues {
         nr,
@@ -89,6 +91,7 @@ pub fn basic_choice(policy: &Policy, counts: [u32; 3], own: CoreId) -> Option<Co
     requires policy { meaning_of policy.now ≡ basic }
     requires counts { All (λ nr. nr ≤ MAX_THREADS) counts }
     requires own { own < 3 }
+    ensures { result ≡ choice_of basic 3 (values_in (map seen_count counts)) own }
 {
     let values = [counted(counts[0]), counted(counts[1]), counted(counts[2])];
     choice(policy, &values, own)
