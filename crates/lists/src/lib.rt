@@ -1,9 +1,11 @@
 //! The list type of the product: a vector whose contracts speak of its items alone.
 #![tactic(auto)]
 
-ghost use Rattle.std.specs.Prelude.{◌≡◌, ◌↔◌, ◌^◌, ◌<◌, IsTrue, List, [], Some, length, slice_get, slice_index_or, vec_len};
+ghost use Rattle.std.specs.Prelude.{◌≡◌, ◌↔◌, ◌^◌, ◌+◌, ◌<◌, IsTrue, List, [], ◌∷◌, ◌++◌, OnErr, OnOk, Some, length, remove, slice_get, slice_index_or, slice_set, take, vec_len};
 
+use std::alloc::AllocError;
 use std::marker::Model;
+use std::mem;
 
 /// Items in order, fewer than `2^32`, so that a `u32` names each of them.
 ///
@@ -68,5 +70,46 @@ impl<T> Items<T> {
         ensures len { length result.now < 2 ^ 32 }
     {
         self.items.as_slice()
+    }
+
+    /// The item at the end, one more. Without memory for it the list stays as it was.
+    pub fn push(&mut self, item: T) -> Result<(), AllocError>
+    where
+        T: Drop,
+        requires { length self.old + 1 < 2 ^ 32 }
+        ensures ok { OnOk result (self.new ≡ self.old ++ item ∷ []) }
+        ensures err { OnErr result (self.new ≡ self.old) }
+    {
+        match self.items.push(item) {
+            Ok(()) => Ok(()),
+            Err(failed) => Err(failed.into()),
+        }
+    }
+
+    /// Puts the item in that place, and gives the one that stood there.
+    pub fn replace(&mut self, at: u32, item: T) -> T
+        requires { at < length self.old }
+        ensures was { slice_get self.old at ≡ Some result }
+        ensures is { self.new ≡ slice_set self.old at item }
+    {
+        mem::replace(&mut self.items[at as usize], item)
+    }
+
+    /// Takes the item of that place out; the later ones move up.
+    pub fn remove(&mut self, at: u32) -> T
+        requires { at < length self.old }
+        ensures was { slice_get self.old at ≡ Some result }
+        ensures rest { self.new ≡ remove self.old at }
+    {
+        self.items.remove(at as usize)
+    }
+
+    /// Keeps the first so many items.
+    pub fn truncate(&mut self, count: u32)
+    where
+        T: Drop,
+        ensures { self.new ≡ take count self.old }
+    {
+        self.items.truncate(count as usize);
     }
 }

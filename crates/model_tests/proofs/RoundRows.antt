@@ -6,7 +6,8 @@ use Rattle.policy_eval.specs.Sights.{core_values, event_values, pair_values, thr
 use Rattle.round_model.specs.After.{after, after_from, effect}
 use Rattle.round_model.specs.Attempts.{attempt_of}
 use Rattle.round_model.specs.Choices.{candidates_of, choice_of, target_of}
-use Rattle.round_model.specs.Cores.{CountAndLoad, opening_state, thread_count}
+use Rattle.round_model.specs.declared.state.CountAndLoad.{CountAndLoad}
+use Rattle.round_model.specs.Cores.{opening_state, thread_count}
 use Rattle.round_model.specs.Entries.{acts, touches}
 use Rattle.round_model.specs.Legal.{is_complete, is_due}
 use Rattle.round_model.specs.Moves.{core_after_event, handed, received, released}

@@ -5,6 +5,7 @@ pub mod Evaluable
 pub mod Filling
 pub mod Forms
 pub mod Handling
+pub mod Kept
 pub mod Operations
 pub mod Products
 pub mod Statements

@@ -1,8 +1,13 @@
+pub mod Beginnings
 pub mod Constants
+pub mod Directories
+pub mod Elections
 pub mod Entering
 pub mod Finding
 pub mod Grows
-pub mod Opening
+pub mod Openings
+pub mod Pasts
 pub mod Spreads
 pub mod Stillness
+pub mod Units
 pub mod Walks

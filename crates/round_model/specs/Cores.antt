@@ -4,6 +4,7 @@ use Rattle.std.specs.List.{range_with_len}
 use Rattle.sched_base.specs.declared.task.Task.{Task}
 use Rattle.policy_eval.specs.Sights.{no_attributes}
 use Rattle.round_model.specs.declared.plan.Plan.{Plan}
+use Rattle.round_model.specs.declared.state.CountAndLoad.{CountAndLoad}
 use Rattle.round_model.specs.declared.state.ModelCore.{ModelCore}
 
 -- the cores by their numbers. What stands past the last core of a plan is of no account
@@ -39,9 +40,5 @@ abbrev pub load_of : ModelCore → ℕ
 load_of core = sum_by (λ (t : Task). t.weight) (tasks_of core)
 
 -- thread count and load of a core, which is all that changes of what others see of it
-pub record CountAndLoad : Type 0 where
-  pub nr : ℕ
-  pub load : ℕ
-
 abbrev pub seen_of : ModelCore → CountAndLoad
 seen_of core = record { nr = thread_count core; load = load_of core }

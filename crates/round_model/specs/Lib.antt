@@ -11,9 +11,11 @@ pub mod FreshReads
 pub mod Kinds
 pub mod Laws
 pub mod Legal
+pub mod Lists
 pub mod Moves
 pub mod OnePlace
 pub mod Owed
+pub mod Past
 pub mod Phases
 pub mod Programs
 pub mod Reads
@@ -24,4 +26,5 @@ pub mod Serial
 pub mod Spread
 pub mod StillRounds
 pub mod Stretches
+pub mod Units
 pub mod Work

@@ -4,8 +4,9 @@ use Rattle.policy_tree.specs.Meaning.{Meaning}
 use Rattle.policy_eval.specs.declared.env.CoreValues.{CoreValues}
 use Rattle.round_model.specs.declared.entry.Entry.{Entry}
 use Rattle.round_model.specs.declared.plan.Plan.{Plan}
+use Rattle.round_model.specs.declared.state.CountAndLoad.{CountAndLoad}
 use Rattle.round_model.specs.After.{after}
-use Rattle.round_model.specs.Cores.{CountAndLoad, consts_of, seen_of}
+use Rattle.round_model.specs.Cores.{consts_of, seen_of}
 use Rattle.round_model.specs.Kinds.{is_round}
 
 -- the position just after the last Round of these entries, the first of which stands at k

@@ -7,8 +7,9 @@ use Rattle.round_model.specs.declared.plan.Plan.{Plan}
 use Rattle.round_model.specs.declared.plan.Planned.{Planned}
 use Rattle.round_model.specs.declared.state.Blocked.{Blocked}
 use Rattle.round_model.specs.declared.state.ModelCore.{ModelCore}
+use Rattle.round_model.specs.declared.state.CountAndLoad.{CountAndLoad}
 use Rattle.round_model.specs.After.{after, round_of}
-use Rattle.round_model.specs.Cores.{Cores, CountAndLoad}
+use Rattle.round_model.specs.Cores.{Cores}
 use Rattle.round_model.specs.Entries.{acts, lets_in}
 use Rattle.round_model.specs.Kinds.{is_attempt, is_work}
 use Rattle.round_model.specs.Reads.{round_start, value_read}

@@ -9,7 +9,7 @@ use sched_base::{CoreId, Reads, ThreadId};
 pub type History = Items<Entry>;
 
 /// What became of the current thread in a unit of work.
-#[derive(Clone, Copy)]
+#[derive(Clone, Copy, PartialEq, Eq)]
 pub enum Did {
     /// There was none.
     Nothing,

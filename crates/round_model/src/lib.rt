@@ -2,18 +2,25 @@
 #![tactic(auto)]
 
 pub mod choices;
+mod directory;
+mod election;
 pub mod entry;
 pub mod laws;
 pub mod measures;
+pub mod memory;
 pub mod moves;
+pub mod past;
 pub mod plan;
 pub mod state;
+mod unit;
 pub mod windows;
 
 pub use crate::choices::{choice, target};
 pub use crate::entry::{Did, Entry, History};
 pub use crate::measures::spread_of;
+pub use crate::memory::ModelMemory;
 pub use crate::moves::steal;
+pub use crate::past::{Past, opening, round_due};
 pub use crate::plan::{
     Burst, BurstList, ConstList, CoreList, Ending, OrderLine, OrderList, Plan, Planned, PlannedList,
 };

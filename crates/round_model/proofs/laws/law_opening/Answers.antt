@@ -1,4 +1,4 @@
-use Rattle.round_model.proofs.Opening.{opening_bounds}
+use Rattle.round_model.proofs.Openings.{opening_bounds}
 use Rattle.round_model.proofs.laws.law_opening.Goals as goal
 
 pub returns : goal.returns

@@ -1,0 +1,253 @@
+//! One unit of work of a core.
+
+ghost use Rattle.std.specs.Prelude.{◌≡◌, ◌<◌, ◌≤◌, IfSome, MatchOption, OnErr, OnOk, length, option_to_list};
+ghost use Rattle.policy_tree.specs.Meaning.{meaning_of};
+ghost use Rattle.policy_eval.specs.Fitting.{IsTask};
+ghost use Rattle.policy_eval.specs.Obligations.{MeetsHandlerObligations};
+ghost use Rattle.policy_eval.specs.Ranges.{AreIn, attribute_ranges};
+ghost use Rattle.policy_eval.specs.Resolved.{IsResolved};
+ghost use Rattle.round_model.specs.Bounds.{CoreInBounds};
+ghost use Rattle.round_model.specs.Fits.{Fits};
+ghost use Rattle.round_model.specs.Lists.{Lists};
+ghost use Rattle.round_model.specs.Programs.{is_endless as has_no_end, is_last_unit as is_last, meeting_of as meeting_at, place_after as next_place};
+ghost use Rattle.round_model.specs.Units.{IsIdleCore, IsMeeting, IsMet, IsSmallCore, IsUnit, Runs, Stands, core_after_unit, dids_of_unit, with_listed, without};
+
+use crate::directory::{Directory, next_burst_of};
+use crate::election::best_place;
+use crate::entry::Did;
+use crate::memory::ModelMemory;
+use crate::plan::{Burst, Ending, Plan};
+use crate::state::{Blocked, ModelCore};
+use policy_eval::apply_case;
+use policy_tree::{Event, Policy, Put};
+use sched_base::{MAX_BURSTS, MAX_ROUNDS, Place, Task, ThreadId};
+
+/// What a unit of work comes to. `elected` is the place in the queue of the task that ran, `None` where it was the
+/// current one.
+#[derive(Clone, Copy)]
+pub(crate) enum Unit {
+    /// There was no task to run.
+    Idle,
+    /// The task that was to run has no burst in the plan.
+    Stuck,
+    /// The task ran, met an event and was put somewhere.
+    Met {
+        elected: Option<u32>,
+        task: Task,
+        put: Put,
+        wake: u32,
+    },
+    /// The task ended.
+    Over {
+        elected: Option<u32>,
+        id: ThreadId,
+    },
+}
+
+/// What a task meets after a unit.
+#[derive(Clone, Copy)]
+enum Meeting {
+    /// Its burst goes on.
+    Tick,
+    /// Its burst is over, and it yields.
+    Yield,
+    /// Its burst is over, and it blocks for so many rounds.
+    Block(u32),
+    /// It ends.
+    End,
+}
+
+impl Unit {
+    /// What an entry says of the unit, where it may say something.
+    pub(crate) fn did(self) -> Option<Did>
+        ensures { option_to_list result ≡ dids_of_unit self }
+    {
+        match self {
+            Unit::Idle => Some(Did::Nothing),
+            Unit::Stuck => None,
+            Unit::Met { task, put, .. } => Some(match put {
+                Put::Queue => Did::Queued(task.id),
+                Put::Keep => Did::Kept(task.id),
+                Put::Block => Did::Blocked(task.id),
+            }),
+            Unit::Over { id, .. } => Some(Did::Ended(id)),
+        }
+    }
+
+    /// Changes the core as the unit does. Without memory for that the core stays as it was.
+    pub(crate) fn run(self, core: &mut ModelCore) -> Result<(), ModelMemory>
+        requires there { Stands core.old self }
+        requires room { IsSmallCore core.old }
+        ensures ok { OnOk result (core.new ≡ core_after_unit core.old self) }
+        ensures err { OnErr result (core.new ≡ core.old) }
+    {
+        match self {
+            Unit::Idle | Unit::Stuck => {}
+            Unit::Met {
+                elected,
+                task,
+                put,
+                wake,
+            } => {
+                grow(core, task, put, wake)?;
+                leave(core, elected);
+                if let Put::Keep = put {
+                    core.current = Some(task);
+                }
+            }
+            Unit::Over { elected, .. } => leave(core, elected),
+        }
+        Ok(())
+    }
+}
+
+/// The task at the end of the list that it is put to, where it is put to one.
+fn grow(core: &mut ModelCore, task: Task, put: Put, wake: u32) -> Result<(), ModelMemory>
+    requires { IsSmallCore core.old }
+    ensures ok { OnOk result (core.new ≡ with_listed put wake task core.old) }
+    ensures err { OnErr result (core.new ≡ core.old) }
+{
+    match put {
+        Put::Queue => core.queue.push(task)?,
+        Put::Keep => {}
+        Put::Block => core.blocked.push(Blocked { task, wake })?,
+    }
+    Ok(())
+}
+
+/// Takes the task that ran out of the core.
+fn leave(core: &mut ModelCore, elected: Option<u32>)
+    requires { IfSome elected (λ at. at < length core.old.queue) }
+    ensures { core.new ≡ without elected core.old }
+{
+    match elected {
+        Some(at) => {
+            let _task = core.queue.remove(at);
+        }
+        None => {}
+    }
+    core.current = None;
+}
+
+/// What a unit of the core comes to, in that round.
+pub(crate) fn unit_of(
+    policy: &Policy,
+    plan: &Plan,
+    directory: &Directory,
+    core: &ModelCore,
+    round: u32,
+) -> Unit
+    requires fits { Fits (meaning_of policy.now) plan.now }
+    requires handlers { MeetsHandlerObligations (meaning_of policy.now) }
+    requires listed { Lists plan.now directory.now }
+    requires bounds { CoreInBounds (meaning_of policy.now) core.now }
+    requires round { round ≤ MAX_ROUNDS }
+    ensures { IsUnit (meaning_of policy.now) plan.now round core.now result }
+{
+    let Some((elected, task)) = running(policy, core) else {
+        return Unit::Idle;
+    };
+    let Some(burst) = next_burst_of(directory, plan, &task) else {
+        return Unit::Stuck;
+    };
+    let mut ran = task;
+    ran.place = place_after(burst, task.place);
+    match meeting_of(burst, task.place) {
+        Meeting::Tick => met(policy, core, elected, ran, Event::Tick, 0),
+        Meeting::Yield => met(policy, core, elected, ran, Event::Yield, 0),
+        Meeting::Block(rounds) => met(policy, core, elected, ran, Event::Block, round + rounds),
+        Meeting::End => Unit::Over {
+            elected,
+            id: ran.id,
+        },
+    }
+}
+
+/// The task that runs the next unit, with its place in the queue where it has to be elected.
+fn running(policy: &Policy, core: &ModelCore) -> Option<(Option<u32>, Task)>
+    requires policy { IsResolved (meaning_of policy.now) }
+    requires bounds { CoreInBounds (meaning_of policy.now) core.now }
+    ensures { MatchOption result (IsIdleCore core.now) (λ x. Runs (meaning_of policy.now) core.now x.0 x.1) }
+{
+    if let Some(task) = core.current {
+        return Some((None, task));
+    }
+    let at = best_place(&policy.elect, core.queue.as_slice())?;
+    Some((Some(at), *core.queue.get(at)))
+}
+
+/// The unit of a task that meets the event and may wake in that round.
+fn met(
+    policy: &Policy,
+    core: &ModelCore,
+    elected: Option<u32>,
+    ran: Task,
+    event: Event,
+    wake: u32,
+) -> Unit
+    requires policy { IsResolved (meaning_of policy.now) }
+    requires handlers { MeetsHandlerObligations (meaning_of policy.now) }
+    requires consts { AreIn (attribute_ranges policy.now.core_attrs) core.now.consts }
+    requires task { IsTask (meaning_of policy.now) ran }
+    ensures { IsMet (meaning_of policy.now) core.now elected ran event wake result }
+{
+    let (task, put) = apply_case(policy, event, false, ran, &core.consts);
+    Unit::Met {
+        elected,
+        task,
+        put,
+        wake,
+    }
+}
+
+/// What the task meets after its next unit.
+fn meeting_of(burst: Burst, place: Place) -> Meeting
+    requires { 1 ≤ burst.units }
+    ensures { IsMeeting (meeting_at burst place) result }
+{
+    if !is_last_unit(burst, place) {
+        return Meeting::Tick;
+    }
+    match burst.ending {
+        Ending::Yield => Meeting::Yield,
+        Ending::Block(rounds) => Meeting::Block(rounds),
+        Ending::End => Meeting::End,
+        Ending::Forever => Meeting::Tick,
+    }
+}
+
+/// Where the task stands after its next unit.
+fn place_after(burst: Burst, place: Place) -> Place
+    requires units { 1 ≤ burst.units }
+    requires bursts { place.burst < MAX_BURSTS }
+    ensures { result ≡ next_place burst place }
+{
+    if is_endless(burst) {
+        return place;
+    }
+    if is_last_unit(burst, place) {
+        return Place {
+            burst: place.burst + 1,
+            done: 0,
+        };
+    }
+    Place {
+        burst: place.burst,
+        done: place.done + 1,
+    }
+}
+
+/// Whether the next unit is the last of the burst.
+fn is_last_unit(burst: Burst, place: Place) -> bool
+    requires { 1 ≤ burst.units }
+    ensures { result ≡ is_last burst place }
+{
+    !is_endless(burst) && burst.units - 1 <= place.done
+}
+
+/// Whether the burst has no last unit.
+fn is_endless(burst: Burst) -> bool
+    ensures { result ≡ has_no_end burst.ending }
+{
+    matches!(burst.ending, Ending::Forever)
+}
