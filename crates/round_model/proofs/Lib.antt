@@ -4,10 +4,14 @@ pub mod Directories
 pub mod Elections
 pub mod Entering
 pub mod Finding
+pub mod Sightings
 pub mod Grows
+pub mod Judging
 pub mod Openings
+pub mod Outcomes
 pub mod Pasts
 pub mod Spreads
+pub mod States
 pub mod Stillness
 pub mod Units
 pub mod Walks

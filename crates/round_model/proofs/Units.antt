@@ -1,5 +1,5 @@
 -- What a unit of work comes to, step by step.
-use Rattle.std.proofs.Common.{◌≡◌, ℕ, zero, suc, ◌<◌, ◌≤◌, Bool, true, false, cond, List, [], ◌∷◌, ℤ, Option, Some, None, IfSome, fold, map, length, slice_get, option_and_then, refl, sym, ap, ap₂, ◌∙◌, subst, arith}
+use Rattle.std.proofs.Common.{◌≡◌, ℕ, zero, suc, ◌<◌, ◌≤◌, Bool, true, false, cond, List, [], ◌∷◌, ℤ, Option, Some, None, IfSome, All, ◌++◌, option_to_list, fold, map, length, slice_get, option_and_then, refl, sym, ap, ap₂, ◌∙◌, subst, arith}
 use Rattle.std.proofs.lemmas.Option.{slice_get_within}
 use Rattle.sched_base.specs.declared.limits.TheConstants.{MAX_BLOCK_ROUNDS, MAX_BURSTS}
 use Rattle.sched_base.specs.declared.task.Place.{Place}
@@ -8,6 +8,7 @@ use Rattle.policy_tree.specs.declared.typed.Event.{Event}
 use Rattle.policy_tree.specs.declared.typed.Put.{Put}
 use Rattle.policy_tree.specs.Meaning.{Meaning}
 use Rattle.policy_eval.specs.Events.{outcomes_of}
+use Rattle.policy_eval.specs.Fitting.{IsTask}
 use Rattle.policy_eval.specs.Orders.{best_and_rest}
 use Rattle.round_model.specs.declared.entry.Did.{Did}
 use Rattle.round_model.specs.declared.plan.Burst.{Burst}
@@ -18,10 +19,11 @@ use Rattle.round_model.specs.declared.plan.Planned.{Planned}
 use Rattle.round_model.specs.declared.state.ModelCore.{ModelCore}
 use Rattle.round_model.specs.declared.unit.Unit.{Unit as WorkUnit}
 use Rattle.round_model.specs.declared.unit.Unit.TheVariants as unit
+use Rattle.round_model.specs.Cores.{tasks_of}
 use Rattle.round_model.specs.Fits.{Fits, IsLast, IsMiddle, IsProgram, ThreadFits}
 use Rattle.round_model.specs.Moves.{core_after_event, with_outcome}
 use Rattle.round_model.specs.Programs.{blocking, burst_of, ending_now, is_last_unit, meeting_at_end, meeting_of, place_after, planned_of, tick}
-use Rattle.round_model.specs.Units.{InQueue, IsIdleCore, IsMet, IsUnit, Runs, left_by, without}
+use Rattle.round_model.specs.Units.{InQueue, IsIdleCore, IsMet, IsUnit, Runs, dids_of_unit, left_by, without}
 use Rattle.round_model.specs.Work.{Worked, after_meeting, after_unit, before, did_of, elected, elected_over, met, run_over, with_current, worked}
 use Rattle.round_model.proofs.Directories.{is_thread}
 use Rattle.round_model.proofs.Finding.{find-All}
@@ -134,3 +136,19 @@ blocking_ends b at rounds is = at_last (is_last_unit b at) is
     at_last : (last : Bool) → cond last (meeting_at_end b.ending) tick ≡ blocking rounds → b.ending ≡ ending.Block rounds
     at_last true e = ends_blocking b.ending rounds e
     at_last false e = absurd (cc)
+
+-- what holds of all tasks of a core holds of the queued ones
+pub queued_tasks : (p : Meaning) (core : ModelCore) → All (IsTask p) (tasks_of core) → All (IsTask p) core.queue
+queued_tasks p core each = behind core.current each
+  where
+    behind : (current : Option Task) → All (IsTask p) (option_to_list current ++ core.queue) → All (IsTask p) core.queue
+    behind None all = all
+    behind (Some t) all = λ k d inside. all (suc k) d (omega arith)
+
+-- what may be said of a unit
+pub unit_dids : (p : Meaning) (plan : Plan) (round : ℕ) (core : ModelCore) (u : WorkUnit) → IsUnit p plan round core u
+    → (worked p plan round core).dids ≡ dids_of_unit u
+unit_dids p plan round core unit.Idle is = ap (λ (w : Worked). w.dids) is
+unit_dids p plan round core unit.Stuck is = is
+unit_dids p plan round core (unit.Met place t put wake) is = ap (λ (w : Worked). w.dids) is.0
+unit_dids p plan round core (unit.Over place id) is = ap (λ (w : Worked). w.dids) is.0

@@ -14,10 +14,12 @@ pub mod Legal
 pub mod Lists
 pub mod Moves
 pub mod OnePlace
+pub mod Outcomes
 pub mod Owed
 pub mod Past
 pub mod Phases
 pub mod Programs
+pub mod Progress
 pub mod Reads
 pub mod Rounds
 pub mod Rows

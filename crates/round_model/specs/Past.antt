@@ -79,3 +79,7 @@ pub record IsPastOf (p : Meaning) (plan : Plan) (past : Past) : Type 0 where
   pub rounds : past.rounds ≤ plan.rounds
   pub lists : Lists plan past.directory
   pub ended : length past.ended ≡ MAX_THREADS + 1
+
+-- of each history that the past stands for
+abbrev pub OfEach : Meaning → Plan → Past → (List Entry → Type 0) → Type 0
+OfEach p plan past P = (history : List Entry) → StandsFor p plan past history → P history

@@ -1,6 +1,6 @@
 //! Which core is chosen to steal from, and on which core a thread is placed.
 
-ghost use Rattle.std.specs.Prelude.{◌≡◌, ◌<◌, ◌≤◌, All, Some, int_lt, length};
+ghost use Rattle.std.specs.Prelude.{◌≡◌, ◌<◌, ◌≤◌, All, IfSome, Some, int_lt, length};
 ghost use Rattle.policy_tree.specs.Meaning.{meaning_of};
 ghost use Rattle.policy_tree.specs.Trees.{expr_tree};
 ghost use Rattle.policy_eval.specs.Fitting.{CoreFits};
@@ -23,7 +23,8 @@ pub fn choice(policy: &Policy, values: &[CoreValues], own: CoreId) -> Option<Cor
     requires values { All (CoreFits (meaning_of policy.now)) values.now }
     requires few { length values.now ≤ MAX_CORES }
     requires own { own < length values.now }
-    ensures { result ≡ choice_of (meaning_of policy.now) (length values.now) (values_in values.now) own }
+    ensures choice { result ≡ choice_of (meaning_of policy.now) (length values.now) (values_in values.now) own }
+    ensures there { IfSome result (λ core. core < length values.now) }
 {
     let mut chosen = None;
     for at in (0..values.len()).rev() {

@@ -1,22 +1,27 @@
 //! The model: what plans, states and histories mean, and which histories are legal.
 #![tactic(auto)]
 
+mod attempts;
 pub mod choices;
 mod directory;
 mod election;
 pub mod entry;
+mod glances;
+pub mod judge;
 pub mod laws;
 pub mod measures;
 pub mod memory;
 pub mod moves;
 pub mod past;
 pub mod plan;
+mod progress;
 pub mod state;
 mod unit;
 pub mod windows;
 
 pub use crate::choices::{choice, target};
 pub use crate::entry::{Did, Entry, History};
+pub use crate::judge::step_ok;
 pub use crate::measures::spread_of;
 pub use crate::memory::ModelMemory;
 pub use crate::moves::steal;

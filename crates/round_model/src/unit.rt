@@ -1,6 +1,6 @@
 //! One unit of work of a core.
 
-ghost use Rattle.std.specs.Prelude.{◌≡◌, ◌<◌, ◌≤◌, IfSome, MatchOption, OnErr, OnOk, length, option_to_list};
+ghost use Rattle.std.specs.Prelude.{◌≡◌, ◌↔◌, ◌<◌, ◌≤◌, Contains, IfSome, IsTrue, MatchOption, OnErr, OnOk, length, option_to_list};
 ghost use Rattle.policy_tree.specs.Meaning.{meaning_of};
 ghost use Rattle.policy_eval.specs.Fitting.{IsTask};
 ghost use Rattle.policy_eval.specs.Obligations.{MeetsHandlerObligations};
@@ -74,6 +74,16 @@ impl Unit {
         }
     }
 
+    /// Whether the unit may be said to be that.
+    pub(crate) fn tells(self, did: Did) -> bool
+        ensures { IsTrue result ↔ Contains (dids_of_unit self) did }
+    {
+        match self.did() {
+            None => false,
+            Some(told) => is_same(told, did),
+        }
+    }
+
     /// Changes the core as the unit does. Without memory for that the core stays as it was.
     pub(crate) fn run(self, core: &mut ModelCore) -> Result<(), ModelMemory>
         requires there { Stands core.old self }
@@ -99,6 +109,13 @@ impl Unit {
         }
         Ok(())
     }
+}
+
+/// Whether both say the same.
+fn is_same(told: Did, did: Did) -> bool
+    ensures { IsTrue result ↔ (told ≡ did) }
+{
+    told == did
 }
 
 /// The task at the end of the list that it is put to, where it is put to one.

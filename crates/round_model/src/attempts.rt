@@ -1,0 +1,145 @@
+//! The outcome of an attempt.
+
+ghost use Rattle.std.specs.Prelude.{◌≡◌, ◌↔◌, ◌<◌, ℕ, All, IfSome, IsTrue, List, Some, length, option_map, slice_get};
+ghost use Rattle.policy_tree.specs.Meaning.{Meaning, meaning_of, order_tree};
+ghost use Rattle.policy_tree.specs.Trees.{cond_tree};
+ghost use Rattle.policy_eval.specs.Fitting.{CoreFits};
+ghost use Rattle.policy_eval.specs.Orders.{best_of};
+ghost use Rattle.policy_eval.specs.Resolved.{IsResolved};
+ghost use Rattle.policy_eval.specs.Sights.{pair_values};
+ghost use Rattle.policy_eval.specs.Values.{holds as holds_at};
+ghost use Rattle.round_model.specs.Attempts.{attempt_on, attempt_with, present_values};
+ghost use Rattle.round_model.specs.Bounds.{CoreInBounds};
+ghost use Rattle.round_model.specs.Cores.{Cores, listed};
+ghost use Rattle.round_model.specs.Fits.{Fits};
+ghost use Rattle.round_model.specs.Outcomes.{IsCountable, entry_of_attempt, loot_of};
+ghost use Rattle.round_model.specs.Work.{before};
+ghost use Rattle.round_model.specs.declared.state.ModelCore.{ModelCore};
+
+use crate::election::best_place;
+use crate::plan::Plan;
+use crate::state::State;
+use policy_eval::{CoreValues, Env, holds};
+use policy_tree::Policy;
+use sched_base::{CoreId, ThreadId};
+
+/// What comes of an attempt.
+#[derive(Clone, Copy, PartialEq, Eq)]
+pub(crate) enum Attempt {
+    /// No core was chosen.
+    Pass,
+    /// Nothing is taken of the core that was chosen.
+    Fail(CoreId),
+    /// The thread is taken of that core.
+    Steal(CoreId, ThreadId),
+}
+
+impl Attempt {
+    /// Whether the two are the same.
+    pub(crate) fn is(self, other: Attempt) -> bool
+        ensures { IsTrue result ↔ (self ≡ other) }
+    {
+        self == other
+    }
+}
+
+/// What comes of the attempt of the core with this choice, by the cores as they are.
+pub(crate) fn outcome(
+    policy: &Policy,
+    plan: &Plan,
+    state: &State,
+    core: CoreId,
+    chosen: Option<CoreId>,
+) -> Attempt
+    requires fits { Fits (meaning_of policy.now) plan.now }
+    requires cores { length state.now ≡ plan.now.cores }
+    requires bounds { All (CoreInBounds (meaning_of policy.now)) state.now }
+    requires core { core < plan.now.cores }
+    requires chosen { IfSome chosen (λ v. v < plan.now.cores) }
+    ensures { (m : Cores) (reads : List ℕ) → state.now ≡ listed plan.now.cores m →
+        attempt_with (meaning_of policy.now) plan.now m core reads chosen ≡ entry_of_attempt core reads result }
+{
+    match chosen {
+        None => Attempt::Pass,
+        Some(victim) => match loot(policy, plan, state, core, victim) {
+            None => Attempt::Fail(victim),
+            Some(thread) => Attempt::Steal(victim, thread),
+        },
+    }
+}
+
+/// The thread that the core may take of the victim: the best of its queue, where the filter holds of both.
+fn loot(
+    policy: &Policy,
+    plan: &Plan,
+    state: &State,
+    core: CoreId,
+    victim: CoreId,
+) -> Option<ThreadId>
+    requires fits { Fits (meaning_of policy.now) plan.now }
+    requires cores { length state.now ≡ plan.now.cores }
+    requires bounds { All (CoreInBounds (meaning_of policy.now)) state.now }
+    requires core { core < plan.now.cores }
+    requires victim { victim < plan.now.cores }
+    ensures { (m : Cores) (reads : List ℕ) → state.now ≡ listed plan.now.cores m →
+        attempt_on (meaning_of policy.now) plan.now m core reads victim ≡ loot_of core victim reads result }
+{
+    if filter_holds(policy, plan, state, core, victim) {
+        best_queued(policy, state, victim)
+    } else {
+        None
+    }
+}
+
+/// Whether the core may take of the victim, as both are.
+fn filter_holds(
+    policy: &Policy,
+    plan: &Plan,
+    state: &State,
+    core: CoreId,
+    victim: CoreId,
+) -> bool
+    requires fits { Fits (meaning_of policy.now) plan.now }
+    requires cores { length state.now ≡ plan.now.cores }
+    requires bounds { All (CoreInBounds (meaning_of policy.now)) state.now }
+    requires core { core < plan.now.cores }
+    requires victim { victim < plan.now.cores }
+    ensures { (m : Cores) → state.now ≡ listed plan.now.cores m → result
+        ≡ holds_at (pair_values (present_values plan.now m core) (present_values plan.now m victim)) (cond_tree policy.now.filter) }
+{
+    let own = present(plan, state, core);
+    let other = present(plan, state, victim);
+    holds(&policy.filter, &Env::of_pair(&own, &other))
+}
+
+/// The number of the thread in the core's queue that the steal keys take.
+fn best_queued(policy: &Policy, state: &State, core: CoreId) -> Option<ThreadId>
+    requires policy { IsResolved (meaning_of policy.now) }
+    requires bounds { All (CoreInBounds (meaning_of policy.now)) state.now }
+    requires core { core < length state.now }
+    ensures { (x : ModelCore) → slice_get state.now core ≡ Some x →
+        result ≡ option_map (λ t. t.id) (best_of (before (order_tree policy.now.steal)) x.queue) }
+{
+    let queue = &state.get(core).queue;
+    match best_place(&policy.steal, queue.as_slice()) {
+        None => None,
+        Some(at) => Some(queue.get(at).id),
+    }
+}
+
+/// What the filter sees of the core as it is.
+fn present(plan: &Plan, state: &State, core: CoreId) -> CoreValues
+    requires consts { length plan.now.consts ≡ plan.now.cores }
+    requires cores { length state.now ≡ plan.now.cores }
+    requires few { All IsCountable state.now }
+    requires core { core < plan.now.cores }
+    ensures fits { (p : Meaning) → Fits p plan.now → All (CoreInBounds p) state.now → CoreFits p result }
+    ensures values { (m : Cores) → state.now ≡ listed plan.now.cores m → result ≡ present_values plan.now m core }
+{
+    let seen = state.get(core).seen();
+    CoreValues {
+        nr: seen.nr,
+        load: seen.load,
+        consts: *plan.consts.get(core),
+    }
+}
