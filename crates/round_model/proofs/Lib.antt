@@ -7,6 +7,8 @@ pub mod Finding
 pub mod Sightings
 pub mod Grows
 pub mod Judging
+pub mod Keeping
+pub mod Moved
 pub mod Openings
 pub mod Outcomes
 pub mod Pasts

@@ -1,10 +1,11 @@
 -- What a unit of work comes to, step by step.
-use Rattle.std.proofs.Common.{◌≡◌, ℕ, zero, suc, ◌<◌, ◌≤◌, Bool, true, false, cond, List, [], ◌∷◌, ℤ, Option, Some, None, IfSome, All, ◌++◌, option_to_list, fold, map, length, slice_get, option_and_then, refl, sym, ap, ap₂, ◌∙◌, subst, arith}
+use Rattle.std.proofs.Common.{◌≡◌, ℕ, zero, suc, ◌<◌, ◌≤◌, Bool, true, false, cond, List, [], ◌∷◌, ℤ, Option, Some, None, Contains, IfSome, All, ◌++◌, option_to_list, fold, map, length, slice_get, option_and_then, refl, sym, ap, ap₂, ◌∙◌, subst, arith}
 use Rattle.std.proofs.lemmas.Option.{slice_get_within}
 use Rattle.sched_base.specs.declared.limits.TheConstants.{MAX_BLOCK_ROUNDS, MAX_BURSTS}
 use Rattle.sched_base.specs.declared.task.Place.{Place}
 use Rattle.sched_base.specs.declared.task.Task.{Task}
 use Rattle.policy_tree.specs.declared.typed.Event.{Event}
+use Rattle.policy_tree.specs.declared.typed.Event.TheVariants as event
 use Rattle.policy_tree.specs.declared.typed.Put.{Put}
 use Rattle.policy_tree.specs.Meaning.{Meaning}
 use Rattle.policy_eval.specs.Events.{outcomes_of}
@@ -21,10 +22,10 @@ use Rattle.round_model.specs.declared.unit.Unit.{Unit as WorkUnit}
 use Rattle.round_model.specs.declared.unit.Unit.TheVariants as unit
 use Rattle.round_model.specs.Cores.{tasks_of}
 use Rattle.round_model.specs.Fits.{Fits, IsLast, IsMiddle, IsProgram, ThreadFits}
-use Rattle.round_model.specs.Moves.{core_after_event, with_outcome}
+use Rattle.round_model.specs.Moves.{admitted, core_after_event, with_outcome, with_task}
 use Rattle.round_model.specs.Programs.{blocking, burst_of, ending_now, is_last_unit, meeting_at_end, meeting_of, place_after, planned_of, tick}
-use Rattle.round_model.specs.Units.{InQueue, IsIdleCore, IsMet, IsUnit, Runs, dids_of_unit, left_by, without}
-use Rattle.round_model.specs.Work.{Worked, after_meeting, after_unit, before, did_of, elected, elected_over, met, run_over, with_current, worked}
+use Rattle.round_model.specs.Units.{InQueue, IsIdleCore, IsMet, IsUnit, Runs, core_after_unit, dids_of_unit, left_by, without}
+use Rattle.round_model.specs.Work.{IsOutcomeOfWork, Worked, after_meeting, after_unit, before, core_after_work, did_of, elected, elected_over, met, run_over, with_current, worked}
 use Rattle.round_model.proofs.Directories.{is_thread}
 use Rattle.round_model.proofs.Finding.{find-All}
 
@@ -152,3 +153,20 @@ unit_dids p plan round core unit.Idle is = ap (λ (w : Worked). w.dids) is
 unit_dids p plan round core unit.Stuck is = is
 unit_dids p plan round core (unit.Met place t put wake) is = ap (λ (w : Worked). w.dids) is.0
 unit_dids p plan round core (unit.Over place id) is = ap (λ (w : Worked). w.dids) is.0
+
+-- with one outcome of its enqueue event a thread is put once
+pub admitted_once : (p : Meaning) (fresh : Bool) (t : Task) (core : ModelCore) (outcome : Task × Put)
+    → outcomes_of p event.Enqueue fresh core.consts t ≡ outcome ∷ [] → admitted p fresh t core ≡ with_task outcome.1 0 outcome.0 core
+unfolding core_after_event
+admitted_once p fresh t core outcome one = ap (fold (with_outcome 0) core) one
+
+-- what a unit leaves of the core, where something may be said of it
+pub unit_core : (p : Meaning) (plan : Plan) (round : ℕ) (core : ModelCore) (u : WorkUnit) (did : Did) → IsUnit p plan round core u
+    → IsOutcomeOfWork p plan round core did → core_after_work p plan round core ≡ core_after_unit core u
+unit_core p plan round core unit.Idle did is told = ap (λ (w : Worked). w.core) is
+unit_core p plan round core unit.Stuck did is told = absurd (nothing_told did (subst (λ (dids : List Did). Contains dids did) is told))
+  where
+    nothing_told : (d : Did) → Contains [] d → ⊥
+    nothing_told d (k, inside, is_it) = omega arith
+unit_core p plan round core (unit.Met place t put wake) did is told = ap (λ (w : Worked). w.core) is.0
+unit_core p plan round core (unit.Over place id) did is told = ap (λ (w : Worked). w.core) is.0

@@ -29,4 +29,5 @@ pub mod Spread
 pub mod StillRounds
 pub mod Stretches
 pub mod Units
+pub mod Updates
 pub mod Work

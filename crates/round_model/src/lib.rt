@@ -2,6 +2,7 @@
 #![tactic(auto)]
 
 mod attempts;
+mod changes;
 pub mod choices;
 mod directory;
 mod election;
@@ -11,7 +12,7 @@ pub mod judge;
 pub mod laws;
 pub mod measures;
 pub mod memory;
-pub mod moves;
+mod moves;
 pub mod past;
 pub mod plan;
 mod progress;
@@ -24,7 +25,6 @@ pub use crate::entry::{Did, Entry, History};
 pub use crate::judge::step_ok;
 pub use crate::measures::spread_of;
 pub use crate::memory::ModelMemory;
-pub use crate::moves::steal;
 pub use crate::past::{Past, opening, round_due};
 pub use crate::plan::{
     Burst, BurstList, ConstList, CoreList, Ending, OrderLine, OrderList, Plan, Planned, PlannedList,

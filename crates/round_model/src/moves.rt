@@ -1,97 +1,186 @@
-//! How a steal moves a thread.
+//! How threads come to cores and leave them.
 
-ghost use Rattle.std.specs.Prelude.{◌≡◌, ◌<◌, ◌≤◌, IfOk, IfSome, IsSome, Some, find, length, remove, slice_get, vec_len};
-ghost use Rattle.round_model.specs.Moves.{handed, is_task, queued_of, received, without_first};
+ghost use Rattle.std.specs.Prelude.{◌≡◌, ◌<◌, ℕ, All, OnErr, OnOk, Some, length, option_map, slice_get, slice_set};
+ghost use Rattle.policy_tree.specs.Meaning.{meaning_of};
+ghost use Rattle.policy_eval.specs.Fitting.{IsTask};
+ghost use Rattle.policy_eval.specs.Obligations.{MeetsHandlerObligations};
+ghost use Rattle.policy_eval.specs.Resolved.{IsResolved};
+ghost use Rattle.round_model.specs.Bounds.{CoreInBounds};
+ghost use Rattle.round_model.specs.Cores.{Cores, listed};
+ghost use Rattle.round_model.specs.Moves.{admitted, blocked_of, handed, is_blocked_task, is_task, queued_of, received, released, with_task};
+ghost use Rattle.round_model.specs.Units.{IsSmallCore};
+ghost use Rattle.round_model.specs.Updates.{IsFirstPlace, updated};
 
-use crate::state::{ModelCore, TaskList};
-use sched_base::{MAX_THREADS, Task, ThreadId};
-use std::alloc::AllocError;
+use crate::memory::ModelMemory;
+use crate::state::{Blocked, ModelCore, State};
+use policy_eval::apply_case;
+use policy_tree::{Event, Policy, Put};
+use sched_base::{CoreId, MAX_ATTRIBUTES, Task, ThreadId};
+use std::alloc::Global;
 
-/// The earliest queued thread of that number leaves the victim's queue and comes to the end of the thief's.
-/// The thief and the victim come back so changed.
-pub fn steal(
-    thief: ModelCore,
-    victim: ModelCore,
-    thread: ThreadId,
-) -> Result<(ModelCore, ModelCore), AllocError>
-    requires queued { IsSome (queued_of thread victim) }
-    requires room { length thief.queue < MAX_THREADS }
-    ensures thief { IfOk result (λ after. IfSome (queued_of thread victim) (λ task. after.0 ≡ received task thief)) }
-    ensures victim { IfOk result (λ after. after.1 ≡ handed thread victim) }
+/// The task comes to the core by its enqueue event; `fresh` where it enters just now.
+pub(crate) fn admit(
+    alloc: Global,
+    policy: &Policy,
+    state: &mut State,
+    at: CoreId,
+    task: Task,
+    fresh: bool,
+) -> Result<(), ModelMemory>
+    requires policy { IsResolved (meaning_of policy.now) }
+    requires handlers { MeetsHandlerObligations (meaning_of policy.now) }
+    requires bounds { All (CoreInBounds (meaning_of policy.now)) state.old }
+    requires room { All IsSmallCore state.old }
+    requires task { IsTask (meaning_of policy.now) task }
+    requires at { at < length state.old }
+    ensures ok { OnOk result ((n : ℕ) (m : Cores) → state.old ≡ listed n m → at < n →
+        state.new ≡ listed n (updated m at (admitted (meaning_of policy.now) fresh task (m at)))) }
+    ensures len { length state.new ≡ length state.old }
+    ensures err { OnErr result (state.new ≡ state.old) }
 {
-    let (victim, task) = hand_over(victim, thread);
-    let thief = receive(thief, task)?;
-    Ok((thief, victim))
+    let consts = state.get(at).consts;
+    let (task, place) = apply_case(policy, Event::Enqueue, fresh, task, &consts);
+    put(alloc, state, at, task, place)
 }
 
-/// The victim without its earliest queued thread of that number, and that thread.
-fn hand_over(victim: ModelCore, thread: ThreadId) -> (ModelCore, Task)
-    requires { IsSome (queued_of thread victim) }
-    ensures task { queued_of thread victim ≡ Some result.1 }
-    ensures rest { result.0 ≡ handed thread victim }
+/// The task is put there at the core.
+fn put(
+    alloc: Global,
+    state: &mut State,
+    at: CoreId,
+    task: Task,
+    place: Put,
+) -> Result<(), ModelMemory>
+    requires room { All IsSmallCore state.old }
+    requires at { at < length state.old }
+    ensures ok { OnOk result ((n : ℕ) (m : Cores) → state.old ≡ listed n m → at < n →
+        state.new ≡ listed n (updated m at (with_task place 0 task (m at)))) }
+    ensures len { length state.new ≡ length state.old }
+    ensures err { OnErr result (state.new ≡ state.old) }
 {
-    let ModelCore {
-        current,
-        queue,
-        blocked,
-        consts,
-    } = victim;
-    let mut tasks = queue.into_vec();
-    let at = place_of(tasks.as_slice(), thread);
-    let task = take_out(&mut tasks, at);
-    let queue = TaskList::from_vec(tasks);
-    let rest = ModelCore {
-        current,
-        queue,
-        blocked,
-        consts,
-    };
-    (rest, task)
+    let mut core = take_core(alloc, state, at);
+    let done = take_in(&mut core, task, place);
+    let _idle = state.replace(at, core);
+    done
 }
 
-/// The task in that place, taken out.
-fn take_out(tasks: &mut Vec<Task>, at: usize) -> Task
-    requires { at < vec_len tasks.old }
-    ensures task { slice_get tasks.old.items at ≡ Some result }
-    ensures rest { tasks.new.items ≡ remove tasks.old.items at }
-    ensures len { vec_len tasks.new ≤ vec_len tasks.old }
+/// The task comes to the end of the core's queue. No handler runs.
+pub(crate) fn receive(
+    alloc: Global,
+    state: &mut State,
+    at: CoreId,
+    task: Task,
+) -> Result<(), ModelMemory>
+    requires room { All IsSmallCore state.old }
+    requires at { at < length state.old }
+    ensures ok { OnOk result ((n : ℕ) (m : Cores) → state.old ≡ listed n m → at < n →
+        state.new ≡ listed n (updated m at (received task (m at)))) }
+    ensures len { length state.new ≡ length state.old }
+    ensures err { OnErr result (state.new ≡ state.old) }
 {
-    tasks.remove(at)
+    put(alloc, state, at, task, Put::Queue)
 }
 
-/// The place of the earliest task of that number.
-fn place_of(tasks: &[Task], thread: ThreadId) -> usize
-    requires { IsSome (find (is_task thread) tasks.now) }
-    ensures inside { result < length tasks.now }
-    ensures first { find (is_task thread) tasks.now ≡ slice_get tasks.now result }
-    ensures rest { without_first (is_task thread) tasks.now ≡ remove tasks.now result }
+/// The blocked thread of that number leaves the core's blocked list.
+pub(crate) fn release(alloc: Global, state: &mut State, at: CoreId, thread: ThreadId)
+    requires { at < length state.old }
+    ensures { (n : ℕ) (m : Cores) → state.old ≡ listed n m → at < n →
+        state.new ≡ listed n (updated m at (released thread (m at))) }
 {
-    for at in 0..tasks.len() {
-        if tasks[at].id == thread {
-            return at;
+    let mut core = take_core(alloc, state, at);
+    take_blocked(&mut core, thread);
+    let _idle = state.replace(at, core);
+}
+
+/// The earliest queued thread of that number leaves the core's queue.
+pub(crate) fn hand_over(alloc: Global, state: &mut State, at: CoreId, thread: ThreadId)
+    requires { at < length state.old }
+    ensures { (n : ℕ) (m : Cores) → state.old ≡ listed n m → at < n →
+        state.new ≡ listed n (updated m at (handed thread (m at))) }
+{
+    let mut core = take_core(alloc, state, at);
+    take_queued(&mut core, thread);
+    let _idle = state.replace(at, core);
+}
+
+#[tactic(auto, unfolding(crate::specs::Moves::released))]
+fn take_blocked(core: &mut ModelCore, thread: ThreadId)
+    ensures { core.new ≡ released thread core.old }
+{
+    if let Some(place) = blocked_place(core, thread) {
+        let _blocked = core.blocked.remove(place);
+    }
+}
+
+#[tactic(auto, unfolding(crate::specs::Moves::handed))]
+fn take_queued(core: &mut ModelCore, thread: ThreadId)
+    ensures { core.new ≡ handed thread core.old }
+{
+    if let Some(place) = queued_place(core, thread) {
+        let _task = core.queue.remove(place);
+    }
+}
+
+/// The core out of the state. An empty core stands for it until it is put back.
+pub(crate) fn take_core(alloc: Global, state: &mut State, at: CoreId) -> ModelCore
+    requires { at < length state.old }
+    ensures core { slice_get state.old at ≡ Some result }
+    ensures rest { (core : ModelCore) → slice_set state.new at core ≡ slice_set state.old at core }
+    ensures len { length state.new ≡ length state.old }
+{
+    state.replace(at, ModelCore::idle(alloc, [0; MAX_ATTRIBUTES]))
+}
+
+/// The task is put there. Without memory for that the core stays as it was.
+fn take_in(core: &mut ModelCore, task: Task, place: Put) -> Result<(), ModelMemory>
+    requires { IsSmallCore core.old }
+    ensures ok { OnOk result (core.new ≡ with_task place 0 task core.old) }
+    ensures err { OnErr result (core.new ≡ core.old) }
+{
+    match place {
+        Put::Queue => core.queue.push(task)?,
+        Put::Keep => core.current = Some(task),
+        Put::Block => core.blocked.push(Blocked { task, wake: 0 })?,
+    }
+    Ok(())
+}
+
+/// The earliest queued task of that number.
+pub(crate) fn queued_task(core: &ModelCore, thread: ThreadId) -> Option<Task>
+    ensures { result ≡ queued_of thread core.now }
+{
+    let place = queued_place(core, thread)?;
+    Some(*core.queue.get(place))
+}
+
+/// The earliest blocked task of that number.
+pub(crate) fn blocked_task(core: &ModelCore, thread: ThreadId) -> Option<Task>
+    ensures { result ≡ option_map (λ b. b.task) (blocked_of thread core.now) }
+{
+    let place = blocked_place(core, thread)?;
+    Some(core.blocked.get(place).task)
+}
+
+/// The place in the queue of the earliest task of that number.
+fn queued_place(core: &ModelCore, thread: ThreadId) -> Option<u32>
+    ensures { IsFirstPlace (is_task thread) core.now.queue result }
+{
+    for at in 0..core.queue.len() {
+        if core.queue.get(at).id == thread {
+            return Some(at);
         }
     }
-    unreachable!()
+    None
 }
 
-/// The thief with the task at the end of its queue.
-fn receive(thief: ModelCore, task: Task) -> Result<ModelCore, AllocError>
-    requires { length thief.queue < MAX_THREADS }
-    ensures { IfOk result (λ after. after ≡ received task thief) }
+/// The place in the blocked list of the earliest task of that number.
+fn blocked_place(core: &ModelCore, thread: ThreadId) -> Option<u32>
+    ensures { IsFirstPlace (is_blocked_task thread) core.now.blocked result }
 {
-    let ModelCore {
-        current,
-        queue,
-        blocked,
-        consts,
-    } = thief;
-    let mut tasks = queue.into_vec();
-    tasks.push(task)?;
-    let queue = TaskList::from_vec(tasks);
-    Ok(ModelCore {
-        current,
-        queue,
-        blocked,
-        consts,
-    })
+    for at in 0..core.blocked.len() {
+        if core.blocked.get(at).task.id == thread {
+            return Some(at);
+        }
+    }
+    None
 }

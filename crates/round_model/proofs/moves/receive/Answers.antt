@@ -1,12 +1,7 @@
-use Rattle.std.proofs.Common.{ap, ◌∙◌, ◌++◌, ◌∷◌, []}
-use Rattle.sched_base.specs.declared.task.Task.{Task}
-use Rattle.std.specs.Prelude.{List}
-use Rattle.round_model.specs.declared.state.ModelCore.{ModelCore}
+use Rattle.std.proofs.Common.{◌≡◌, ap, ◌∙◌, refl, sym}
 use Rattle.round_model.specs.Moves.{received}
 use Rattle.round_model.proofs.moves.receive.Goals as goal
 
-pub returns : goal.returns
+pub returns-clause-ok : goal.returns-clause-ok
 unfolding received
-returns c =
-    ap (λ (queue : List Task). let after : ModelCore = record c.args.thief { queue = queue } in after)
-    (c.from_vec-queue.ensures ∙ (c.in_ok-push.ensures.items ∙ ap (λ tasks. tasks ++ c.args.task ∷ []) c.into_vec-tasks.ensures.items))
+returns-clause-ok c = c.put.ensures.ok
