@@ -14,7 +14,7 @@ use Rattle.round_model.specs.Work.{worked}
 use Rattle.round_model.specs.declared.entry.Did.{Did}
 use Rattle.round_model.specs.declared.entry.Did.TheVariants as did
 use Rattle.round_model.specs.Rows.{Row}
-use Rattle.model_tests.specs.LegalRows.{OtherMisses, TwoCoresMisses}
+use Rattle.model_tests.specs.LegalRows.{NotWhole, OtherMisses, TwoCoresMisses}
 
 -- where one word may be said, no other is right
 one_word : (a b : Did) → Contains (a ∷ []) b → (a ≡ b → ⊥) → ⊥
@@ -40,6 +40,7 @@ two_cores_misses = record {
   reads_what_is_to_come = λ r. absurd (let read = (r.row.read.each 1 0 (omega arith)).before_entry in omega arith);
   reads_one_core_alone = λ r. absurd (let read = r.row.read.one_each in omega arith);
   begins_a_round_too_many = λ r. absurd (let due = r.due in cc);
+  attempts_twice = λ r. absurd (let first = r.row.first in cc);
 }
 
 pub other_misses : OtherMisses
@@ -54,5 +55,13 @@ other_misses = record {
   reads_the_round_before = λ r. absurd (let read = (r.row.read.each 0 0 (omega arith)).in_round in omega arith);
   steals_by_a_stale_read = λ r. absurd (let outcome = r.row.outcome in cc);
   sees_the_steal_and_fails = λ r. absurd (let outcome = r.row.outcome in cc);
+  wakes_with_a_thread_to_let_in = λ r. absurd (let entered = r.row.entered in cc);
   goes_on_after_the_end = λ r. absurd (let due = r.due in cc);
+}
+
+pub not_whole : NotWhole
+unfolding acts is_due is_complete
+not_whole = record {
+  round_is_open = λ w. absurd (let complete = w.complete in cc);
+  round_is_due = λ w. absurd (let finished = w.finished in cc);
 }

@@ -226,6 +226,7 @@ policy_misses = record {
   gap_of_three_misses_a_pair = λ met. absurd (let sees = met (counted 0) (counted 2) (counted_fits 0 (omega arith) _) (counted_fits 2 (omega arith) _) refl (omega arith) in cc);
   gap_of_one_takes_the_last_thread = λ met. absurd (let two = met (counted 0) (counted 1) (counted_fits 0 (omega arith) _) (counted_fits 1 (omega arith) _) refl in omega arith);
   gap_of_one_keeps_the_gap = λ met. absurd (let narrows = met (counted 0) (counted 1) 1 (counted_fits 0 (omega arith) _) (counted_fits 1 (omega arith) _) (record { least = omega arith; greatest = omega arith }) refl (omega arith) in omega arith);
+  victim_without_threads_keeps_the_gap = λ met. absurd (let narrows = met (counted 0) (counted 0) 1 (counted_fits 0 (omega arith) _) (counted_fits 0 (omega arith) _) (record { least = omega arith; greatest = omega arith }) refl (omega arith) in omega arith);
   two_cases_overlap = λ met. absurd (let one = met false no_attributes light_task zeros_fit (light_task_fits _ refl refl refl) in omega arith);
   no_case_leaves_a_gap = λ met. absurd (let some = met false no_attributes light_task zeros_fit (light_task_fits _ refl refl refl) in omega arith);
   product_of_variables = λ is. absurd (let scaled = is.filter.sides.0.linear.2 in cc);

@@ -1,11 +1,13 @@
 -- Worked histories that are legal, and entries that miss being legal by one change.
-use Rattle.std.specs.Prelude.{ℕ, [], ◌∷◌, take}
+use Rattle.std.specs.Prelude.{ℕ, List, [], ◌∷◌, take}
 use Rattle.round_model.specs.declared.entry.Did.TheVariants as did
 use Rattle.round_model.specs.declared.entry.Entry.{Entry}
 use Rattle.round_model.specs.declared.entry.Entry.TheVariants as entry
+use Rattle.round_model.specs.declared.plan.Ending.TheVariants as ending
+use Rattle.round_model.specs.declared.plan.Plan.{Plan}
 use Rattle.round_model.specs.Legal.{LegalNext, Whole}
-use Rattle.model_tests.specs.Histories.{block_and_wake_history, one_core_history, stale_read_history, two_cores_history}
-use Rattle.model_tests.specs.Plans.{block_and_wake, one_core, stale_read, two_cores}
+use Rattle.model_tests.specs.Histories.{block_and_wake_history, one_core_history, stale_read_history, two_cores_front, two_cores_history}
+use Rattle.model_tests.specs.Plans.{block_and_wake, late, one_core, plan_of, run, stale_read, thread, two_cores}
 use Rattle.model_tests.specs.Policies.{basic, fair}
 
 -- the worked histories are whole
@@ -38,6 +40,14 @@ pub record TwoCoresMisses : Type 0 where
   pub reads_what_is_to_come : MissesAt 6 (entry.Steal 1 0 2 (5 ∷ 7 ∷ []))
   pub reads_one_core_alone : MissesAt 6 (entry.Steal 1 0 2 (5 ∷ []))
   pub begins_a_round_too_many : MissesAt 7 (entry.Round 2)
+  pub attempts_twice : MissesAt 5 (entry.Pass 0 (4 ∷ 1 ∷ []))
+
+-- a thread has blocked, and as it may wake another is to enter
+abbrev pub late_enter : Plan
+late_enter = plan_of 2 2 (thread 1 3 (run 1 (ending.Block 1) ∷ run 1 ending.End ∷ []) ∷ late 2 5 ∷ []) []
+
+abbrev pub late_enter_front : List Entry
+late_enter_front = entry.Round 1 ∷ entry.Enter 1 0 0 (1 ∷ 1 ∷ []) ∷ entry.Work 0 (did.Blocked 1) ∷ entry.Round 2 ∷ []
 
 -- changes of one thing in the others' histories
 pub record OtherMisses : Type 0 where
@@ -50,4 +60,10 @@ pub record OtherMisses : Type 0 where
   pub reads_the_round_before : ¬ LegalNext basic one_core (take 6 one_core_history) (entry.Pass 0 (4 ∷ []))
   pub steals_by_a_stale_read : ¬ LegalNext basic stale_read (take 8 stale_read_history) (entry.Steal 2 0 1 (5 ∷ 6 ∷ 7 ∷ []))
   pub sees_the_steal_and_fails : ¬ LegalNext basic stale_read (take 8 stale_read_history) (entry.Fail 2 0 (8 ∷ 6 ∷ 7 ∷ []))
+  pub wakes_with_a_thread_to_let_in : ¬ LegalNext fair late_enter late_enter_front (entry.Wake 1 0 0 (4 ∷ 4 ∷ []))
   pub goes_on_after_the_end : ¬ LegalNext basic one_core one_core_history (entry.Round 3)
+
+-- histories that are legal and not whole: a round isn't complete, or another is due
+pub record NotWhole : Type 0 where
+  pub round_is_open : ¬ Whole basic two_cores two_cores_front
+  pub round_is_due : ¬ Whole basic one_core (take 4 one_core_history)

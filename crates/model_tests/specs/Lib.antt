@@ -1,3 +1,4 @@
+pub mod EventRows
 pub mod Histories
 pub mod LegalRows
 pub mod Plans

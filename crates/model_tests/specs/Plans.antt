@@ -16,6 +16,10 @@ run units what = record { units = units; ending = what }
 abbrev pub thread : (id weight : ℕ) → List Burst → Planned
 thread id weight bursts = record { id = id; core = 0; round = 1; weight = weight; bursts = bursts }
 
+-- a thread without end that core 0 lets in in round 2
+abbrev pub late : (id weight : ℕ) → Planned
+late id weight = record { id = id; core = 0; round = 2; weight = weight; bursts = run 1 ending.Forever ∷ [] }
+
 -- a thread of weight 1 without end
 abbrev pub endless : ℕ → Planned
 endless id = thread id 1 (run 1 ending.Forever ∷ [])

@@ -37,6 +37,7 @@ pub record PolicyMisses : Type 0 where
   pub gap_of_three_misses_a_pair : ¬ IdleSeesOverloaded (with_filter (gap_of 3))
   pub gap_of_one_takes_the_last_thread : ¬ VictimIsOverloaded (with_filter (gap_of 1))
   pub gap_of_one_keeps_the_gap : ¬ MoveNarrowsGap (with_filter (gap_of 1))
+  pub victim_without_threads_keeps_the_gap : ¬ MoveNarrowsGap (with_filter always)
   pub two_cases_overlap : ¬ NoOverlap (with_tick (record { guard = always; sets = []; put = put.Keep } ∷ whenever [] put.Queue)) event.Tick
   pub no_case_leaves_a_gap : ¬ NoGap (with_tick []) event.Tick
   pub product_of_variables : ¬ IsResolved (with_filter (test cmp.Ge (times (variable 2) (variable 0)) (number (pos 2))))

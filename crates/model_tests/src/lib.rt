@@ -2,6 +2,7 @@
 #![tactic(auto)]
 
 pub mod builders;
+pub mod events;
 pub mod legal;
 pub mod policies;
 pub mod rounds;

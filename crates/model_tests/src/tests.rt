@@ -1,13 +1,8 @@
 //! Each plain body of the model on the worked rows.
 
-ghost use Rattle.std.specs.Prelude.{◌≡◌, ◌<◌, ◌^◌, vec_len};
-
 use crate::builders::{basic_choice, basic_policy};
-use round_model::{
-    BlockedList, Did, Entry, History, ModelCore, TaskList, reads_fit, round_start, spread_of, steal,
-};
-use sched_base::{MAX_ATTRIBUTES, Place, Reads, Task, ThreadId};
-use std::alloc::Global;
+use round_model::{Did, Entry, History, reads_fit, round_start, spread_of};
+use sched_base::Reads;
 use std::test::Fail;
 
 #[test]
@@ -80,46 +75,4 @@ fn cores_of_an_entry(rt: HostRuntime) {
     };
     assert!(rt; enter.acts(0) && enter.touches(2) && !enter.touches(0));
     assert!(rt; !enter.is_round() && !enter.is_attempt());
-}
-
-#[test]
-fn steal_with_ample_memory(rt: HostRuntime) -> Result<(), Fail> {
-    let mut queued = Vec::new(rt.alloc());
-    queued.push(task(1))?;
-    queued.push(task(2))?;
-    queued.push(task(3))?;
-    let victim = core_with(rt.alloc(), queued);
-    let thief = core_with(rt.alloc(), Vec::new(rt.alloc()));
-    let (thief, victim) = steal(thief, victim, 2)?;
-    assert_eq!(rt; thief.queue.len(), 1);
-    assert_eq!(rt; thief.queue.get(0).id, 2);
-    assert_eq!(rt; victim.queue.len(), 2);
-    assert_eq!(rt; victim.queue.get(0).id, 1);
-    assert_eq!(rt; victim.queue.get(1).id, 3);
-    Ok(())
-}
-
-/// A thread of weight 1 at the start of its program.
-fn task(id: ThreadId) -> Task
-    ensures { result.id ≡ id }
-{
-    Task {
-        id,
-        weight: 1,
-        attrs: [0; MAX_ATTRIBUTES],
-        place: Place { burst: 0, done: 0 },
-    }
-}
-
-/// A core with these threads in its queue, and with no other.
-fn core_with(alloc: Global, queued: Vec<Task>) -> ModelCore
-    requires { vec_len queued < 2 ^ 32 }
-    ensures { result.queue ≡ queued.items }
-{
-    ModelCore {
-        current: None,
-        queue: TaskList::from_vec(queued),
-        blocked: BlockedList::from_vec(Vec::new(alloc)),
-        consts: [0; MAX_ATTRIBUTES],
-    }
 }

@@ -21,12 +21,15 @@ is_task id t = t.id == id
 abbrev pub is_blocked_task : ℕ → Blocked → Bool
 is_blocked_task id b = b.task.id == id
 
+-- the core with the thread at the end of its blocked list, to wake in that round
+abbrev pub blocked_put : ℕ → Task → ModelCore → ModelCore
+blocked_put wake t core = record core { blocked = core.blocked ++ record { task = t; wake = wake } ∷ [] }
+
 -- the core with the thread put there
 abbrev pub with_task : Put → ℕ → Task → ModelCore → ModelCore
 with_task put.Queue wake t core = record core { queue = core.queue ++ t ∷ [] }
 with_task put.Keep wake t core = record core { current = Some t }
-with_task put.Block wake t core =
-    record core { blocked = core.blocked ++ record { task = t; wake = wake } ∷ [] }
+with_task put.Block wake t core = blocked_put wake t core
 
 abbrev pub with_outcome : ℕ → ModelCore → Task × Put → ModelCore
 with_outcome wake core outcome = with_task outcome.1 wake outcome.0 core

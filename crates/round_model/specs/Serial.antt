@@ -92,6 +92,10 @@ with_round p plan history number =
     (fold (step_of p plan) opened (order_of plan number ++ remaining_turns plan)).history
     history
 
+-- the history of so many rounds of serial play, or of all that come due
+abbrev pub serial_rounds : Meaning → Plan → ℕ → List Entry
+serial_rounds p plan rounds = fold (with_round p plan) [] (range_with_len 1 rounds)
+
 -- the serial history of a plan
 abbrev pub serial_history : Meaning → Plan → List Entry
-serial_history p plan = fold (with_round p plan) [] (range_with_len 1 plan.rounds)
+serial_history p plan = serial_rounds p plan plan.rounds
