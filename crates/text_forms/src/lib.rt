@@ -1,0 +1,11 @@
+//! Forms that texts of lines share: the lines of a text, the words of a line, numbers in decimal.
+#![tactic(auto)]
+
+mod cuts;
+mod lines;
+mod numbers;
+mod words;
+
+pub use lines::first_line;
+pub use numbers::{MAX_DIGITS, number_in};
+pub use words::first_word;
