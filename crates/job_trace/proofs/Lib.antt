@@ -1,0 +1,4 @@
+mod FormLemmas
+mod JudgeLemmas
+mod ScanLemmas
+mod AnswerLemmas

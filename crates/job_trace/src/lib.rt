@@ -1,0 +1,15 @@
+//! Traces of jobs: which threads come to which core in which round, and what each of them runs. A text is read into
+//! a trace, and a trace is made into a plan for a policy.
+#![tactic(auto)]
+
+mod fault;
+mod form;
+mod ranges;
+mod reading;
+mod rules;
+mod trace;
+mod words;
+
+pub use fault::TraceFault;
+pub use reading::read_trace;
+pub use trace::{Numbered, Trace, TraceLine};
