@@ -2,3 +2,4 @@ mod FormLemmas
 mod JudgeLemmas
 mod ScanLemmas
 mod AnswerLemmas
+mod Starts

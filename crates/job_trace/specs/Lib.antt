@@ -4,3 +4,4 @@ pub mod Rules
 pub mod TraceText
 pub mod Faults
 pub mod Steps
+pub mod Plans

@@ -4,6 +4,8 @@
 
 mod fault;
 mod form;
+mod plan_fault;
+mod planning;
 mod ranges;
 mod reading;
 mod rules;
@@ -11,5 +13,7 @@ mod trace;
 mod words;
 
 pub use fault::TraceFault;
+pub use plan_fault::PlanFault;
+pub use planning::plan;
 pub use reading::read_trace;
 pub use trace::{Numbered, Trace, TraceLine};

@@ -62,6 +62,7 @@ impl Trace {
         ensures lines { result.now ≡ self.now }
         ensures whole { 2 ≤ length result.now }
         ensures rules { MayAllFollow [] result.now }
+        ensures few { length result.now ≤ u32.MAX }
     {
         self.lines.as_slice()
     }
