@@ -3,3 +3,4 @@ mod JudgeLemmas
 mod ScanLemmas
 mod AnswerLemmas
 mod Starts
+mod FitsLemmas

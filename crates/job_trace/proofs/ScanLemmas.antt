@@ -8,7 +8,7 @@ use Rattle.job_trace.specs.declared.trace.TraceLine.{TraceLine}
 use Rattle.job_trace.specs.declared.trace.Numbered.{Numbered}
 use Rattle.job_trace.specs.Words.{words, is_skipped}
 use Rattle.job_trace.specs.Forms.{SpellsLine}
-use Rattle.job_trace.specs.Rules.{MayFollow, MayAllFollow}
+use Rattle.job_trace.specs.Rules.{HasSpelling, MayFollow, MayAllFollow}
 use Rattle.job_trace.specs.Faults.{Fails, FailsAs, fails_short, fails_here, fails_behind_skipped, fails_behind_line}
 use Rattle.job_trace.specs.TraceText.{Reads, reads_nothing, reads_skipped, reads_line, numbered}
 use Rattle.job_trace.specs.Steps.{added, judged, on_ok, scan}
@@ -87,11 +87,11 @@ scan-fails front number lines fault (fails_behind_line ahead line {rest = rest} 
     (scan-fails (ahead ++ numbered number form ∷ []) (number + 1) rest fault fails)
 
 -- one line more keeps the rules
-all-push : (front rest : List Numbered) (n : Numbered) → MayAllFollow front rest → MayFollow (front ++ rest) n.line →
+all-push : (front rest : List Numbered) (n : Numbered) → MayAllFollow front rest → HasSpelling n.line → MayFollow (front ++ rest) n.line →
     MayAllFollow front (rest ++ n ∷ [])
-all-push front [] n all may = (subst (λ (ns : List Numbered). MayFollow ns n.line) (append-nil front) may, tt)
-all-push front (m ∷ rest) n (first, all) may =
-    (first, all-push (front ++ m ∷ []) rest n all (subst (λ (ns : List Numbered). MayFollow ns n.line) (sym (append_assoc front (m ∷ []) rest)) may))
+all-push front [] n all spelling may = (spelling, subst (λ (ns : List Numbered). MayFollow ns n.line) (append-nil front) may, tt)
+all-push front (m ∷ rest) n (spelt, first, all) spelling may =
+    (spelt, first, all-push (front ++ m ∷ []) rest n all spelling (subst (λ (ns : List Numbered). MayFollow ns n.line) (sym (append_assoc front (m ∷ []) rest)) may))
 
 pub added-rules : (front : List Numbered) (number : ℕ) (line : List (List ℕ)) (next : List Numbered) →
     added front number line ≡ Ok next → MayAllFollow [] front → MayAllFollow [] next
@@ -100,7 +100,7 @@ added-rules front number line next e all = by (is_skipped line) e
   where
     says : (r : Result TraceLine TraceFault) → IsVerdict front number line r →
         on_ok r (λ form. Ok (front ++ numbered number form ∷ [])) ≡ Ok next → MayAllFollow [] next
-    says (Ok form) (spells, may) e = subst (MayAllFollow []) (ok-same e) (all-push [] front (numbered number form) all may)
+    says (Ok form) (spells, may) e = subst (MayAllFollow []) (ok-same e) (all-push [] front (numbered number form) all (line, spells) may)
     says (Err fault) breaks e = cc
 
     by : (b : Bool) → cond b (Ok front) (on_ok (judged front number line) (λ form. Ok (front ++ numbered number form ∷ []))) ≡ Ok next →

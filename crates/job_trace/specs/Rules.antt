@@ -7,6 +7,7 @@ use Rattle.round_model.specs.declared.plan.Burst.{Burst}
 use Rattle.job_trace.specs.declared.trace.TraceLine.{TraceLine}
 use Rattle.job_trace.specs.declared.trace.TraceLine.TheVariants.{Cores, Rounds, Thread}
 use Rattle.job_trace.specs.declared.trace.Numbered.{Numbered}
+use Rattle.job_trace.specs.Forms.{SpellsLine}
 
 abbrev pub is_cores : TraceLine → Bool
 is_cores (Cores number) = true
@@ -86,7 +87,11 @@ pub record MayFollow (before : List Numbered) (line : TraceLine) : Type 0 where
   pub within : first_passed (measures (cores_of before) line) ≡ None
   pub once : is_given before line ≡ false
 
--- each line may follow those before it and that front
+-- some words spell the line
+abbrev pub HasSpelling : TraceLine → Type 0
+HasSpelling line = (words : List (List ℕ)) × SpellsLine words line
+
+-- each line has a spelling, and may follow those before it and that front
 abbrev pub MayAllFollow : List Numbered → List Numbered → Type 0
 MayAllFollow front [] = Unit {0}
-MayAllFollow front (n ∷ rest) = MayFollow front n.line × MayAllFollow (front ++ n ∷ []) rest
+MayAllFollow front (n ∷ rest) = HasSpelling n.line × MayFollow front n.line × MayAllFollow (front ++ n ∷ []) rest
