@@ -1,9 +1,9 @@
 //! Numbers in decimal.
 
-ghost use Rattle.std.specs.Prelude.{◌≡◌, ◌≤◌, IsTrue, length};
+ghost use Rattle.std.specs.Prelude.{◌≡◌, ◌≢◌, ℕ, ◌^◌, ◌<◌, ◌≤◌, IsTrue, MatchOption, decimal, length};
 ghost use Rattle.std.specs.Char.{is_ascii_digit};
 ghost use Rattle.std.specs.List.{list_all};
-ghost use Rattle.text_forms.specs.Numbers.{is_decimal, number_in, number_of};
+ghost use Rattle.text_forms.specs.Numbers.{is_decimal, is_padded, number_in, number_of};
 
 /// The most digits of a number, leading zeros counted.
 pub const MAX_DIGITS: usize = 19;
@@ -16,6 +16,30 @@ pub fn number_in(word: &[u8]) -> Option<u64>
         Some(number_of(word))
     } else {
         None
+    }
+}
+
+/// The number of which the word is the one spelling without leading zeros, where it is at most the limit.
+pub fn exact_number_in(word: &[u8], limit: u64) -> Option<u64>
+    requires { limit < 10 ^ MAX_DIGITS }
+    ensures { MatchOption result
+        ((number : ℕ) → number ≤ limit → word.now ≢ decimal number)
+        (λ number. (number ≤ limit) × (word.now ≡ decimal number)) }
+{
+    let number = number_in(word)?;
+    if is_padded(word) {
+        return None;
+    }
+    if number > limit { None } else { Some(number) }
+}
+
+/// Whether a zero leads and more follows.
+fn is_padded(word: &[u8]) -> bool
+    ensures { result ≡ is_padded word.now }
+{
+    match word {
+        [first, _second, ..] => *first == b'0',
+        _ => false,
     }
 }
 

@@ -1,4 +1,4 @@
-use Rattle.std.proofs.Common.{◌≡◌, List, ℕ, [], ◌∷◌, ap, sym, ◌∙◌, take, drop, refl, arith}
+use Rattle.std.proofs.Common.{ap, ◌∙◌, drop, arith}
 use Rattle.std.proofs.lemmas.Bool.Decides.{nat_tests}
 use Rattle.std.proofs.lemmas.List.{nil_from_length}
 use Rattle.text_forms.proofs.TextLemmas.{words-none, words-first}
