@@ -1,5 +1,5 @@
 -- Why the answer to a text is the only one.
-use Rattle.std.proofs.Common.{◌≡◌, ◌∙◌, ℕ, List, [], Result, Ok, Err, sym, subst}
+use Rattle.std.proofs.Common.{◌≡◌, ℕ, List, [], Result, Ok, Err, subst}
 use Rattle.std.specs.Prelude.{IfOk, IfErr}
 use Rattle.text_forms.specs.Lines.{lines_of}
 use Rattle.job_trace.specs.declared.fault.TraceFault.{TraceFault}

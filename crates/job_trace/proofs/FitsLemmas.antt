@@ -1,6 +1,6 @@
 -- The plan that a trace means fits the policy.
-use Rattle.std.proofs.Common.{◌≡◌, ◌≢◌, ◌∙◌, ℕ, zero, suc, ◌+◌, ◌-◌, ◌<◌, ◌≤◌, Bool, true, false, cond, ◌||◌, List, [], ◌∷◌, ◌++◌, length, get_or, map, take, Some, None, Option, refl, ap, sym, subst, arith, eqb, ltb, lit≤}
-use Rattle.std.specs.Prelude.{ℤ, pos, replicate, All, AllPairs, find, filter_map}
+use Rattle.std.proofs.Common.{◌≡◌, ◌≢◌, ◌∙◌, ℕ, zero, suc, ◌+◌, ◌-◌, ◌<◌, ◌≤◌, Bool, true, false, cond, ◌||◌, List, [], ◌∷◌, ◌++◌, length, map, Some, None, Option, refl, ap, sym, subst, arith, eqb, ltb, lit≤}
+use Rattle.std.specs.Prelude.{ℤ, pos, replicate, All, AllPairs}
 use Rattle.std.specs.List.{AllZip, IsDistinct, AllByRecursion, cons_option, list_any}
 use Rattle.std.specs.Option.{option_or}
 use Rattle.std.proofs.lemmas.Bool.{eq-eqb, eqb-false, eqb-true, ne_eqb}
@@ -10,13 +10,13 @@ use Rattle.std.proofs.lemmas.List.Elements.{All-replicate, All-from_recursion, r
 use Rattle.std.proofs.lemmas.List.Folds.{list_any-append}
 use Rattle.std.proofs.lemmas.Map.Keys.{IsDistinct-cons, apart_from_distinct}
 use Rattle.std.proofs.lemmas.Map.Steps.{length-le_from_distinct_below}
-use Rattle.sched_base.specs.declared.limits.TheConstants.{MAX_ATTRIBUTES, MAX_BURSTS, MAX_CORES, MAX_ENTRIES, MAX_ROUNDS, MAX_THREADS, MAX_UNITS}
+use Rattle.sched_base.specs.declared.limits.TheConstants.{MAX_ATTRIBUTES, MAX_BURSTS, MAX_CORES, MAX_ROUNDS, MAX_THREADS, MAX_UNITS}
 use Rattle.policy_tree.specs.declared.typed.Attr.{Attr}
 use Rattle.policy_tree.specs.declared.typed.Load.{Load}
 use Rattle.policy_tree.specs.declared.typed.Load.TheVariants as load
 use Rattle.policy_tree.specs.Meaning.{Meaning}
 use Rattle.policy_eval.specs.Fitting.{IsWeight}
-use Rattle.policy_eval.specs.Ranges.{AreIn, IsIn, Range, attribute_ranges, declared_range, greatest_weight, least_weight, range}
+use Rattle.policy_eval.specs.Ranges.{AreIn, IsIn, attribute_ranges, declared_range, greatest_weight, least_weight, range}
 use Rattle.policy_eval.specs.Resolved.{AreAttributes, IsAttribute, IsResolved}
 use Rattle.round_model.specs.declared.plan.Burst.{Burst}
 use Rattle.round_model.specs.declared.plan.Plan.{Plan}
@@ -26,8 +26,8 @@ use Rattle.round_model.specs.Programs.{start_of}
 use Rattle.job_trace.specs.declared.trace.TraceLine.{TraceLine}
 use Rattle.job_trace.specs.declared.trace.TraceLine.TheVariants.{Cores, Rounds, Thread}
 use Rattle.job_trace.specs.declared.trace.Numbered.{Numbered}
-use Rattle.job_trace.specs.Forms.{SpellsLine, SpellsProgram, run_end, run_forever, thread_line}
-use Rattle.job_trace.specs.Rules.{HasSpelling, Measure, MayAllFollow, MayFollow, burst_measure, cores_in, cores_of, first_passed, gives_same, is_given, measure, measures, passed_end}
+use Rattle.job_trace.specs.Forms.{SpellsProgram, run_end, run_forever, thread_line}
+use Rattle.job_trace.specs.Rules.{HasSpelling, KeepsRules, Measure, MayAllFollow, MayFollow, burst_measure, cores_in, cores_of, first_passed, gives_same, is_given, measure, passed_end}
 use Rattle.job_trace.specs.Plans.{SpellsPlan, counted_weight, first_foreign, has_foreign_weight, is_foreign, plan_of, rounds_in, rounds_of, starts, thread_of, threads_of, weighed}
 
 -- no measure of a list is out of its range
@@ -297,9 +297,8 @@ plan_of-fits p n m rest resolved (spelt, may, all) allowed =
       one_order_each = λ i j d order inside. absurd (omega (arith, inside));
     }
 
-pub plan-fits : (p : Meaning) (trace : List Numbered) (plan : Plan) → IsResolved p → 2 ≤ length trace → MayAllFollow [] trace →
-    SpellsPlan p trace plan → Fits p plan
-plan-fits p [] plan resolved whole all spells = absurd (omega (arith, whole))
-plan-fits p (n ∷ []) plan resolved whole all spells = absurd (omega (arith, whole))
-plan-fits p (n ∷ m ∷ rest) plan resolved whole all spells =
-    subst (λ q. Fits p q) (sym spells.is) (plan_of-fits p n m rest resolved all spells.weights)
+pub plan-fits : (p : Meaning) (trace : List Numbered) (plan : Plan) → IsResolved p → KeepsRules trace → SpellsPlan p trace plan → Fits p plan
+plan-fits p [] plan resolved keeps spells = absurd (omega (arith, keeps.whole))
+plan-fits p (n ∷ []) plan resolved keeps spells = absurd (omega (arith, keeps.whole))
+plan-fits p (n ∷ m ∷ rest) plan resolved keeps spells =
+    subst (λ q. Fits p q) (sym spells.is) (plan_of-fits p n m rest resolved keeps.each spells.weights)

@@ -1,5 +1,5 @@
 -- The form of a line is the one that its words spell.
-use Rattle.std.proofs.Common.{◌≡◌, ◌∙◌, ◌||◌, ◌&&◌, ℕ, Bool, true, false, cond, List, [], ◌∷◌, Option, Some, None, codes, eqb, arith, refl, ap, sym, subst, inl, inr, ◌⊎◌}
+use Rattle.std.proofs.Common.{◌≡◌, ◌∙◌, ◌&&◌, ℕ, Bool, true, false, cond, List, [], ◌∷◌, Option, Some, None, codes, eqb, arith, refl, ap, sym, subst}
 use Rattle.std.specs.Char.{is_ascii_digit}
 use Rattle.std.specs.List.{list_any}
 use Rattle.std.specs.Str.{bytes_eq}
@@ -8,10 +8,9 @@ use Rattle.std.specs.Option.{option_or}
 use Rattle.std.proofs.lemmas.Bool.Decides.{nat_tests}
 use Rattle.std.proofs.lemmas.Slice.Eq.{bytes_eq-Decides}
 use Rattle.round_model.specs.declared.plan.Burst.{Burst}
-use Rattle.round_model.specs.declared.plan.Ending.TheVariants as ending
 use Rattle.text_forms.specs.Numbers.{number_in, number_of}
 use Rattle.job_trace.specs.declared.trace.TraceLine.{TraceLine}
-use Rattle.job_trace.specs.declared.trace.TraceLine.TheVariants.{Cores, Rounds, Thread}
+use Rattle.job_trace.specs.declared.trace.TraceLine.TheVariants.{Cores, Rounds}
 use Rattle.job_trace.specs.Words.{is_late_part, is_unbuilt}
 use Rattle.job_trace.specs.Forms.{SpellsLine, SpellsNumber, SpellsProgram, cores_line, rounds_line, run_end, run_forever, thread_line}
 use Rattle.job_trace.specs.Steps.{Found, alone, behind, form_of, number_alone, number_behind, number_first, over, program_in, run_of, thread_in, thread_with, with_rest}

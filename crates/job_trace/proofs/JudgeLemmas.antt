@@ -1,8 +1,8 @@
 -- What is answered to one line is what its words are.
-use Rattle.std.proofs.Common.{◌≡◌, ◌∙◌, ℕ, Bool, true, false, cond, List, [], ◌∷◌, ◌++◌, Option, Some, None, Result, Ok, Err, refl, ap, sym, subst}
+use Rattle.std.proofs.Common.{◌≡◌, ◌∙◌, ℕ, Bool, true, false, cond, List, Option, Some, None, Result, Ok, Err, refl, sym}
 use Rattle.std.specs.Prelude.{ℤ}
 use Rattle.job_trace.specs.declared.fault.TraceFault.{TraceFault}
-use Rattle.job_trace.specs.declared.fault.TraceFault.TheVariants.{BadLine, Limit, Twice, Memory, NotBuilt}
+use Rattle.job_trace.specs.declared.fault.TraceFault.TheVariants.{BadLine, Twice, NotBuilt}
 use Rattle.job_trace.specs.declared.trace.TraceLine.{TraceLine}
 use Rattle.job_trace.specs.declared.trace.Numbered.{Numbered}
 use Rattle.job_trace.specs.Words.{is_unbuilt}

@@ -56,3 +56,11 @@ FailsAs answer (NotBuilt line) = answer ≡ Err (NotBuilt line)
 abbrev pub IsUnlessMemory : {X : Type 0} → Result X TraceFault → Result X TraceFault → Type 0
 IsUnlessMemory answer (Ok x) = answer ≡ Ok x
 IsUnlessMemory answer (Err fault) = FailsAs answer fault
+
+-- what meets this is the answer, unless memory is wanting
+abbrev pub MustGive : {X : Type 0} → (X → Type 0) → Result X TraceFault → Type 0
+MustGive {X} P result = (x : X) → P x → IsUnlessMemory (Ok x) result
+
+-- a fault that meets this is the answer, unless memory is wanting
+abbrev pub MustRefuse : {X : Type 0} → (TraceFault → Type 0) → Result X TraceFault → Type 0
+MustRefuse P result = (fault : TraceFault) → P fault → IsUnlessMemory (Err fault) result

@@ -1,5 +1,5 @@
 -- The plan that a trace means under a policy.
-use Rattle.std.specs.Prelude.{◌≡◌, ℕ, ℤ, pos, ◌-◌, Bool, true, false, ◌||◌, List, [], ◌∷◌, ◌++◌, length, map, replicate, take, find, filter_map, Option, Some, None, IsSomeAnd, Result, Ok, Err, nat_lt}
+use Rattle.std.specs.Prelude.{◌≡◌, ℕ, ℤ, pos, ◌-◌, Bool, false, ◌||◌, List, [], ◌∷◌, ◌++◌, length, map, replicate, take, find, filter_map, Option, Some, None, IsSomeAnd, Result, Ok, Err, nat_lt}
 use Rattle.sched_base.specs.declared.limits.TheConstants.{DEFAULT_ENTRIES, MAX_ATTRIBUTES}
 use Rattle.policy_tree.specs.declared.typed.Attr.{Attr}
 use Rattle.policy_tree.specs.declared.typed.Load.{Load}
@@ -100,7 +100,18 @@ IsPlannedUnlessMemory answer (Err (ConstRange line)) = answer ≡ Err (ConstRang
 IsPlannedUnlessMemory answer (Err (ConstName line)) = answer ≡ Err (ConstName line)
 IsPlannedUnlessMemory answer (Err Memory) = Unit {0}
 
--- the threads, where no line is foreign
+-- a plan that meets this is the answer, unless memory is wanting
+abbrev pub MustPlan : (Plan → Type 0) → Result Plan PlanFault → Type 0
+MustPlan P result = (plan : Plan) → P plan → IsPlannedUnlessMemory (Ok plan) result
+
+-- a fault that meets this is the answer, unless memory is wanting
+abbrev pub MustRefusePlan : (PlanFault → Type 0) → Result Plan PlanFault → Type 0
+MustRefusePlan P result = (fault : PlanFault) → P fault → IsPlannedUnlessMemory (Err fault) result
+
 abbrev pub unless_foreign : Option Numbered → List Planned → Result (List Planned) PlanFault
 unless_foreign None threads = Ok threads
 unless_foreign (Some n) threads = Err (WeightRange n.number)
+
+-- the threads, or the first line whose weight isn't allowed
+abbrev pub allowed_threads : Load → List Numbered → Result (List Planned) PlanFault
+allowed_threads l trace = unless_foreign (first_foreign l trace) (threads_of l trace)

@@ -1,5 +1,5 @@
 -- The rules that a line of a trace keeps behind the lines before it.
-use Rattle.std.specs.Prelude.{◌≡◌, ℕ, ℤ, pos, ◌-◌, ◌==◌, Bool, true, false, IsTrue, List, [], ◌∷◌, ◌++◌, map, Option, Some, None, nat_lt, if◌then◌else◌}
+use Rattle.std.specs.Prelude.{◌≡◌, ℕ, ℤ, pos, ◌-◌, ◌==◌, Bool, true, false, ◌≤◌, List, [], ◌∷◌, ◌++◌, length, map, Option, Some, None, nat_lt, if◌then◌else◌}
 use Rattle.std.specs.List.{list_any}
 use Rattle.std.specs.Option.{option_or}
 use Rattle.sched_base.specs.declared.limits.TheConstants.{MAX_CORES, MAX_ROUNDS, MAX_THREADS, MAX_UNITS}
@@ -95,3 +95,8 @@ HasSpelling line = (words : List (List ℕ)) × SpellsLine words line
 abbrev pub MayAllFollow : List Numbered → List Numbered → Type 0
 MayAllFollow front [] = Unit {0}
 MayAllFollow front (n ∷ rest) = HasSpelling n.line × MayFollow front n.line × MayAllFollow (front ++ n ∷ []) rest
+
+-- the lines are a whole trace: no line breaks a rule, and cores and rounds are among them
+pub record KeepsRules (trace : List Numbered) : Type 0 where
+  pub whole : 2 ≤ length trace
+  pub each : MayAllFollow [] trace

@@ -1,12 +1,12 @@
 -- What reading does, one line after the other. The public contracts speak of it nowhere.
-use Rattle.std.specs.Prelude.{◌≡◌, ℕ, ℤ, ◌+◌, Bool, true, false, List, [], ◌∷◌, ◌++◌, length, Option, Some, None, option_and_then, option_map, Result, Ok, Err, codes, nat_lt, if◌then◌else◌}
+use Rattle.std.specs.Prelude.{ℕ, ℤ, ◌+◌, Bool, true, false, List, [], ◌∷◌, ◌++◌, length, Option, Some, None, option_and_then, option_map, Result, Ok, Err, codes, nat_lt, if◌then◌else◌}
 use Rattle.std.specs.Option.{option_or}
 use Rattle.std.specs.Str.{bytes_eq}
 use Rattle.round_model.specs.declared.plan.Burst.{Burst}
 use Rattle.round_model.specs.declared.plan.Ending.TheVariants as ending
 use Rattle.text_forms.specs.Numbers.{number_in}
 use Rattle.job_trace.specs.declared.fault.TraceFault.{TraceFault}
-use Rattle.job_trace.specs.declared.fault.TraceFault.TheVariants.{BadLine, Limit, Twice, Memory, NotBuilt}
+use Rattle.job_trace.specs.declared.fault.TraceFault.TheVariants.{BadLine, Limit, Twice, NotBuilt}
 use Rattle.job_trace.specs.declared.form.Form.{Form}
 use Rattle.job_trace.specs.declared.form.Form.TheVariants as form
 use Rattle.job_trace.specs.declared.form.Program.{Program}

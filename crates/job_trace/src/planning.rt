@@ -7,7 +7,7 @@ ghost use Rattle.round_model.specs.Fits.{Fits};
 ghost use Rattle.policy_eval.specs.Resolved.{IsResolved};
 ghost use Rattle.policy_tree.specs.Meaning.{meaning_of};
 ghost use Rattle.job_trace.specs.declared.plan_fault.PlanFault.{PlanFault};
-ghost use Rattle.job_trace.specs.Plans.{IsForeign, IsPlanFault, IsPlannedUnlessMemory, SpellsPlan, counted_weight, first_foreign, has_foreign_weight, is_foreign, rounds_in, rounds_of, starts, thread_of, threads_of, unless_foreign, weighed};
+ghost use Rattle.job_trace.specs.Plans.{IsForeign, IsPlanFault, IsPlannedUnlessMemory, MustPlan, MustRefusePlan, SpellsPlan, counted_weight, first_foreign, has_foreign_weight, is_foreign, rounds_in, rounds_of, starts, thread_of, threads_of, allowed_threads, weighed};
 
 use crate::plan_fault::PlanFault;
 use crate::rules::cores_of;
@@ -24,8 +24,8 @@ pub fn plan(alloc: Global, trace: &Trace, policy: &Policy) -> Result<Plan, PlanF
     ensures fault { IfErr result (IsPlanFault (meaning_of policy.now) trace.now) }
 
     // A trace that means a plan isn't refused, and one that doesn't fit is refused for its first line that doesn't.
-    ensures makes { (plan : Plan) → SpellsPlan (meaning_of policy.now) trace.now plan → IsPlannedUnlessMemory (Ok plan) result }
-    ensures refuses { (fault : PlanFault) → IsForeign (meaning_of policy.now) trace.now fault → IsPlannedUnlessMemory (Err fault) result }
+    ensures makes { MustPlan (SpellsPlan (meaning_of policy.now) trace.now) result }
+    ensures refuses { MustRefusePlan (IsForeign (meaning_of policy.now) trace.now) result }
 {
     let lines = trace.lines();
     let cores = cores_of(lines);
@@ -44,7 +44,7 @@ pub fn plan(alloc: Global, trace: &Trace, policy: &Policy) -> Result<Plan, PlanF
 /// The threads of the lines, where the load allows all their weights.
 fn threads_of(alloc: Global, lines: &[Numbered], load: Load) -> Result<PlannedList, PlanFault>
     requires { length lines.now < 2 ^ 32 }
-    ensures { IsPlannedUnlessMemory (unless_foreign (first_foreign load lines.now) (threads_of load lines.now)) result }
+    ensures { IsPlannedUnlessMemory (allowed_threads load lines.now) result }
 {
     let mut threads = Vec::new(alloc);
     for numbered in lines {
@@ -63,7 +63,8 @@ fn add_thread(
     load: Load,
     line: &TraceLine,
 ) -> Result<(), PlanFault>
-    ensures adds { OnOk result (threads.new.items ≡ threads.old.items ++ option_to_list (thread_of load line.now)) }
+    ensures adds { OnOk result
+        (threads.new.items ≡ threads.old.items ++ option_to_list (thread_of load line.now)) }
     ensures few { vec_len threads.new ≤ vec_len threads.old + 1 }
     ensures memory { IfErr result (λ fault. fault ≡ PlanFault.Memory) }
 {

@@ -5,7 +5,7 @@ ghost use Rattle.text_forms.specs.Lines.{lines_of};
 ghost use Rattle.job_trace.specs.declared.fault.TraceFault.{TraceFault};
 ghost use Rattle.job_trace.specs.declared.trace.Numbered.{Numbered};
 ghost use Rattle.job_trace.specs.Words.{words};
-ghost use Rattle.job_trace.specs.Faults.{FailsAs, IsBroken, IsFault, IsUnlessMemory};
+ghost use Rattle.job_trace.specs.Faults.{FailsAs, IsBroken, IsFault, IsUnlessMemory, MustGive, MustRefuse};
 ghost use Rattle.job_trace.specs.Steps.{added, formed, judged, scan};
 ghost use Rattle.job_trace.specs.TraceText.{SpellsTrace};
 
@@ -26,8 +26,8 @@ pub fn read_trace(alloc: Global, text: &[u8]) -> Result<Trace, TraceFault>
     ensures fault { IfErr result (IsFault text.now) }
 
     // A text that spells a trace isn't refused, and one with a fault is refused for the first one.
-    ensures reads { (trace : List Numbered) → SpellsTrace text.now trace → IsUnlessMemory (Ok trace) result }
-    ensures refuses { (fault : TraceFault) → IsBroken text.now fault → IsUnlessMemory (Err fault) result }
+    ensures reads { MustGive (SpellsTrace text.now) result }
+    ensures refuses { MustRefuse (IsBroken text.now) result }
 {
     read(alloc, text)
 }

@@ -1,6 +1,6 @@
 //! A trace: its lines in their order, each with its number.
 
-ghost use Rattle.std.specs.Prelude.{◌≡◌, ◌≤◌, List, length};
+ghost use Rattle.std.specs.Prelude.{◌≡◌, ◌≤◌, length};
 
 use lists::Items;
 use round_model::Planned;
@@ -33,25 +33,23 @@ pub struct Trace {
 }
 
 impl Model for Trace {
-    ghost use Rattle.std.specs.Prelude.{◌≤◌, List, [], length};
+    ghost use Rattle.std.specs.Prelude.{List};
     ghost use Rattle.job_trace.specs.declared.trace.Numbered.{Numbered};
-    ghost use Rattle.job_trace.specs.Rules.{MayAllFollow};
+    ghost use Rattle.job_trace.specs.Rules.{KeepsRules};
 
     ghost Value = { List Numbered };
 
     ghost view = { λ trace. trace.lines };
 
-    ghost invariant = { λ trace. (2 ≤ length trace.lines) × MayAllFollow [] trace.lines };
+    ghost invariant = { λ trace. KeepsRules trace.lines };
 }
 
 impl Trace {
-    ghost use Rattle.job_trace.specs.Rules.{MayAllFollow};
-    ghost use Rattle.std.specs.Prelude.{[]};
+    ghost use Rattle.job_trace.specs.Rules.{KeepsRules};
 
     /// The trace of these lines.
     pub(crate) fn from_lines(lines: Items<Numbered>) -> Trace
-        requires whole { 2 ≤ length lines }
-        requires rules { MayAllFollow [] lines }
+        requires { KeepsRules lines }
         ensures { result ≡ lines }
     {
         Trace { lines }
@@ -60,8 +58,7 @@ impl Trace {
     /// The lines in their order.
     pub fn lines(&self) -> &[Numbered]
         ensures lines { result.now ≡ self.now }
-        ensures whole { 2 ≤ length result.now }
-        ensures rules { MayAllFollow [] result.now }
+        ensures rules { KeepsRules result.now }
         ensures few { length result.now ≤ u32.MAX }
     {
         self.lines.as_slice()

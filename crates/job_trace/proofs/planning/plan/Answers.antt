@@ -1,9 +1,9 @@
-use Rattle.std.proofs.Common.{◌≤◌, List, [], length, rules, subst}
+use Rattle.std.proofs.Common.{List, rules, subst}
 use Rattle.policy_tree.specs.Meaning.{meaning_of}
 use Rattle.round_model.specs.declared.plan.Plan.{Plan}
 use Rattle.sched_base.specs.declared.limits.TheConstants.{DEFAULT_ENTRIES}
 use Rattle.job_trace.specs.declared.trace.Numbered.{Numbered}
-use Rattle.job_trace.specs.Rules.{MayAllFollow}
+use Rattle.job_trace.specs.Rules.{KeepsRules}
 use Rattle.job_trace.specs.Plans.{SpellsPlan}
 use Rattle.job_trace.proofs.FitsLemmas.{plan-fits}
 use Rattle.job_trace.proofs.planning.plan.Goals as goal
@@ -20,5 +20,4 @@ returns-clause-fits c = λ resolved.
     } in
     let spells : SpellsPlan (meaning_of c.args.policy.now) c.args.trace.now plan = search rules in
     plan-fits (meaning_of c.args.policy.now) c.args.trace.now plan resolved
-    (subst (λ (lines : List Numbered). 2 ≤ length lines) c.lines-lines.ensures.lines c.lines-lines.ensures.whole)
-    (subst (MayAllFollow []) c.lines-lines.ensures.lines c.lines-lines.ensures.rules) spells
+    (subst (λ (lines : List Numbered). KeepsRules lines) c.lines-lines.ensures.lines c.lines-lines.ensures.rules) spells

@@ -1,8 +1,7 @@
-use Rattle.std.proofs.Common.{◌≡◌, ◌∙◌, ap, get_or, sym, arith, rules, to_z, of_z, FitsSigned}
+use Rattle.std.proofs.Common.{◌∙◌, ap, sym, rules, FitsSigned}
 use Rattle.std.specs.Int.{w32}
 use Rattle.std.proofs.lemmas.Int.{to_z-of_z}
 use Rattle.policy_tree.specs.declared.typed.Attr.{Attr}
-use Rattle.round_model.specs.Programs.{start_of}
 use Rattle.job_trace.proofs.Starts.{starts-declared, starts-past}
 use Rattle.job_trace.proofs.planning.start_at.Goals as goal
 
