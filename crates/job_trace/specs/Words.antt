@@ -3,11 +3,13 @@ use Rattle.std.specs.Prelude.{ℕ, ◌==◌, Bool, true, false, ◌||◌, List, 
 use Rattle.std.specs.List.{list_any}
 use Rattle.std.specs.Str.{bytes_eq}
 use Rattle.text_forms.specs.Words.{words_of}
-use Rattle.job_trace.specs.declared.words.TheConstants.{BLANKS}
 
--- spaces, tabs and carriage returns part words
+-- a space, a tab and a carriage return
+abbrev pub blanks : List ℕ
+blanks = 32 ∷ 9 ∷ 13 ∷ []
+
 unfoldable pub words : List ℕ → List (List ℕ)
-words line = words_of BLANKS line
+words line = words_of blanks line
 
 abbrev pub begins_comment : List ℕ → Bool
 begins_comment [] = false
