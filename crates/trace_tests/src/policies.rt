@@ -1,12 +1,17 @@
 //! Policies that differ in their load and in their attributes of cores.
 
+ghost use Rattle.std.specs.Prelude.{◌≤◌, length};
+
 use policy_tree::{
     Attr, AttrList, CaseList, Cond, HandlerList, Load, Name, Order, PlaceRule, Policy,
 };
+use sched_base::MAX_ATTRIBUTES;
 use std::alloc::{AllocError, Global};
 
 /// The policy that always steals, with this load and an attribute of cores for each start.
-pub fn policy(alloc: Global, load: Load, starts: &[i32]) -> Result<Policy, AllocError> {
+pub fn policy(alloc: Global, load: Load, starts: &[i32]) -> Result<Policy, AllocError>
+    requires { length starts.now ≤ MAX_ATTRIBUTES }
+{
     let core_attrs = attributes(alloc, starts)?;
     let name = Name::from_vec(Vec::from_slice(alloc, b"always")?);
     Ok(Policy {
@@ -28,9 +33,11 @@ pub fn policy(alloc: Global, load: Load, starts: &[i32]) -> Result<Policy, Alloc
     })
 }
 
-fn attributes(alloc: Global, starts: &[i32]) -> Result<AttrList, AllocError> {
+fn attributes(alloc: Global, starts: &[i32]) -> Result<AttrList, AllocError>
+    requires { length starts.now ≤ MAX_ATTRIBUTES }
+{
     let mut attrs = Vec::new(alloc);
-    for start in starts.iter().take(100) {
+    for start in starts {
         let name = Name::from_vec(Vec::from_slice(alloc, b"size")?);
         let attr = Attr {
             name,

@@ -51,7 +51,10 @@ fn lines_of_no_form(rt: HostRuntime) -> Result<(), Fail> {
         ("cores\u{a0}2\n", 1),
         ("cores 2\nrounds 1\n\nthread 1 core 0 round 1\n", 4),
         ("cores 2\nrounds 1\nthread 1 core 0 round 1 run\n", 3),
-        ("cores 2\nrounds 1\nthread 1 core 0 round 1 run 1 run 1\n", 3),
+        (
+            "cores 2\nrounds 1\nthread 1 core 0 round 1 run 1 run 1\n",
+            3,
+        ),
         ("cores 2\nrounds 1\nthread 1 core 0 round 1 forever 1\n", 3),
         (
             "cores 2\nrounds 1\nthread 1 core 0 round 1 forever forever\n",
@@ -66,7 +69,10 @@ fn lines_of_no_form(rt: HostRuntime) -> Result<(), Fail> {
             "cores 1\nrounds 10\nthread 1 core 0 round 1 run 99999999999999999999\n",
             3,
         ),
-        ("cores 2\nrounds 1\nwalk\nthread 0 core 0 round 1 forever\n", 3),
+        (
+            "cores 2\nrounds 1\nwalk\nthread 0 core 0 round 1 forever\n",
+            3,
+        ),
     ];
     for (text, line) in cases {
         assert_eq!(rt;
@@ -262,7 +268,9 @@ fn plan_text(alloc: Global, plan: &Plan) -> Result<String, AllocError> {
         ..
     } = plan;
     let orders = plan.orders.len();
-    let mut text = format!(in alloc; "{cores} cores {rounds} rounds {limit} entries {orders} orders")?;
+    let mut text = format!(in alloc;
+        "{cores} cores {rounds} rounds {limit} entries {orders} orders"
+    )?;
     for of_core in plan.consts.as_slice() {
         let [first, second, .., last] = of_core;
         text.push_str(&format!(in alloc; " ({first} {second} {last})")?)?;
@@ -319,8 +327,10 @@ fn plans_of_the_worked_traces(rt: HostRuntime) -> Result<(), Fail> {
 #[test]
 fn weights_under_loads(rt: HostRuntime) -> Result<(), Fail> {
     let alloc = rt.alloc();
-    let text = b"cores 1\nrounds 1\n\nthread 3 core 0 round 1 run 2\nthread 1 core 0 round 1 run 2\n";
-    let read = "1 cores 1 rounds 8192 entries 0 orders (0 0 0); 3 at 0 in 1 weighs 1 run 2; 1 at 0 in 1 weighs 1 run 2";
+    let text =
+        b"cores 1\nrounds 1\n\nthread 3 core 0 round 1 run 2\nthread 1 core 0 round 1 run 2\n";
+    let read =
+        "1 cores 1 rounds 8192 entries 0 orders (0 0 0); 3 at 0 in 1 weighs 1 run 2; 1 at 0 in 1 weighs 1 run 2";
     let cases = [
         (Load::Count, read),
         (Load::Weight { lo: 1, hi: 1 }, read),
