@@ -1,5 +1,5 @@
 -- Where a text breaks a rule of traces, and what is answered.
-use Rattle.std.specs.Prelude.{◌≡◌, ℕ, ℤ, ◌+◌, ◌<◌, true, false, List, [], ◌∷◌, ◌++◌, length, Some, None, Result, Ok, Err}
+use Rattle.std.specs.Prelude.{◌≡◌, ℕ, ℤ, ◌+◌, ◌<◌, true, false, List, [], ◌∷◌, ◌++◌, length, Some, None, Result, Ok, Err, MatchBool}
 use Rattle.text_forms.specs.Lines.{lines_of}
 use Rattle.job_trace.specs.declared.fault.TraceFault.{TraceFault}
 use Rattle.job_trace.specs.declared.fault.TraceFault.TheVariants.{BadLine, Limit, Twice, Memory, NotBuilt}
@@ -10,16 +10,19 @@ use Rattle.job_trace.specs.Forms.{SpellsLine}
 use Rattle.job_trace.specs.Rules.{MayFollow, cores_of, first_passed, is_given, may_stand, measures}
 use Rattle.job_trace.specs.TraceText.{numbered}
 
--- the words of a line break a rule behind a front of a trace. The line has that number.
-pub data Breaks (front : List Numbered) (number : ℕ) (line : List (List ℕ)) : TraceFault → Type 0 where
-  not_built : is_unbuilt line ≡ true → Breaks front number line (NotBuilt number)
-  no_form : is_unbuilt line ≡ false → ((form : TraceLine) → SpellsLine line form → ⊥) → Breaks front number line (BadLine number)
-  other_kind : is_unbuilt line ≡ false → (form : TraceLine) → SpellsLine line form →
-      may_stand front form ≡ false → Breaks front number line (BadLine number)
-  past_range : is_unbuilt line ≡ false → (form : TraceLine) → SpellsLine line form → may_stand front form ≡ true →
-      {end : ℤ} → first_passed (measures (cores_of front) form) ≡ Some end → Breaks front number line (Limit number end)
-  given_before : is_unbuilt line ≡ false → (form : TraceLine) → SpellsLine line form → may_stand front form ≡ true →
-      first_passed (measures (cores_of front) form) ≡ None → is_given front form ≡ true → Breaks front number line (Twice number)
+-- the words of a line, which has that number, break a rule behind a front of a trace: they have no form, or not the one that must
+-- stand there, or a number is out of its range, or the thing is given already, in this order
+pub data BreaksRule (front : List Numbered) (number : ℕ) (line : List (List ℕ)) : TraceFault → Type 0 where
+  no_form : ((form : TraceLine) → SpellsLine line form → ⊥) → BreaksRule front number line (BadLine number)
+  other_kind : (form : TraceLine) → SpellsLine line form → may_stand front form ≡ false → BreaksRule front number line (BadLine number)
+  past_range : (form : TraceLine) → SpellsLine line form → may_stand front form ≡ true →
+      {end : ℤ} → first_passed (measures (cores_of front) form) ≡ Some end → BreaksRule front number line (Limit number end)
+  given_before : (form : TraceLine) → SpellsLine line form → may_stand front form ≡ true →
+      first_passed (measures (cores_of front) form) ≡ None → is_given front form ≡ true → BreaksRule front number line (Twice number)
+
+-- the same, where a line that isn't built yet is told before any rule is asked
+abbrev pub Breaks : List Numbered → ℕ → List (List ℕ) → TraceFault → Type 0
+Breaks front number line fault = MatchBool (is_unbuilt line) (fault ≡ NotBuilt number) (BreaksRule front number line fault)
 
 -- lines that follow a front of a trace, the first of them with this number, break a rule, and no line before does
 pub data Fails : List Numbered → ℕ → List (List ℕ) → TraceFault → Type 0 where
