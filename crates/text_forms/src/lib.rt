@@ -2,6 +2,7 @@
 #![tactic(auto)]
 
 mod cuts;
+pub mod laws;
 mod lines;
 mod numbers;
 mod words;
