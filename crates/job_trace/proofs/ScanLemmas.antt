@@ -1,62 +1,78 @@
 -- What is answered to lines is what they are.
-use Rattle.std.proofs.Common.{◌≡◌, ◌<◌, ◌≤◌, ◌+◌, ℕ, Bool, true, false, cond, List, [], ◌∷◌, ◌++◌, length, Result, Ok, Err, refl, sym, subst, arith, ltb}
+use Rattle.std.proofs.Common.{◌≡◌, ◌<◌, ◌≤◌, ◌+◌, ℕ, Bool, true, false, cond, List, [], ◌∷◌, ◌++◌, length, Result, Ok, Err, refl, ap, sym, subst, arith, ltb}
 use Rattle.std.proofs.lemmas.Bool.Decides.{nat_tests}
 use Rattle.std.proofs.lemmas.List.{append-nil, append_assoc}
+use Rattle.text_forms.specs.Scans.{FailsFirst, Scans, fails_behind, fails_here, fails_later, scans_line, scans_nothing}
 use Rattle.job_trace.specs.declared.fault.TraceFault.{TraceFault}
 use Rattle.job_trace.specs.declared.fault.TraceFault.TheVariants.{BadLine, Limit, Twice, Memory, NotBuilt}
 use Rattle.job_trace.specs.declared.trace.TraceLine.{TraceLine}
 use Rattle.job_trace.specs.declared.trace.Numbered.{Numbered}
 use Rattle.job_trace.specs.Words.{words, is_skipped}
-use Rattle.job_trace.specs.Forms.{SpellsLine}
 use Rattle.job_trace.specs.Rules.{HasSpelling, MayFollow, MayAllFollow}
-use Rattle.job_trace.specs.Faults.{Fails, FailsAs, fails_short, fails_here, fails_behind_skipped, fails_behind_line}
-use Rattle.job_trace.specs.TraceText.{Reads, reads_nothing, reads_skipped, reads_line, numbered}
+use Rattle.job_trace.specs.Faults.{BreaksThere, FailsAs, IsShort}
+use Rattle.job_trace.specs.TraceText.{Takes, numbered, takes_line, takes_nothing}
 use Rattle.job_trace.specs.Steps.{added, judged, on_ok, scan}
 use Rattle.job_trace.proofs.JudgeLemmas.{IsVerdict, judged-verdict, judged-ok, judged-err}
 
 ok-same : {X : Type 0} {x y : X} → ◌≡◌ {A = Result X TraceFault} (Ok x) (Ok y) → x ≡ y
 ok-same e = cc
 
+-- the line is taken, or breaks that rule
+abbrev IsAdded : List Numbered → ℕ → List ℕ → Result (List Numbered) TraceFault → Type 0
+IsAdded front number line (Ok next) = Takes front number line next
+IsAdded front number line (Err fault) = BreaksThere front number line fault
+
+added-is : (front : List Numbered) (number : ℕ) (line : List ℕ) → IsAdded front number line (added front number (words line))
+unfolding added
+added-is front number line = by (is_skipped (words line)) refl
+  where
+    says : (r : Result TraceLine TraceFault) → is_skipped (words line) ≡ false → IsVerdict front number (words line) r →
+        IsAdded front number line (on_ok r (λ form. Ok (front ++ numbered number form ∷ [])))
+    says (Ok form) e (spells, may) = takes_line form e spells may
+    says (Err fault) e breaks = record { says = e; breaks = breaks }
+
+    by : (b : Bool) → is_skipped (words line) ≡ b →
+        IsAdded front number line (cond b (Ok front) (on_ok (judged front number (words line)) (λ form. Ok (front ++ numbered number form ∷ []))))
+    by true e = takes_nothing e
+    by false e = says (judged front number (words line)) e (judged-verdict front number (words line))
+
+takes-added : (front : List Numbered) (number : ℕ) (line : List ℕ) (next : List Numbered) → Takes front number line next →
+    added front number (words line) ≡ Ok next
+unfolding added
+takes-added front number line next (takes_nothing skipped) = rw skipped refl
+takes-added front number line next (takes_line form says spells may) =
+    rw (says, judged-ok front number (words line) form spells may) refl
+
+breaks-added : (front : List Numbered) (number : ℕ) (line : List ℕ) (fault : TraceFault) → BreaksThere front number line fault →
+    added front number (words line) ≡ Err fault
+unfolding added
+breaks-added front number line fault there = rw (there.says, judged-err front number (words line) fault there.breaks) refl
+
 -- the lines, behind that front, are what the answer says
 abbrev pub IsScanned : List Numbered → ℕ → List (List ℕ) → Result (List Numbered) TraceFault → Type 0
-IsScanned front number lines (Ok trace) = Reads front number lines trace × (2 ≤ length trace)
-IsScanned front number lines (Err fault) = Fails front number lines fault
+IsScanned front number lines (Ok trace) = Scans Takes front number lines trace × (2 ≤ length trace)
+IsScanned front number lines (Err fault) = FailsFirst Takes BreaksThere IsShort front number lines fault
 
-scanned-skipped : (front : List Numbered) (number : ℕ) (line : List ℕ) (rest : List (List ℕ)) (r : Result (List Numbered) TraceFault) →
-    is_skipped (words line) ≡ true → IsScanned front (number + 1) rest r → IsScanned front number (line ∷ rest) r
-scanned-skipped front number line rest (Ok trace) skipped (reads, whole) = (reads_skipped line skipped reads, whole)
-scanned-skipped front number line rest (Err fault) skipped fails = fails_behind_skipped line skipped fails
-
-scanned-line : (front : List Numbered) (number : ℕ) (line : List ℕ) (rest : List (List ℕ)) (form : TraceLine) (r : Result (List Numbered) TraceFault) →
-    is_skipped (words line) ≡ false → SpellsLine (words line) form → MayFollow front form →
-    IsScanned (front ++ numbered number form ∷ []) (number + 1) rest r → IsScanned front number (line ∷ rest) r
-scanned-line front number line rest form (Ok trace) says spells may (reads, whole) = (reads_line front line form says spells may reads, whole)
-scanned-line front number line rest form (Err fault) says spells may fails = fails_behind_line front line form says spells may fails
+scanned-later : (front next : List Numbered) (number : ℕ) (line : List ℕ) (rest : List (List ℕ)) (r : Result (List Numbered) TraceFault) →
+    Takes front number line next → IsScanned next (number + 1) rest r → IsScanned front number (line ∷ rest) r
+scanned-later front next number line rest (Ok trace) takes (scans, whole) = (scans_line line next takes scans, whole)
+scanned-later front next number line rest (Err fault) takes fails = fails_later line next takes fails
 
 pub scan-is : (front : List Numbered) (number : ℕ) (lines : List (List ℕ)) → IsScanned front number lines (scan front number lines)
-unfolding scan added
+unfolding scan
 scan-is front number [] = by (ltb (length front) 2) refl
   where
     by : (b : Bool) → ltb (length front) 2 ≡ b → IsScanned front number [] (cond b (Err (BadLine number)) (Ok front))
-    by true e = fails_short (grind (arith, nat_tests))
-    by false e = (reads_nothing, grind (arith, nat_tests))
+    by true e = fails_behind (record { few = grind (arith, nat_tests); is = refl })
+    by false e = (scans_nothing, grind (arith, nat_tests))
 scan-is front number (line ∷ rest) =
-    by (is_skipped (words line)) refl (scan-is front (number + 1) rest) (λ next. scan-is next (number + 1) rest)
+    by (added front number (words line)) (added-is front number line) (λ next. scan-is next (number + 1) rest)
   where
-    says : (r : Result TraceLine TraceFault) → is_skipped (words line) ≡ false → IsVerdict front number (words line) r →
+    by : (r : Result (List Numbered) TraceFault) → IsAdded front number line r →
         ((next : List Numbered) → IsScanned next (number + 1) rest (scan next (number + 1) rest)) →
-        IsScanned front number (line ∷ rest)
-        (on_ok (on_ok r (λ form. Ok (front ++ numbered number form ∷ []))) (λ next. scan next (number + 1) rest))
-    says (Ok form) e (spells, may) later = scanned-line front number line rest form _ e spells may (later (front ++ numbered number form ∷ []))
-    says (Err fault) e breaks later = fails_here line e breaks
-
-    by : (b : Bool) → is_skipped (words line) ≡ b → IsScanned front (number + 1) rest (scan front (number + 1) rest) →
-        ((next : List Numbered) → IsScanned next (number + 1) rest (scan next (number + 1) rest)) →
-        IsScanned front number (line ∷ rest)
-        (on_ok (cond b (Ok front) (on_ok (judged front number (words line)) (λ form. Ok (front ++ numbered number form ∷ []))))
-        (λ next. scan next (number + 1) rest))
-    by true e same later = scanned-skipped front number line rest _ e same
-    by false e same later = says (judged front number (words line)) e (judged-verdict front number (words line)) later
+        IsScanned front number (line ∷ rest) (on_ok r (λ next. scan next (number + 1) rest))
+    by (Ok next) takes later = scanned-later front next number line rest (scan next (number + 1) rest) takes (later next)
+    by (Err fault) breaks later = fails_here line breaks
 
 short-test : (trace : List Numbered) → length trace < 2 → ltb (length trace) 2 ≡ true
 short-test trace few = grind (arith, nat_tests)
@@ -65,26 +81,20 @@ long-test : (trace : List Numbered) → 2 ≤ length trace → ltb (length trace
 long-test trace whole = grind (arith, nat_tests)
 
 pub scan-reads : (front : List Numbered) (number : ℕ) (lines : List (List ℕ)) (trace : List Numbered) →
-    Reads front number lines trace → 2 ≤ length trace → scan front number lines ≡ Ok trace
-unfolding scan added
-scan-reads front number lines trace reads_nothing whole = rw (long-test trace whole) refl
-scan-reads front number lines trace (reads_skipped line {rest = rest} skipped reads) whole =
-    rw skipped (scan-reads front (number + 1) rest trace reads whole)
-scan-reads front number lines trace (reads_line ahead line {rest = rest} form says spells may reads) whole =
-    rw (says, judged-ok ahead number (words line) form spells may)
-    (scan-reads (ahead ++ numbered number form ∷ []) (number + 1) rest trace reads whole)
+    Scans Takes front number lines trace → 2 ≤ length trace → scan front number lines ≡ Ok trace
+unfolding scan
+scan-reads front number lines trace scans_nothing whole = rw (long-test trace whole) refl
+scan-reads front number lines trace (scans_line line {rest = rest} between takes scans) whole =
+    rw (takes-added front number line between takes) (scan-reads between (number + 1) rest trace scans whole)
 
 pub scan-fails : (front : List Numbered) (number : ℕ) (lines : List (List ℕ)) (fault : TraceFault) →
-    Fails front number lines fault → scan front number lines ≡ Err fault
-unfolding scan added
-scan-fails front number lines fault (fails_short few) = rw (short-test front few) refl
-scan-fails front number lines fault (fails_here line says breaks) =
-    rw (says, judged-err front number (words line) fault breaks) refl
-scan-fails front number lines fault (fails_behind_skipped line {rest = rest} skipped fails) =
-    rw skipped (scan-fails front (number + 1) rest fault fails)
-scan-fails front number lines fault (fails_behind_line ahead line {rest = rest} form says spells may fails) =
-    rw (says, judged-ok ahead number (words line) form spells may)
-    (scan-fails (ahead ++ numbered number form ∷ []) (number + 1) rest fault fails)
+    FailsFirst Takes BreaksThere IsShort front number lines fault → scan front number lines ≡ Err fault
+unfolding scan
+scan-fails front number lines fault (fails_here line breaks) = rw (breaks-added front number line fault breaks) refl
+scan-fails front number lines fault (fails_later line {rest = rest} between takes fails) =
+    rw (takes-added front number line between takes) (scan-fails between (number + 1) rest fault fails)
+scan-fails front number lines fault (fails_behind short) =
+    rw (short-test front short.few) (ap (λ f. Err f) (sym short.is))
 
 -- one line more keeps the rules
 all-push : (front rest : List Numbered) (n : Numbered) → MayAllFollow front rest → HasSpelling n.line → MayFollow (front ++ rest) n.line →

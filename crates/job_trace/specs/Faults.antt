@@ -1,17 +1,18 @@
 -- Where a text breaks a rule of traces, and what is answered.
-use Rattle.std.specs.Prelude.{◌≡◌, ℕ, ℤ, ◌+◌, ◌<◌, true, false, List, [], ◌∷◌, ◌++◌, length, Some, None, Result, Ok, Err, MatchBool}
+use Rattle.std.specs.Prelude.{◌≡◌, ℕ, ℤ, ◌<◌, true, false, List, [], length, Some, None, Result, Ok, Err, MatchBool}
 use Rattle.text_forms.specs.Lines.{lines_of}
+use Rattle.text_forms.specs.Scans.{FailsFirst}
 use Rattle.job_trace.specs.declared.fault.TraceFault.{TraceFault}
 use Rattle.job_trace.specs.declared.fault.TraceFault.TheVariants.{BadLine, Limit, Twice, Memory, NotBuilt}
 use Rattle.job_trace.specs.declared.trace.TraceLine.{TraceLine}
 use Rattle.job_trace.specs.declared.trace.Numbered.{Numbered}
 use Rattle.job_trace.specs.Words.{words, is_skipped, is_unbuilt}
 use Rattle.job_trace.specs.Forms.{SpellsLine}
-use Rattle.job_trace.specs.Rules.{MayFollow, cores_of, first_passed, is_given, may_stand, measures}
-use Rattle.job_trace.specs.TraceText.{numbered}
+use Rattle.job_trace.specs.Rules.{cores_of, first_passed, is_given, may_stand, measures}
+use Rattle.job_trace.specs.TraceText.{Takes}
 
--- the words of a line, which has that number, break a rule behind a front of a trace: they have no form, or not the one that must
--- stand there, or a number is out of its range, or the thing is given already, in this order
+-- the words of a line, which has that number, break a rule behind a front of a trace. They have no form, or not one that may
+-- stand there; or a number is out of its range; or a line before gives the thing. The earlier of these comes first.
 pub data BreaksRule (front : List Numbered) (number : ℕ) (line : List (List ℕ)) : TraceFault → Type 0 where
   no_form : ((form : TraceLine) → SpellsLine line form → ⊥) → BreaksRule front number line (BadLine number)
   other_kind : (form : TraceLine) → SpellsLine line form → may_stand front form ≡ false → BreaksRule front number line (BadLine number)
@@ -24,20 +25,19 @@ pub data BreaksRule (front : List Numbered) (number : ℕ) (line : List (List �
 abbrev pub Breaks : List Numbered → ℕ → List (List ℕ) → TraceFault → Type 0
 Breaks front number line fault = MatchBool (is_unbuilt line) (fault ≡ NotBuilt number) (BreaksRule front number line fault)
 
--- lines that follow a front of a trace, the first of them with this number, break a rule, and no line before does
-pub data Fails : List Numbered → ℕ → List (List ℕ) → TraceFault → Type 0 where
-  fails_short : {front : List Numbered} {number : ℕ} → length front < 2 → Fails front number [] (BadLine number)
-  fails_here : {front : List Numbered} {number : ℕ} (line : List ℕ) {rest : List (List ℕ)} {fault : TraceFault} →
-      is_skipped (words line) ≡ false → Breaks front number (words line) fault → Fails front number (line ∷ rest) fault
-  fails_behind_skipped : {front : List Numbered} {number : ℕ} (line : List ℕ) {rest : List (List ℕ)} {fault : TraceFault} →
-      is_skipped (words line) ≡ true → Fails front (number + 1) rest fault → Fails front number (line ∷ rest) fault
-  fails_behind_line : (front : List Numbered) {number : ℕ} (line : List ℕ) {rest : List (List ℕ)} (form : TraceLine) {fault : TraceFault} →
-      is_skipped (words line) ≡ false → SpellsLine (words line) form → MayFollow front form →
-      Fails (front ++ numbered number form ∷ []) (number + 1) rest fault → Fails front number (line ∷ rest) fault
+-- a line that isn't skipped breaks a rule
+pub record BreaksThere (front : List Numbered) (number : ℕ) (line : List ℕ) (fault : TraceFault) : Type 0 where
+  pub says : is_skipped (words line) ≡ false
+  pub breaks : Breaks front number (words line) fault
+
+-- the text has ended before its second line
+pub record IsShort (front : List Numbered) (number : ℕ) (fault : TraceFault) : Type 0 where
+  pub few : length front < 2
+  pub is : fault ≡ BadLine number
 
 -- the text breaks a rule, and this is its first fault
 abbrev pub IsBroken : List ℕ → TraceFault → Type 0
-IsBroken text fault = Fails [] 1 (lines_of text) fault
+IsBroken text fault = FailsFirst Takes BreaksThere IsShort [] 1 (lines_of text) fault
 
 -- a fault that may be answered: the first of the text, or the want of memory
 abbrev pub IsFault : List ℕ → TraceFault → Type 0

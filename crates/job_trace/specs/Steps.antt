@@ -122,7 +122,7 @@ added front number line =
     if is_skipped line then Ok front
     else on_ok (judged front number line) (λ form. Ok (front ++ numbered number form ∷ []))
 
--- the trace of lines that follow that front of a trace
+-- the trace of lines that follow that front of a trace, the first of which has that number
 unfoldable pub scan : List Numbered → ℕ → List (List ℕ) → Result (List Numbered) TraceFault
 scan front number [] = if nat_lt (length front) 2 then Err (BadLine number) else Ok front
 scan front number (line ∷ rest) = on_ok (added front number (words line)) (λ next. scan next (number + 1) rest)

@@ -20,7 +20,9 @@ pub enum TraceLine {
 /// A line of a trace, with its number in the text.
 #[derive(Drop)]
 pub struct Numbered {
+    /// Its number. Lines that say nothing are counted too.
     pub number: u32,
+    /// What it says.
     pub line: TraceLine,
 }
 
