@@ -37,7 +37,7 @@ measure value low high = record { value = value; low = low; high = high }
 abbrev pub burst_measure : Burst → Measure
 burst_measure burst = measure burst.units 1 MAX_UNITS
 
--- the numbers of a line from left to right, under so many cores
+-- the numbers of a line from left to right, under so many cores. There is one at least, so that the last is numbered one less.
 abbrev pub measures : ℕ → TraceLine → List Measure
 measures cores (Cores number) = measure number 1 MAX_CORES ∷ []
 measures cores (Rounds number) = measure number 0 MAX_ROUNDS ∷ []
