@@ -2,5 +2,8 @@ mod FormLemmas
 mod JudgeLemmas
 mod ScanLemmas
 mod AnswerLemmas
-mod Starts
+mod RangeLemmas
+mod StartLemmas
+mod ThreadLemmas
+mod NumberLemmas
 mod FitsLemmas

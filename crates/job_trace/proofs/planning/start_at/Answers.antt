@@ -2,7 +2,7 @@ use Rattle.std.proofs.Common.{◌∙◌, ap, sym, rules, FitsSigned}
 use Rattle.std.specs.Int.{w32}
 use Rattle.std.proofs.lemmas.Int.{to_z-of_z}
 use Rattle.policy_tree.specs.declared.typed.Attr.{Attr}
-use Rattle.job_trace.proofs.Starts.{starts-declared, starts-past}
+use Rattle.job_trace.proofs.StartLemmas.{starts-declared, starts-past}
 use Rattle.job_trace.proofs.planning.start_at.Goals as goal
 
 pub returns-in-Some : goal.returns-in-Some

@@ -2,7 +2,7 @@ use Rattle.std.proofs.Common.{arith}
 use Rattle.std.specs.Prelude.{pos}
 use Rattle.std.proofs.lemmas.List.{ext_get_or}
 use Rattle.job_trace.specs.Plans.{starts}
-use Rattle.job_trace.proofs.Starts.{length-starts}
+use Rattle.job_trace.proofs.StartLemmas.{length-starts}
 use Rattle.job_trace.proofs.planning.starts.Goals as goal
 
 pub returns : goal.returns
