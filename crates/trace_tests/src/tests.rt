@@ -1,5 +1,5 @@
 //! Tables of texts, each with the answer that it has: how many lines of it were read, or its first fault with the
-//! line and the limit.
+//! line and the limit. And tables of words, each with the number that it spells.
 
 use crate::policies::policy;
 use job_trace::{PlanFault, Trace, TraceFault, plan, read_trace};
@@ -7,6 +7,7 @@ use policy_tree::{Load, Policy};
 use round_model::{Burst, Ending, Plan, Planned};
 use std::alloc::{AllocError, Global};
 use std::test::Fail;
+use text_forms::{exact_number_in, number_in};
 
 /// The answer to the text.
 fn answer(alloc: Global, text: &[u8]) -> (&'static str, u32, i64) {
@@ -353,5 +354,31 @@ fn constants_start_as_declared(rt: HostRuntime) -> Result<(), Fail> {
     let found = planned(alloc, text, &policy)?;
     let expected = "2 cores 0 rounds 8192 entries 0 orders (-7 3 1048575) (-7 3 1048575)";
     assert_eq!(rt; found.as_str(), expected);
+    Ok(())
+}
+
+#[test]
+fn spellings_of_numbers(rt: HostRuntime) -> Result<(), Fail> {
+    let cases = [
+        ("0", Some(0), Some(0)),
+        ("00", Some(0), None),
+        ("7", Some(7), Some(7)),
+        ("07", Some(7), None),
+        ("65536", Some(65_536), Some(65_536)),
+        ("65537", Some(65_537), None),
+        ("0000000000000065536", Some(65_536), None),
+        ("00000000000000065536", None, None),
+        ("9999999999999999999", Some(9_999_999_999_999_999_999), None),
+        ("", None, None),
+        ("-7", None, None),
+        ("+7", None, None),
+        ("7 ", None, None),
+        ("7a", None, None),
+    ];
+    for (word, number, exact) in cases {
+        let word = word.as_bytes();
+        assert_eq!(rt; number_in(word), number, "at {word:?}");
+        assert_eq!(rt; exact_number_in(word, 65_536), exact, "at {word:?}");
+    }
     Ok(())
 }
