@@ -1,0 +1,9 @@
+mod FormLemmas
+mod JudgeLemmas
+mod ScanLemmas
+mod AnswerLemmas
+mod RangeLemmas
+mod StartLemmas
+mod ThreadLemmas
+mod NumberLemmas
+mod FitsLemmas

@@ -1,0 +1,19 @@
+//! Traces of jobs: which threads come to which core in which round, and what each of them runs. A text is read into
+//! a trace, and a trace is made into a plan for a policy.
+#![tactic(auto)]
+
+mod fault;
+mod form;
+mod plan_fault;
+mod planning;
+mod ranges;
+mod reading;
+mod rules;
+mod trace;
+mod words;
+
+pub use fault::TraceFault;
+pub use plan_fault::PlanFault;
+pub use planning::plan;
+pub use reading::read_trace;
+pub use trace::{Numbered, Trace, TraceLine};

@@ -1,0 +1,4 @@
+mod TextLemmas
+mod LineLaws
+mod WordLaws
+mod DecimalLemmas

@@ -1,0 +1,12 @@
+//! Forms that texts of lines share: the lines of a text, the words of a line, numbers in decimal.
+#![tactic(auto)]
+
+mod cuts;
+pub mod laws;
+mod lines;
+mod numbers;
+mod words;
+
+pub use lines::first_line;
+pub use numbers::{MAX_DIGITS, exact_number_in, number_in};
+pub use words::first_word;
