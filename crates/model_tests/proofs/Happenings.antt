@@ -1,5 +1,5 @@
 -- The rows of events and order lines, by computing.
-use Rattle.std.proofs.Common.{◌≡◌, ℕ, zero, suc, [], ◌∷◌, List, Contains, refl, sym, ap, ◌∙◌, get_or, arith}
+use Rattle.std.proofs.Common.{◌≡◌, zero, suc, [], ◌∷◌, Contains, refl, arith}
 use Rattle.policy_eval.specs.Events.{holding_cases, outcomes_of, task_after_set}
 use Rattle.policy_eval.specs.Sights.{core_values, event_values, pair_values, thread_values}
 use Rattle.round_model.specs.declared.entry.Did.{Did}

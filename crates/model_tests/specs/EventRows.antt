@@ -1,9 +1,9 @@
 -- What events do, and what serial play makes of order lines, on small plans.
-use Rattle.std.specs.Prelude.{◌≡◌, ℕ, ℤ, pos, List, [], ◌∷◌, ◌++◌, length, map, replicate, Some, true}
+use Rattle.std.specs.Prelude.{◌≡◌, ℕ, ℤ, pos, List, [], ◌∷◌, ◌++◌, length, replicate, Some, true}
 use Rattle.sched_base.specs.declared.task.Task.{Task}
 use Rattle.policy_tree.specs.declared.typed.Put.TheVariants as put
 use Rattle.policy_tree.specs.Trees.{always, number, plus, variable}
-use Rattle.policy_tree.specs.Meaning.{CaseTree, Meaning, SetTree}
+use Rattle.policy_tree.specs.Meaning.{Meaning, SetTree}
 use Rattle.policy_eval.specs.Events.{task_after_set}
 use Rattle.policy_eval.specs.Sights.{no_attributes}
 use Rattle.round_model.specs.declared.entry.Did.{Did}

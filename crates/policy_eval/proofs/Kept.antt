@@ -1,11 +1,11 @@
 -- What an event keeps of a thread: its number, and that its numbers lie in their ranges.
-use Rattle.std.proofs.Common.{◌≡◌, ℕ, ℤ, Bool, List, [], ◌∷◌, fold, map, slice_get, Option, Some, None, refl, sym, ap, ◌∙◌, subst}
+use Rattle.std.proofs.Common.{◌≡◌, ℕ, ℤ, Bool, List, [], ◌∷◌, fold, map, slice_get, Option, Some, None, refl, ◌∙◌, subst}
 use Rattle.sched_base.specs.declared.task.Task.{Task}
 use Rattle.policy_tree.specs.declared.typed.Attr.{Attr}
 use Rattle.policy_tree.specs.declared.typed.Event.{Event}
 use Rattle.policy_tree.specs.declared.typed.Put.{Put}
 use Rattle.policy_tree.specs.Meaning.{CaseTree, Meaning, SetTree}
-use Rattle.policy_eval.specs.Events.{holding_cases, outcome_of_case, outcomes_of, seen_by_handler, task_after_case, task_after_set, with_attribute}
+use Rattle.policy_eval.specs.Events.{holding_cases, outcome_of_case, outcomes_of, seen_by_handler, task_after_set, with_attribute}
 use Rattle.policy_eval.specs.Fitting.{IsTask}
 use Rattle.policy_eval.specs.Resolved.{IsResolved}
 use Rattle.policy_eval.specs.Values.{value_of}

@@ -1,5 +1,5 @@
 -- A directory that is filled from the plan's last thread to its first.
-use Rattle.std.proofs.Common.{◌≡◌, ◌≢◌, ℕ, suc, ◌+◌, ◌==◌, ◌<◌, ◌≤◌, Bool, true, false, cond, eqb, List, [], ◌∷◌, length, drop, get_or, set, find, slice_get, Option, Some, None, option_and_then, refl, sym, ap, ◌∙◌, subst, arith, ⊎_elim, get_or-set_same, get_or-set_other}
+use Rattle.std.proofs.Common.{◌≡◌, ◌≢◌, ℕ, suc, ◌+◌, ◌==◌, ◌<◌, ◌≤◌, Bool, true, false, cond, eqb, List, [], ◌∷◌, length, drop, set, find, slice_get, Option, Some, None, option_and_then, refl, sym, ap, ◌∙◌, arith, ⊎_elim, get_or-set_same, get_or-set_other}
 use Rattle.std.proofs.lemmas.Bool.{cases_lt}
 use Rattle.std.proofs.lemmas.Bool.Decides.{nat_tests}
 use Rattle.std.proofs.lemmas.List.{get_or_past}
@@ -10,7 +10,6 @@ use Rattle.round_model.specs.declared.plan.Plan.{Plan}
 use Rattle.round_model.specs.declared.plan.Planned.{Planned}
 use Rattle.round_model.specs.Fits.{Fits, ThreadFits}
 use Rattle.round_model.specs.Lists.{Lists, place_in}
-use Rattle.round_model.specs.Programs.{planned_of}
 use Rattle.round_model.proofs.Elections.{drop_here}
 use Rattle.round_model.proofs.Finding.{All-at}
 
@@ -24,28 +23,32 @@ pub record LeadsFrom (threads : List Planned) (directory : List (Option ℕ)) (a
 -- a thread more in front, which is written over what stood there
 pub LeadsFrom-more : (threads : List Planned) (directory : List (Option ℕ)) (at : ℕ) (t : Planned) → slice_get threads at ≡ Some t
     → LeadsFrom threads directory (suc at) → LeadsFrom threads (set directory t.id (Some at)) at
-LeadsFrom-more threads directory at t is from = record { leads = λ id inside.
-    let front = ap (find (is_thread id)) (drop_here threads at t is) in
-    elim (eqb t.id id) as (λ b. eqb t.id id ≡ b → find (is_thread id) (drop at threads) ≡ option_and_then (slice_get threads) (place_in (set directory t.id (Some at)) id)) [
-      true ↦ λ e.
-      let same : id ≡ t.id = grind (arith, nat_tests) in
-      let room : t.id < length directory = omega (arith, length-set directory t.id (Some at)) in
-      let written : place_in (set directory t.id (Some at)) id ≡ Some at = ap (place_in (set directory t.id (Some at))) same ∙ get_or-set_same directory t.id (Some at) None room in
-      front ∙ (ap (λ b. cond b (Some t) (find (is_thread id) (drop (suc at) threads))) e ∙ (sym is ∙ sym (ap (option_and_then (slice_get threads)) written)))
-    | false ↦ λ e.
-      let other : id ≢ t.id = grind (arith, nat_tests) in
-      let kept : place_in (set directory t.id (Some at)) id ≡ place_in directory id = get_or-set_other directory t.id id (Some at) None other in
-      let within : id < length directory = omega (arith, length-set directory t.id (Some at)) in
-      front ∙ (ap (λ b. cond b (Some t) (find (is_thread id) (drop (suc at) threads))) e ∙ (from.leads id within ∙ sym (ap (option_and_then (slice_get threads)) kept)))
-    ] refl }
+LeadsFrom-more threads directory at t is from = record {
+  leads = λ id inside.
+      let front = ap (find (is_thread id)) (drop_here threads at t is) in
+      elim (eqb t.id id) as (λ b. eqb t.id id ≡ b → find (is_thread id) (drop at threads) ≡ option_and_then (slice_get threads) (place_in (set directory t.id (Some at)) id)) [
+        | true ↦ λ e.
+            let same : id ≡ t.id = grind (arith, nat_tests) in
+            let room : t.id < length directory = omega (arith, length-set directory t.id (Some at)) in
+            let written : place_in (set directory t.id (Some at)) id ≡ Some at = ap (place_in (set directory t.id (Some at))) same ∙ get_or-set_same directory t.id (Some at) None room in
+            front ∙ (ap (λ b. cond b (Some t) (find (is_thread id) (drop (suc at) threads))) e ∙ (sym is ∙ sym (ap (option_and_then (slice_get threads)) written)))
+        | false ↦ λ e.
+            let other : id ≢ t.id = grind (arith, nat_tests) in
+            let kept : place_in (set directory t.id (Some at)) id ≡ place_in directory id = get_or-set_other directory t.id id (Some at) None other in
+            let within : id < length directory = omega (arith, length-set directory t.id (Some at)) in
+            front ∙ (ap (λ b. cond b (Some t) (find (is_thread id) (drop (suc at) threads))) e ∙ (from.leads id within ∙ sym (ap (option_and_then (slice_get threads)) kept)))
+      ] refl;
+}
 
 -- a thread more in front whose number the directory has no room for
 pub LeadsFrom-past : (threads : List Planned) (directory : List (Option ℕ)) (at : ℕ) (t : Planned) → slice_get threads at ≡ Some t
     → length directory ≤ t.id → LeadsFrom threads directory (suc at) → LeadsFrom threads directory at
-LeadsFrom-past threads directory at t is past from = record { leads = λ id inside.
-    let other : eqb t.id id ≡ false = grind (arith, nat_tests) in
-    ap (find (is_thread id)) (drop_here threads at t is)
-    ∙ (ap (λ b. cond b (Some t) (find (is_thread id) (drop (suc at) threads))) other ∙ from.leads id inside) }
+LeadsFrom-past threads directory at t is past from = record {
+  leads = λ id inside.
+      let other : eqb t.id id ≡ false = grind (arith, nat_tests) in
+      ap (find (is_thread id)) (drop_here threads at t is)
+      ∙ (ap (λ b. cond b (Some t) (find (is_thread id) (drop (suc at) threads))) other ∙ from.leads id inside);
+}
 
 -- no thread of these has the number
 nobody : (threads : List Planned) (id : ℕ) → ((k : ℕ) (t : Planned) → slice_get threads k ≡ Some t → t.id < id) → find (is_thread id) threads ≡ None

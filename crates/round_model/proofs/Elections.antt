@@ -1,5 +1,5 @@
 -- The best of the tasks from a place on, with the place where it stands.
-use Rattle.std.proofs.Common.{◌≡◌, ℕ, zero, suc, ◌+◌, ◌<◌, Bool, true, false, cond, List, [], ◌∷◌, length, drop, remove, slice_get, MatchOption, Option, Some, None, option_map, refl, sym, ap, ◌∙◌, subst, arith}
+use Rattle.std.proofs.Common.{◌≡◌, ℕ, zero, suc, ◌+◌, ◌<◌, Bool, true, false, cond, List, [], ◌∷◌, length, drop, remove, slice_get, MatchOption, Option, Some, None, option_map, refl, sym, ap, ◌∙◌, arith}
 use Rattle.sched_base.specs.declared.task.Task.{Task}
 use Rattle.policy_tree.specs.Meaning.{KeyTree}
 use Rattle.policy_eval.specs.Orders.{best_and_rest, best_of, better_and_rest, better_of}

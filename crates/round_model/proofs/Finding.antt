@@ -17,16 +17,17 @@ pub find-All : {X : Type 0} (test : X → Bool) (P : X → Type 0) (xs : List X)
 find-All test P [] each = tt
 find-All test P (x ∷ xs) each =
     elim (test x) as (λ b. IfSome (cond b (Some x) (find test xs)) P) [
-      true ↦ each 0 x (omega arith)
-    | false ↦ find-All test P xs (λ k d inside. each (suc k) d (omega arith)) ]
+      | true ↦ each 0 x (omega arith)
+      | false ↦ find-All test P xs (λ k d inside. each (suc k) d (omega arith))
+    ]
 
 -- what is found passes
 pub find-passes : {X : Type 0} (test : X → Bool) (xs : List X) (x : X) → find test xs ≡ Some x → test x ≡ true
 find-passes test [] x is = absurd (cc)
 find-passes test (y ∷ ys) x is =
     elim (test y) as (λ b. test y ≡ b → cond b (Some y) (find test ys) ≡ Some x → test x ≡ true) [
-      true ↦ λ e found. let same : y ≡ x = cc in ap test (sym same) ∙ e
-    | false ↦ λ e found. find-passes test ys x found
+      | true ↦ λ e found. let same : y ≡ x = cc in ap test (sym same) ∙ e
+      | false ↦ λ e found. find-passes test ys x found
     ] refl is
 
 -- items at the end don't change what is found, nor what is left in front of them
@@ -34,14 +35,14 @@ pub find-append : {X : Type 0} (test : X → Bool) (xs ys : List X) (x : X) → 
 find-append test [] ys x is = absurd (cc)
 find-append test (y ∷ rest) ys x is =
     elim (test y) as (λ b. cond b (Some y) (find test rest) ≡ Some x → cond b (Some y) (find test (rest ++ ys)) ≡ Some x) [
-      true ↦ λ found. found
-    | false ↦ λ found. find-append test rest ys x found
+      | true ↦ λ found. found
+      | false ↦ λ found. find-append test rest ys x found
     ] is
 
 pub without_first-append : {X : Type 0} (test : X → Bool) (xs ys : List X) (x : X) → find test xs ≡ Some x → without_first test (xs ++ ys) ≡ without_first test xs ++ ys
 without_first-append test [] ys x is = absurd (cc)
 without_first-append test (y ∷ rest) ys x is =
     elim (test y) as (λ b. cond b (Some y) (find test rest) ≡ Some x → cond b (rest ++ ys) (y ∷ without_first test (rest ++ ys)) ≡ cond b rest (y ∷ without_first test rest) ++ ys) [
-      true ↦ λ found. refl
-    | false ↦ λ found. ap (λ (items : List _). y ∷ items) (without_first-append test rest ys x found)
+      | true ↦ λ found. refl
+      | false ↦ λ found. ap (λ (items : List _). y ∷ items) (without_first-append test rest ys x found)
     ] is

@@ -1,5 +1,5 @@
 -- What it is for an entry of one core to be legal, part by part.
-use Rattle.std.proofs.Common.{◌≡◌, ℕ, ◌<◌, Bool, true, false, not, eqb, List, [], length, map, slice_get, Contains, Option, Some, None, IsNone, IsSomeAnd, IsTrue, IsFalse, MatchOption, is_some, option_map, refl, sym, ap, ◌∙◌, subst, arith}
+use Rattle.std.proofs.Common.{◌≡◌, ℕ, ◌<◌, Bool, true, false, not, eqb, List, Option, Some, None, IsSomeAnd, IsTrue, is_some, option_map, refl, sym, ap, ◌∙◌, subst, arith}
 use Rattle.std.specs.Option.{option_eq}
 use Rattle.std.proofs.lemmas.Bool.{false≢true}
 use Rattle.std.proofs.lemmas.Bool.Decides.{nat_tests}
@@ -13,15 +13,13 @@ use Rattle.round_model.specs.declared.plan.Plan.{Plan}
 use Rattle.round_model.specs.declared.plan.Planned.{Planned}
 use Rattle.round_model.specs.declared.state.Blocked.{Blocked}
 use Rattle.round_model.specs.After.{after, round_of}
-use Rattle.round_model.specs.Attempts.{attempt_of}
 use Rattle.round_model.specs.Choices.{target_of}
 use Rattle.round_model.specs.Legal.{LegalInRound, rounds_begun}
 use Rattle.round_model.specs.Outcomes.{IsAttemptBy, IsPlacedBy, entry_of_attempt, values_at}
 use Rattle.round_model.specs.Progress.{HasLetIn, OwesAttempt, OwesUnit}
-use Rattle.round_model.specs.Reads.{ReadsFit, round_start}
 use Rattle.round_model.specs.Rows.{LegalAttempt, LegalEnter, LegalWake, LegalWork, PlacementReads, Row}
 use Rattle.round_model.specs.Scenes.{entering_next, own_entries, scene_of, waking_next}
-use Rattle.round_model.specs.Work.{IsOutcomeOfWork, worked}
+use Rattle.round_model.specs.Work.{IsOutcomeOfWork}
 
 -- what can't be isn't legal
 pub refuted : {L : Type 0} → (L → ⊥) → (IsTrue false → L) × (L → IsTrue false)

@@ -1,16 +1,16 @@
 -- What every entry keeps of the cores: numbers in their ranges, and no more threads than there were.
-use Rattle.std.proofs.Common.{◌≡◌, ℕ, zero, suc, ◌+◌, ◌-◌, ◌<◌, ◌≤◌, ℤ, pos, Bool, List, [], ◌∷◌, ◌++◌, map, take, replicate, set, length, slice_get, All, IfSome, Option, Some, None, refl, sym, ap, ◌∙◌, subst, arith}
+use Rattle.std.proofs.Common.{◌≡◌, ℕ, zero, suc, ◌-◌, pos, List, [], ◌∷◌, ◌++◌, map, take, replicate, set, length, slice_get, All, IfSome, Option, Some, ap, subst, arith}
 use Rattle.std.proofs.lemmas.Int.{ints}
 use Rattle.sched_base.specs.declared.limits.TheConstants.{MAX_ATTRIBUTES}
 use Rattle.policy_tree.specs.declared.typed.Attr.{Attr}
 use Rattle.policy_tree.specs.Meaning.{Meaning}
 use Rattle.policy_eval.specs.Fitting.{IsTask}
-use Rattle.policy_eval.specs.Ranges.{AreIn, attribute_ranges, declared_range, range}
-use Rattle.policy_eval.specs.Resolved.{IsAttribute, IsResolved}
+use Rattle.policy_eval.specs.Ranges.{AreIn, declared_range, range}
+use Rattle.policy_eval.specs.Resolved.{IsAttribute}
 use Rattle.round_model.specs.declared.plan.Plan.{Plan}
 use Rattle.round_model.specs.declared.plan.Planned.{Planned}
 use Rattle.round_model.specs.Fits.{Fits, ThreadFits}
-use Rattle.round_model.specs.Programs.{entering_task, planned_of, start_of, starting_attrs}
+use Rattle.round_model.specs.Programs.{entering_task, planned_of, start_of}
 use Rattle.round_model.proofs.Directories.{is_thread}
 use Rattle.round_model.proofs.Finding.{find-All}
 

@@ -1,5 +1,5 @@
 -- What an entry makes of the cores, as changes of one core after the other.
-use Rattle.std.proofs.Common.{◌≡◌, ℕ, ◌+◌, ◌<◌, ◌==◌, ◌||◌, Bool, true, false, cond, eqb, List, [], ◌∷◌, ◌++◌, fold, All, Option, Some, None, IfSome, option_map, refl, sym, ap, ap₂, ◌∙◌, subst, arith}
+use Rattle.std.proofs.Common.{◌≡◌, ℕ, ◌==◌, ◌||◌, Bool, true, false, cond, eqb, List, [], ◌∷◌, fold, All, Option, Some, None, IfSome, option_map, refl, sym, ap, ◌∙◌, subst, arith}
 use Rattle.std.proofs.lemmas.Bool.Decides.{nat_tests}
 use Rattle.sched_base.specs.declared.task.Task.{Task}
 use Rattle.policy_tree.specs.declared.typed.Put.{Put}
@@ -9,7 +9,6 @@ use Rattle.policy_tree.specs.Meaning.{Meaning}
 use Rattle.policy_eval.specs.Events.{outcomes_of}
 use Rattle.policy_eval.specs.Fitting.{IsTask}
 use Rattle.round_model.specs.declared.entry.Did.{Did}
-use Rattle.round_model.specs.declared.entry.Entry.{Entry}
 use Rattle.round_model.specs.declared.entry.Entry.TheVariants as entry
 use Rattle.round_model.specs.declared.plan.Plan.{Plan}
 use Rattle.round_model.specs.declared.plan.Planned.{Planned}
@@ -18,7 +17,7 @@ use Rattle.round_model.specs.declared.state.ModelCore.{ModelCore}
 use Rattle.round_model.specs.After.{effect, entered, moved, stolen, woken}
 use Rattle.round_model.specs.Cores.{Cores}
 use Rattle.round_model.specs.Entries.{touches}
-use Rattle.round_model.specs.Moves.{admitted, blocked_of, core_after_event, handed, is_blocked_task, is_task, queued_of, received, released, with_outcome, with_task, without_first}
+use Rattle.round_model.specs.Moves.{admitted, blocked_of, core_after_event, handed, is_blocked_task, is_task, queued_of, received, released, with_outcome, with_task}
 use Rattle.round_model.specs.Programs.{planned_of}
 use Rattle.round_model.specs.Updates.{updated}
 use Rattle.round_model.specs.Work.{core_after_work}
@@ -62,17 +61,17 @@ put_then_take : (m : Cores) (a b : ℕ) (f g : ModelCore → ModelCore) → (a �
     → updated (updated m a (f (m a))) b (g (updated m a (f (m a)) b)) c ≡ (let left : ModelCore = cond (b == c) (g (m c)) (m c) in cond (a == c) (f left) left)
 put_then_take m a b f g commute c =
     elim (eqb b c) as (λ x. eqb b c ≡ x → cond x (g (cond (eqb a b) (f (m a)) (m b))) (cond (eqb a c) (f (m a)) (m c)) ≡ cond (eqb a c) (f (cond x (g (m c)) (m c))) (cond x (g (m c)) (m c))) [
-      true ↦ λ there. let at : b ≡ c = grind (arith, nat_tests) in
-      elim (eqb a c) as (λ y. eqb a c ≡ y → g (cond (eqb a b) (f (m a)) (m b)) ≡ cond y (f (g (m c))) (g (m c))) [
-        true ↦ λ here. let same : a ≡ b = grind (arith, nat_tests) in let e : eqb a b ≡ true = grind (arith, nat_tests) in let own : a ≡ c = same ∙ at in
-        ap (λ z. g (cond z (f (m a)) (m b))) e ∙ (commute same ∙ ap (λ k. f (g (m k))) own)
-      | false ↦ λ elsewhere. let e : eqb a b ≡ false = grind (arith, nat_tests) in ap (λ z. g (cond z (f (m a)) (m b))) e ∙ ap (λ k. g (m k)) at
-      ] refl
-    | false ↦ λ elsewhere.
-      elim (eqb a c) as (λ y. eqb a c ≡ y → cond y (f (m a)) (m c) ≡ cond y (f (m c)) (m c)) [
-        true ↦ λ here. let own : a ≡ c = grind (arith, nat_tests) in ap (λ k. f (m k)) own
-      | false ↦ λ none. refl
-      ] refl
+      | true ↦ λ there. let at : b ≡ c = grind (arith, nat_tests) in
+          elim (eqb a c) as (λ y. eqb a c ≡ y → g (cond (eqb a b) (f (m a)) (m b)) ≡ cond y (f (g (m c))) (g (m c))) [
+            | true ↦ λ here. let same : a ≡ b = grind (arith, nat_tests) in let e : eqb a b ≡ true = grind (arith, nat_tests) in let own : a ≡ c = same ∙ at in
+                ap (λ z. g (cond z (f (m a)) (m b))) e ∙ (commute same ∙ ap (λ k. f (g (m k))) own)
+            | false ↦ λ elsewhere. let e : eqb a b ≡ false = grind (arith, nat_tests) in ap (λ z. g (cond z (f (m a)) (m b))) e ∙ ap (λ k. g (m k)) at
+          ] refl
+      | false ↦ λ elsewhere.
+          elim (eqb a c) as (λ y. eqb a c ≡ y → cond y (f (m a)) (m c) ≡ cond y (f (m c)) (m c)) [
+            | true ↦ λ here. let own : a ≡ c = grind (arith, nat_tests) in ap (λ k. f (m k)) own
+            | false ↦ λ none. refl
+          ] refl
     ] refl
 
 -- a core that neither change concerns stays
@@ -142,9 +141,9 @@ module _ (p : Meaning) (plan : Plan) (round : ℕ) (m : Cores) where
   -- a change of one core alone
   one_change : (a : ℕ) (f : ModelCore → ModelCore) (c : ℕ) → updated m a (f (m a)) c ≡ cond (a == c) (f (m c)) (m c)
   one_change a f c = elim (eqb a c) as (λ x. eqb a c ≡ x → cond x (f (m a)) (m c) ≡ cond x (f (m c)) (m c)) [
-        true ↦ λ here. let own : a ≡ c = grind (arith, nat_tests) in ap (λ k. f (m k)) own
-      | false ↦ λ none. refl
-      ] refl
+    | true ↦ λ here. let own : a ≡ c = grind (arith, nat_tests) in ap (λ k. f (m k)) own
+    | false ↦ λ none. refl
+  ] refl
 
   pub moved_enter : (thread by at : ℕ) (reads : List ℕ) (found : Option Planned) → planned_of plan thread ≡ found → (c : ℕ)
       → updated m at (entered p found (m at)) c ≡ moved p plan round (entry.Enter thread by at reads) m c

@@ -1,5 +1,5 @@
 -- Attempts, and choices by values that agree on the cores that there are.
-use Rattle.std.proofs.Common.{◌≡◌, ℕ, zero, suc, ◌+◌, ◌==◌, ◌<◌, ◌≤◌, Bool, true, false, not, ◌&&◌, cond, int_lt, List, [], ◌∷◌, filter, length, take, get_or, All, IfSome, Option, Some, None, option_map, refl, sym, ap, ap₂, ◌∙◌, subst, arith}
+use Rattle.std.proofs.Common.{◌≡◌, ℕ, zero, suc, ◌+◌, ◌==◌, ◌<◌, ◌≤◌, Bool, true, false, not, ◌&&◌, cond, int_lt, List, [], ◌∷◌, filter, length, take, All, IfSome, Option, Some, None, option_map, refl, sym, ap, ap₂, ◌∙◌, subst, arith}
 use Rattle.std.specs.List.{AllByRecursion, range_with_len}
 use Rattle.std.proofs.lemmas.List.{get_or-take, get_or_default, length-take}
 use Rattle.sched_base.specs.declared.task.Task.{Task}
@@ -9,7 +9,6 @@ use Rattle.policy_eval.specs.declared.env.CoreValues.{CoreValues}
 use Rattle.policy_eval.specs.Orders.{best_of, better_of, precedes}
 use Rattle.policy_eval.specs.Sights.{core_values, pair_values}
 use Rattle.policy_eval.specs.Values.{holds, value_of}
-use Rattle.round_model.specs.declared.entry.Entry.{Entry}
 use Rattle.round_model.specs.declared.entry.Entry.TheVariants as entry
 use Rattle.round_model.specs.declared.plan.Plan.{Plan}
 use Rattle.round_model.specs.Attempts.{attempt_on, present_values, steal_or_fail}
@@ -43,6 +42,7 @@ best_same first second P same (x ∷ xs) are =
     better : (o : Option _) → IfSome o P → Some (better_of first x o) ≡ Some (better_of second x o)
     better None is = refl
     better (Some y) is = ap (λ b. Some (cond b y x)) (same y x is are.0)
+
     member : (o : Option _) → IfSome o P → P (better_of first x o)
     member None is = are.0
     member (Some y) is = elim (first y x) as (λ b. P (cond b y x)) [ true ↦ is | false ↦ are.0 ]

@@ -1,5 +1,5 @@
 -- States as lists of cores.
-use Rattle.std.proofs.Common.{◌≡◌, ◌≢◌, ℕ, zero, suc, ◌+◌, ◌<◌, cond, eqb, true, false, Bool, List, [], ◌∷◌, map, length, get_or, set, slice_get, Some, Result, Ok, Err, OnOk, OnErr, get_or-set_same, get_or-set_other, refl, sym, ap, ◌∙◌, subst, arith}
+use Rattle.std.proofs.Common.{◌≡◌, ◌≢◌, ℕ, zero, suc, ◌<◌, cond, eqb, true, false, List, [], ◌∷◌, length, get_or, set, slice_get, Some, Result, Ok, Err, OnOk, OnErr, get_or-set_same, get_or-set_other, refl, sym, ap, ◌∙◌, arith}
 use Rattle.std.proofs.Math.ListN.{length-set}
 use Rattle.std.proofs.lemmas.List.{set-get_or}
 use Rattle.std.proofs.lemmas.Bool.Decides.{nat_tests}
@@ -30,9 +30,9 @@ listed_updated n m state at x is there =
     let count : length state ≡ n = ap length is ∙ length-map-range_with_len m 0 n in
     fill_by_all (updated m at x) (set state at x) n x (omega (arith, length-set state at x)) (λ k inside.
     elim (eqb at k) as (λ b. eqb at k ≡ b → get_or (set state at x) k x ≡ cond b x (m k)) [
-      true ↦ λ e. let same : k ≡ at = grind (arith, nat_tests) in ap (λ j. get_or (set state at x) j x) same ∙ get_or-set_same state at x x (omega arith)
-    | false ↦ λ e. let other : k ≢ at = grind (arith, nat_tests) in
-      get_or-set_other state at k x x other ∙ (ap (λ (list : List ModelCore). get_or list k x) is ∙ get_or-map-range_with_len m 0 n k k x inside (omega arith))
+      | true ↦ λ e. let same : k ≡ at = grind (arith, nat_tests) in ap (λ j. get_or (set state at x) j x) same ∙ get_or-set_same state at x x (omega arith)
+      | false ↦ λ e. let other : k ≢ at = grind (arith, nat_tests) in
+          get_or-set_other state at k x x other ∙ (ap (λ (list : List ModelCore). get_or list k x) is ∙ get_or-map-range_with_len m 0 n k k x inside (omega arith))
     ] refl)
 
 -- states whose cores are the same

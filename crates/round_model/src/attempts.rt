@@ -92,13 +92,7 @@ fn loot(
 }
 
 /// Whether the core may take of the victim, as both are.
-fn filter_holds(
-    policy: &Policy,
-    plan: &Plan,
-    state: &State,
-    core: CoreId,
-    victim: CoreId,
-) -> bool
+fn filter_holds(policy: &Policy, plan: &Plan, state: &State, core: CoreId, victim: CoreId) -> bool
     requires fits { Fits (meaning_of policy.now) plan.now }
     requires cores { length state.now ≡ plan.now.cores }
     requires bounds { All (CoreInBounds (meaning_of policy.now)) state.now }

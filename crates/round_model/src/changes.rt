@@ -48,7 +48,14 @@ pub(crate) fn enter(
 {
     match planned(directory, plan, thread) {
         None => Ok(()),
-        Some(thread) => admit(alloc, policy, state, at, entering_task(policy, thread), true),
+        Some(thread) => admit(
+            alloc,
+            policy,
+            state,
+            at,
+            entering_task(policy, thread),
+            true,
+        ),
     }
 }
 

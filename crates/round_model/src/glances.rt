@@ -33,13 +33,7 @@ pub(crate) fn placement(
         IsPlacedBy (meaning_of policy.now) plan.now history core reads.now result) }
 {
     match &policy.place {
-        PlaceRule::Here => {
-            if reads.is_empty() {
-                Some(core)
-            } else {
-                None
-            }
-        }
+        PlaceRule::Here => { if reads.is_empty() { Some(core) } else { None } }
         PlaceRule::Least(_) => {
             if were_made(plan, past, reads) {
                 Some(placed(policy, plan, past, core, reads))

@@ -1,5 +1,4 @@
-use Rattle.std.proofs.Common.{◌≡◌, List, All, option_to_list, ◌++◌, sym, subst, arith}
-use Rattle.std.proofs.Math.ListN.{length-append}
+use Rattle.std.proofs.Common.{List, All, sym, subst}
 use Rattle.sched_base.specs.declared.task.Task.{Task}
 use Rattle.policy_tree.specs.Meaning.{meaning_of, order_tree}
 use Rattle.policy_eval.specs.Fitting.{IsTask}

@@ -1,5 +1,4 @@
-use Rattle.std.proofs.Common.{◌≡◌, ◌<◌, sym, ap, ◌∙◌, option_map, slice_get, Some, subst, arith}
-use Rattle.std.proofs.lemmas.Option.{slice_get-get_or}
+use Rattle.std.proofs.Common.{◌≡◌, sym, ap, ◌∙◌, option_map, slice_get, Some, arith}
 use Rattle.policy_tree.specs.Meaning.{meaning_of}
 use Rattle.policy_eval.specs.Orders.{best_of}
 use Rattle.round_model.specs.declared.state.ModelCore.{ModelCore}

@@ -1,8 +1,7 @@
-use Rattle.std.proofs.Common.{◌≡◌, sym, ap, ap₂, ◌∙◌, List, ℤ}
+use Rattle.std.proofs.Common.{sym, ap, ap₂, ◌∙◌, List, ℤ}
 use Rattle.std.proofs.lemmas.Option.{get_or_from_slice_get}
 use Rattle.policy_eval.specs.Sights.{no_attributes}
 use Rattle.round_model.specs.declared.state.CountAndLoad.{CountAndLoad}
-use Rattle.round_model.specs.declared.state.ModelCore.{ModelCore}
 use Rattle.policy_eval.specs.declared.env.CoreValues.{CoreValues}
 use Rattle.round_model.specs.Cores.{seen_of}
 use Rattle.round_model.proofs.States.{listed_at}

@@ -1,4 +1,4 @@
-use Rattle.std.proofs.Common.{◌≡◌, ap, ◌∙◌, sym, subst, Some, true}
+use Rattle.std.proofs.Common.{ap, ◌∙◌, sym, subst, Some, true}
 use Rattle.sched_base.specs.declared.task.Task.{Task}
 use Rattle.policy_tree.specs.Meaning.{meaning_of}
 use Rattle.policy_eval.specs.Fitting.{IsTask}

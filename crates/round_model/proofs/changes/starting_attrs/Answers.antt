@@ -1,8 +1,7 @@
-use Rattle.std.proofs.Common.{◌≡◌, ◌+◌, ◌-◌, suc, ap, ap₂, ◌∙◌, sym, subst, List, ℤ, set, pos, map, take, replicate, ◌++◌, to_z, of_z, FitsSigned, arith}
+use Rattle.std.proofs.Common.{◌≡◌, ◌+◌, ◌-◌, suc, ap, ap₂, ◌∙◌, List, ℤ, set, pos, map, take, replicate, ◌++◌, FitsSigned, arith}
 use Rattle.std.specs.Int.{w32}
 use Rattle.std.proofs.lemmas.Int.{to_z-of_z}
 use Rattle.sched_base.specs.declared.limits.TheConstants.{MAX_ATTRIBUTES}
-use Rattle.policy_tree.specs.declared.typed.Attr.{Attr}
 use Rattle.round_model.specs.Programs.{start_of}
 use Rattle.round_model.proofs.Keeping.{fill_step}
 use Rattle.round_model.proofs.changes.starting_attrs.Goals as goal

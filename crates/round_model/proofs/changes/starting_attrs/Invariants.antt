@@ -1,4 +1,4 @@
-use Rattle.std.proofs.Common.{◌≡◌, ◌-◌, ◌++◌, map, take, replicate, pos, ℤ}
+use Rattle.std.proofs.Common.{◌≡◌, ◌-◌, ◌++◌, map, take, replicate, pos}
 use Rattle.sched_base.specs.declared.limits.TheConstants.{MAX_ATTRIBUTES}
 use Rattle.round_model.specs.Programs.{start_of}
 use Rattle.round_model.proofs.changes.starting_attrs.Given as goal

@@ -1,5 +1,4 @@
-use Rattle.std.proofs.Common.{◌≡◌, ap, ◌∙◌, sym, Some, None, arith}
-use Rattle.round_model.specs.declared.state.ModelCore.{ModelCore}
+use Rattle.std.proofs.Common.{ap, ◌∙◌, sym}
 use Rattle.round_model.specs.Moves.{queued_of, received}
 use Rattle.round_model.specs.Updates.{updated}
 use Rattle.round_model.proofs.Moved.{moved_no_steal, moved_steal}

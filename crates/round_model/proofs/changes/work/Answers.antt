@@ -1,11 +1,9 @@
-use Rattle.std.proofs.Common.{◌≡◌, ap, ◌∙◌, sym, subst, List, set, Contains}
+use Rattle.std.proofs.Common.{ap, ◌∙◌, sym, subst, set}
 use Rattle.policy_tree.specs.Meaning.{meaning_of}
-use Rattle.round_model.specs.declared.entry.Did.{Did}
 use Rattle.round_model.specs.declared.state.ModelCore.{ModelCore}
 use Rattle.round_model.specs.Cores.{listed}
 use Rattle.round_model.specs.Units.{IsSmallCore, IsUnit, core_after_unit}
 use Rattle.round_model.specs.Updates.{updated}
-use Rattle.round_model.specs.Work.{IsOutcomeOfWork}
 use Rattle.round_model.proofs.Finding.{All-at}
 use Rattle.round_model.proofs.Moved.{moved_work}
 use Rattle.round_model.proofs.States.{OnErr-then, OnOk-then, listed_at, listed_same, listed_updated, set_back}

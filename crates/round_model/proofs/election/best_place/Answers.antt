@@ -1,6 +1,5 @@
-use Rattle.std.proofs.Common.{◌≡◌, ℕ, suc, ◌-◌, [], drop, slice_get, MatchOption, arith, subst, sym, ap, ◌∙◌}
+use Rattle.std.proofs.Common.{◌≡◌, suc, ◌-◌, [], drop, MatchOption, arith, subst, sym, ◌∙◌}
 use Rattle.policy_tree.specs.Meaning.{order_tree}
-use Rattle.round_model.specs.Units.{IsBestPlace}
 use Rattle.round_model.specs.Work.{before}
 use Rattle.round_model.proofs.Elections.{BestFrom, BestFrom-keep, BestFrom-last, BestFrom-take, best_of_all, item_at}
 use Rattle.round_model.proofs.election.best_place.Goals as goal

@@ -1,7 +1,6 @@
-use Rattle.std.proofs.Common.{◌≡◌, ◌<◌, Some, sym, ap, ◌∙◌, refl, subst}
+use Rattle.std.proofs.Common.{◌<◌, Some, sym, ap, ◌∙◌, refl, subst}
 use Rattle.std.proofs.lemmas.Bool.{false≢true}
 use Rattle.policy_tree.specs.Meaning.{meaning_of}
-use Rattle.round_model.specs.Legal.{rounds_begun}
 use Rattle.round_model.specs.Scenes.{scene_of}
 use Rattle.round_model.proofs.Judging.{attempt_legal, attempt_made, attempt_parts, refuted}
 use Rattle.round_model.proofs.judge.may_attempt.Goals as goal
@@ -29,7 +28,8 @@ returns-in-Some c history stands =
     let p = meaning_of c.args.policy.now in let plan = c.args.plan.now in
     let acts = c.if-not-may_act.ensures.0 refl in
     let owes = (c.if-not-owes_attempt.ensures p plan history stands acts.1).0 refl in
-    let made = c.attempt_by.ensures history stands in
-    (λ e. attempt_legal p plan history c.args.by c.args.reads c.args.claimed c.attempt_by.result made (subst (λ n. 0 < n) stands.rounds acts.0) acts.1 owes
-    (c.in-Some.is ∙ ap Some (c.is.ensures.0 e)),
-      λ legal. c.is.ensures.1 (let same = sym c.in-Some.is ∙ attempt_made p plan history c.args.by c.args.reads c.args.claimed c.attempt_by.result made legal in cc))
+    let made = c.attempt_by.ensures history stands in (
+      λ e. attempt_legal p plan history c.args.by c.args.reads c.args.claimed c.attempt_by.result made (subst (λ n. 0 < n) stands.rounds acts.0) acts.1 owes
+          (c.in-Some.is ∙ ap Some (c.is.ensures.0 e)),
+      λ legal. c.is.ensures.1 (let same = sym c.in-Some.is ∙ attempt_made p plan history c.args.by c.args.reads c.args.claimed c.attempt_by.result made legal in cc),
+    )

@@ -1,8 +1,7 @@
-use Rattle.std.proofs.Common.{◌≡◌, ◌<◌, sym, ◌∙◌, refl, subst}
+use Rattle.std.proofs.Common.{◌<◌, sym, ◌∙◌, refl, subst}
 use Rattle.std.proofs.lemmas.Bool.{false≢true}
 use Rattle.policy_tree.specs.Meaning.{meaning_of}
 use Rattle.round_model.specs.After.{round_of}
-use Rattle.round_model.specs.Legal.{rounds_begun}
 use Rattle.round_model.specs.Scenes.{entering_next, own_entries, scene_of}
 use Rattle.round_model.proofs.Judging.{enter_legal, enter_parts, enter_placed, is_option, is_unless_ne, isnt_if_ne, named_some, option_is, refuted, some_named}
 use Rattle.round_model.proofs.judge.may_enter.Goals as goal
@@ -28,7 +27,8 @@ returns c history stands =
     let found = entering_next plan (round_of history) c.args.by (own_entries history c.args.by) in
     let arrives = is_unless_ne c.arriving.result c.args.thread c.ne.result c.ne.ensures c.if-ne.false in
     let next = some_named c.args.thread found (sym arrives ∙ c.arriving.ensures p plan history stands) in
-    let placed = c.placement.ensures history stands in
-    (λ e. enter_legal p plan history c.args.by c.args.thread c.args.at c.args.reads c.placement.result placed
-    (subst (λ n. 0 < n) stands.rounds acts.0) acts.1 next (option_is c.placement.result c.args.at (sym c.eq.ensures ∙ e)),
-      λ legal. c.eq.ensures ∙ is_option c.placement.result c.args.at (enter_placed p plan history c.args.by c.args.thread c.args.at c.args.reads c.placement.result placed legal))
+    let placed = c.placement.ensures history stands in (
+      λ e. enter_legal p plan history c.args.by c.args.thread c.args.at c.args.reads c.placement.result placed
+          (subst (λ n. 0 < n) stands.rounds acts.0) acts.1 next (option_is c.placement.result c.args.at (sym c.eq.ensures ∙ e)),
+      λ legal. c.eq.ensures ∙ is_option c.placement.result c.args.at (enter_placed p plan history c.args.by c.args.thread c.args.at c.args.reads c.placement.result placed legal),
+    )

@@ -1,10 +1,9 @@
-use Rattle.std.proofs.Common.{◌≡◌, ◌<◌, List, Contains, sym, ap₂, ◌∙◌, refl, subst}
+use Rattle.std.proofs.Common.{◌<◌, List, Contains, sym, ap₂, ◌∙◌, refl, subst}
 use Rattle.std.proofs.lemmas.Bool.{false≢true}
 use Rattle.policy_tree.specs.Meaning.{meaning_of}
 use Rattle.round_model.specs.declared.entry.Did.{Did}
 use Rattle.round_model.specs.declared.state.ModelCore.{ModelCore}
 use Rattle.round_model.specs.After.{after}
-use Rattle.round_model.specs.Legal.{rounds_begun}
 use Rattle.round_model.specs.Work.{worked}
 use Rattle.round_model.proofs.States.{listed_at}
 use Rattle.round_model.proofs.Units.{unit_dids}
@@ -34,7 +33,8 @@ returns c history stands =
     let owes = (c.if-not-owes_unit.ensures p plan history stands ready.1).0 refl in
     let unit = c.unit_of.result in
     let same = listed_at plan.cores (after p plan history) c.args.past.now.state c.args.by c.get-core.result.now stands.state c.get-core.ensures.item ready.1 in
-    let dids = ap₂ (λ round (core : ModelCore). (worked p plan round core).dids) (sym stands.round) (sym same) ∙ unit_dids p plan c.args.past.now.rounds c.get-core.result.now unit c.unit_of.ensures in
-    (λ e. work_legal p plan history c.args.by c.args.did (subst (λ n. 0 < n) stands.rounds ready.0) ready.1 ready.2 owes
-    (subst (λ (list : List Did). Contains list c.args.did) (sym dids) (c.tells.ensures.0 e)),
-      λ legal. c.tells.ensures.1 (subst (λ (list : List Did). Contains list c.args.did) dids (work_parts p plan history c.args.by c.args.did legal).outcome))
+    let dids = ap₂ (λ round (core : ModelCore). (worked p plan round core).dids) (sym stands.round) (sym same) ∙ unit_dids p plan c.args.past.now.rounds c.get-core.result.now unit c.unit_of.ensures in (
+      λ e. work_legal p plan history c.args.by c.args.did (subst (λ n. 0 < n) stands.rounds ready.0) ready.1 ready.2 owes
+          (subst (λ (list : List Did). Contains list c.args.did) (sym dids) (c.tells.ensures.0 e)),
+      λ legal. c.tells.ensures.1 (subst (λ (list : List Did). Contains list c.args.did) dids (work_parts p plan history c.args.by c.args.did legal).outcome),
+    )

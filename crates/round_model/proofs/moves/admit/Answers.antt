@@ -1,4 +1,4 @@
-use Rattle.std.proofs.Common.{◌≡◌, ap, ◌∙◌, refl, sym}
+use Rattle.std.proofs.Common.{ap, ◌∙◌, sym}
 use Rattle.policy_tree.specs.Meaning.{meaning_of}
 use Rattle.policy_tree.specs.declared.typed.Event.TheVariants as event
 use Rattle.policy_eval.specs.Events.{outcomes_of}

@@ -1,4 +1,3 @@
-use Rattle.std.proofs.Common.{◌≡◌, ap, ◌∙◌, refl, sym}
 use Rattle.round_model.specs.Moves.{received}
 use Rattle.round_model.proofs.moves.receive.Goals as goal
 

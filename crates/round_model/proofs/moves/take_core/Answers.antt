@@ -1,4 +1,4 @@
-use Rattle.std.proofs.Common.{◌≡◌, ap, ◌∙◌, List, set}
+use Rattle.std.proofs.Common.{ap, ◌∙◌, List, set}
 use Rattle.round_model.specs.declared.state.ModelCore.{ModelCore}
 use Rattle.round_model.proofs.States.{set_twice}
 use Rattle.round_model.proofs.moves.take_core.Goals as goal

@@ -1,4 +1,4 @@
-use Rattle.std.proofs.Common.{◌≡◌, ℕ, ap, ◌∙◌, find, option_map}
+use Rattle.std.proofs.Common.{ℕ, ap, ◌∙◌, find, option_map}
 use Rattle.round_model.specs.declared.past.Arrival.{Arrival}
 use Rattle.round_model.specs.After.{round_of}
 use Rattle.round_model.specs.Past.{arrives_at}

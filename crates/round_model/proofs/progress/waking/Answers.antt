@@ -1,4 +1,4 @@
-use Rattle.std.proofs.Common.{◌≡◌, ℕ, List, ap, ap₂, ◌∙◌, find, option_map}
+use Rattle.std.proofs.Common.{ℕ, ap, ap₂, ◌∙◌, find, option_map}
 use Rattle.round_model.specs.declared.state.Blocked.{Blocked}
 use Rattle.round_model.specs.declared.state.ModelCore.{ModelCore}
 use Rattle.round_model.specs.After.{after}

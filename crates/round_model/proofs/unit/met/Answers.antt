@@ -1,4 +1,4 @@
-use Rattle.std.proofs.Common.{◌≡◌, false, List, [], ◌∷◌, Option, Some, None, fold, map, refl, sym, ap, ◌∙◌}
+use Rattle.std.proofs.Common.{false, refl}
 use Rattle.policy_tree.specs.Meaning.{meaning_of}
 use Rattle.round_model.proofs.Units.{met_once}
 use Rattle.policy_eval.proofs.Kept.{outcome_kept}

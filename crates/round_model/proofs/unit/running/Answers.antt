@@ -1,11 +1,10 @@
-use Rattle.std.proofs.Common.{◌≡◌, List, Option, All, ◌++◌, option_to_list, sym, ap, subst}
+use Rattle.std.proofs.Common.{List, Option, All, ◌++◌, option_to_list, sym, subst}
 use Rattle.sched_base.specs.declared.task.Task.{Task}
 use Rattle.policy_tree.specs.Meaning.{meaning_of, order_tree}
 use Rattle.policy_eval.specs.Fitting.{IsTask}
 use Rattle.policy_eval.specs.Sites.{electing}
 use Rattle.policy_eval.proofs.Evaluable.{evaluable_order}
 use Rattle.policy_eval.proofs.Wide.{thread_wide}
-use Rattle.round_model.specs.Units.{IsSeenTask}
 use Rattle.round_model.proofs.unit.running.Goals as goal
 
 pub best_place-requires-clause-order : goal.best_place-requires-clause-order

@@ -1,4 +1,4 @@
-use Rattle.std.proofs.Common.{◌==◌, arith, sym, ap, ◌∙◌, Bool, false, ◌≡◌, List}
+use Rattle.std.proofs.Common.{◌==◌, arith, ap, ◌∙◌, Bool, false, ◌≡◌}
 use Rattle.std.specs.List.{list_all}
 use Rattle.std.proofs.lemmas.Bool.Decides.{nat_tests}
 use Rattle.round_model.specs.declared.past.Turn.{Turn}

@@ -1,4 +1,4 @@
-use Rattle.std.proofs.Common.{◌≡◌, ◌++◌, replicate, refl, ap, ◌∙◌, [], ◌∷◌, List}
+use Rattle.std.proofs.Common.{◌++◌, replicate, refl, ap, ◌∙◌, [], ◌∷◌, List}
 use Rattle.sched_base.specs.declared.limits.TheConstants.{MAX_CORES}
 use Rattle.round_model.specs.declared.past.Past.{Past}
 use Rattle.round_model.specs.declared.state.CountAndLoad.{CountAndLoad}
