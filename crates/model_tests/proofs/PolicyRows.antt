@@ -12,13 +12,13 @@ use Rattle.policy_tree.specs.declared.typed.Event.TheVariants as event
 use Rattle.policy_eval.specs.declared.env.CoreValues.{CoreValues}
 use Rattle.policy_eval.specs.Events.{holding_cases}
 use Rattle.policy_eval.specs.Fitting.{CoreFits, IsTask}
-use Rattle.policy_eval.specs.Obligations.{MeetsBalanceObligations, MeetsObligations, NoGap, NoOverlap}
+use Rattle.policy_eval.specs.Obligations.{MeetsBalanceObligations, MeetsHandlerObligations, MeetsObligations, NoGap, NoOverlap}
 use Rattle.policy_eval.specs.Ranges.{AreIn, IsIn, attribute_ranges, greatest_weight, least_weight, range}
 use Rattle.policy_eval.specs.Sights.{pair_values, no_attributes}
 use Rattle.policy_eval.proofs.Statements.{all_obligations}
 use Rattle.round_model.specs.declared.plan.Planned.{Planned}
 use Rattle.round_model.specs.Fits.{Fits, OrderFits, ThreadFits}
-use Rattle.model_tests.specs.Plans.{block_and_wake, eight_threads, endless}
+use Rattle.model_tests.specs.Plans.{block_and_wake, eight_threads, endless, two_cores}
 use Rattle.model_tests.specs.Policies.{basic, fair}
 use Rattle.model_tests.proofs.ResolvedRows.{basic_resolved, fair_resolved}
 use Rattle.model_tests.specs.PolicyRows.{PolicyMisses, WorkedPoliciesFit, with_filter}
@@ -46,8 +46,11 @@ basic_no_gap event.Tick fresh consts t held fits = omega arith
 basic_no_gap event.Yield fresh consts t held fits = omega arith
 basic_no_gap event.Block fresh consts t held fits = omega arith
 
+pub basic_handlers : MeetsHandlerObligations basic
+basic_handlers = record { no_overlap = basic_no_overlap; no_gap = basic_no_gap }
+
 basic_meets : MeetsObligations basic
-basic_meets = all_obligations basic basic_balance (record { no_overlap = basic_no_overlap; no_gap = basic_no_gap })
+basic_meets = all_obligations basic basic_balance basic_handlers
 
 fair_balance : MeetsBalanceObligations fair
 unfolding pair_values
@@ -104,6 +107,30 @@ numbered (suc (suc (suc (suc (suc zero))))) d inside = refl
 numbered (suc (suc (suc (suc (suc (suc zero)))))) d inside = refl
 numbered (suc (suc (suc (suc (suc (suc (suc zero))))))) d inside = refl
 numbered (suc (suc (suc (suc (suc (suc (suc (suc k)))))))) d inside = absurd (omega arith)
+
+two_numbered : (k : ℕ) (d : Planned) → k < 2 → (get_or two_cores.threads k d).id ≡ k + 1
+two_numbered zero d inside = refl
+two_numbered (suc zero) d inside = refl
+two_numbered (suc (suc k)) d inside = absurd (omega arith)
+
+pub two_cores_fit : Fits basic two_cores
+two_cores_fit = record {
+  policy = basic_resolved;
+  some_cores = omega arith;
+  few_cores = omega arith;
+  few_rounds = omega arith;
+  few_entries = omega arith;
+  consts_each = refl;
+  consts = All-from_recursion (AreIn (attribute_ranges [])) two_cores.consts (zeros_fit, (zeros_fit, tt));
+  few_threads = omega arith;
+  threads = All-from_recursion (ThreadFits basic 2) two_cores.threads (fit 1 (omega arith) (omega arith), (fit 2 (omega arith) (omega arith), tt));
+  distinct = λ i j d below inside same. absurd (omega (arith, two_numbered i d (omega arith), two_numbered j d inside));
+  orders = λ k d inside. absurd (omega arith);
+  one_order_each = λ i j d below inside. absurd (omega arith);
+}
+  where
+    fit : (id : ℕ) → 1 ≤ id → id ≤ 8 → ThreadFits basic 2 (endless id)
+    fit id positive small = endless_fits 2 id positive small (omega arith)
 
 pub eight_threads_fit : Fits basic eight_threads
 eight_threads_fit = record {

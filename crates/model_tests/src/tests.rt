@@ -1,7 +1,8 @@
 //! Each plain body of the model on the worked rows.
 
 use crate::builders::{basic_choice, basic_policy};
-use round_model::{Did, Entry, History, reads_fit, round_start, spread_of};
+use crate::plans::{may_come_first, no_past, two_cores};
+use round_model::{Did, Entry, History, opening, reads_fit, round_due, round_start, spread_of};
 use sched_base::Reads;
 use std::test::Fail;
 
@@ -75,4 +76,24 @@ fn cores_of_an_entry(rt: HostRuntime) {
     };
     assert!(rt; enter.acts(0) && enter.touches(2) && !enter.touches(0));
     assert!(rt; !enter.is_round() && !enter.is_attempt());
+}
+
+#[test]
+fn before_the_first_round(rt: HostRuntime) -> Result<(), Fail> {
+    let policy = basic_policy(rt.alloc())?;
+    let plan = two_cores(rt.alloc())?;
+    assert_eq!(rt; opening(rt.alloc(), &plan)?.len(), 2);
+    let past = no_past(rt.alloc(), &plan)?;
+    assert!(rt; round_due(&plan, &past));
+    assert!(rt; may_come_first(&policy, &plan, &past, &Entry::Round { number: 1 }));
+    assert!(rt; !may_come_first(&policy, &plan, &past, &Entry::Round { number: 2 }));
+    let early = Entry::Work {
+        by: 0,
+        did: Did::Nothing,
+    };
+    assert!(rt;
+        !may_come_first(&policy, &plan, &past, &early),
+        "no round is open"
+    );
+    Ok(())
 }

@@ -1,0 +1,14 @@
+use Rattle.std.proofs.Common.{◌≡◌, [], sym, subst}
+use Rattle.round_model.specs.declared.plan.Plan.{Plan}
+use Rattle.round_model.specs.Fits.{Fits}
+use Rattle.round_model.specs.Past.{IsPastOf, StandsFor}
+use Rattle.model_tests.specs.Policies.{basic}
+use Rattle.model_tests.proofs.PolicyRows.{two_cores_fit}
+use Rattle.model_tests.proofs.plans.no_past.Goals as goal
+
+pub returns-clause-stands : goal.returns-clause-stands
+returns-clause-stands c = subst (λ (plan : Plan). StandsFor basic plan c.in_ok-past.past []) c.requires (c.in_ok-past.ensures.stands basic)
+
+pub returns-clause-belongs : goal.returns-clause-belongs
+returns-clause-belongs c =
+    subst (λ (plan : Plan). IsPastOf basic plan c.in_ok-past.past) c.requires (c.in_ok-past.ensures.belongs basic (subst (Fits basic) (sym c.requires) two_cores_fit))
