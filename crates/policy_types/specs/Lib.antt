@@ -6,3 +6,4 @@ pub mod Conditions
 pub mod Declarations
 pub mod Handlers
 pub mod Policies
+pub mod Products

@@ -1,8 +1,12 @@
 //! Names, ranges and phases: which policy a syntax is, or the first rule of theirs that it breaks.
 #![tactic(auto)]
 
+mod conditions;
+mod expressions;
 mod fault;
+mod products;
 mod scope;
 mod sites;
+mod sums;
 
 pub use fault::TypeFault;
