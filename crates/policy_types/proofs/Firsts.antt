@@ -1,5 +1,5 @@
 -- The first of faults in order.
-use Rattle.std.proofs.Common.{◌≡◌, ◌+◌, ◌^◌, ◌<◌, ℕ, List, [], ◌∷◌, ◌++◌, Option, Some, None, length, drop, get_or, drop-cons, add-one, refl, sym, ap, ◌∙◌, arith}
+use Rattle.std.proofs.Common.{◌≡◌, ◌+◌, ◌^◌, ◌<◌, ℕ, List, [], ◌∷◌, ◌++◌, Option, Some, None, length, drop, get_or, drop-cons, add-one, refl, sym, ap, subst, ◌∙◌, arith}
 use Rattle.policy_types.specs.declared.fault.TypeFault.{TypeFault}
 use Rattle.policy_types.specs.declared.fault.TypeFault.TheVariants.{Unknown, Twice, NotLinear, NotHere, BadRange, Big, Memory}
 use Rattle.policy_types.specs.Faults.{IsFirst, behind, first_of}
@@ -35,3 +35,7 @@ behind_none at fits = omega arith
 -- the item in that place, and those behind it
 pub drop_item : {X : Type 0} (items : List X) (at : ℕ) (x : X) → at < length items → x ≡ get_or items at x → drop at items ≡ x ∷ drop (at + 1) items
 drop_item items at x inside here = rw (add-one at, drop-cons items at x inside, ← here) refl
+
+-- what is first of a part is first of the whole, where the parts before it break no rule
+pub part_first : (part rest whole : List TypeFault) (fault : TypeFault) → part ++ rest ≡ whole → IsFirst part fault → IsFirst whole fault
+part_first part rest whole fault same is = subst (λ xs. IsFirst xs fault) same (first_front part rest fault is)

@@ -71,12 +71,13 @@ scope_after scope (a ∷ rest) = scope_after (declared_with scope a) rest
 abbrev pub nothing_declared : Scope
 nothing_declared = record { cores = []; threads = [] }
 
--- an attribute behind those: its name is one of its kind already, or its range is bad
-abbrev pub attr_faults : Scope → AttrSyntax → List TypeFault
-attr_faults scope a =
-    where_broken (is_some (attribute_named 0 (of_kind a.of_cores scope) a.name)) (Twice (behind a.at 1))
+-- an attribute behind those of its kind: its name is there already, or its range is bad
+abbrev pub attr_faults : List Attr → AttrSyntax → List TypeFault
+attr_faults declared a =
+    where_broken (is_some (attribute_named 0 declared a.name)) (Twice (behind a.at 1))
     ++ where_broken (not (is_attribute_range a)) (BadRange a.range.at)
 
 abbrev pub attrs_faults : Scope → List AttrSyntax → List TypeFault
 attrs_faults scope [] = []
-attrs_faults scope (a ∷ rest) = attr_faults scope a ++ attrs_faults (declared_with scope a) rest
+attrs_faults scope (a ∷ rest) =
+    attr_faults (of_kind a.of_cores scope) a ++ attrs_faults (declared_with scope a) rest

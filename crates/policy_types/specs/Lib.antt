@@ -7,3 +7,4 @@ pub mod Declarations
 pub mod Handlers
 pub mod Policies
 pub mod Products
+pub mod Given

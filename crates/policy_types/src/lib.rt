@@ -2,8 +2,10 @@
 #![tactic(auto)]
 
 mod conditions;
+mod declarations;
 mod expressions;
 mod fault;
+mod handlers;
 mod products;
 mod scope;
 mod sites;

@@ -1,10 +1,10 @@
 //! What a policy declares, and what a word refers to there.
 
-ghost use Rattle.std.specs.Prelude.{◌≡◌};
+ghost use Rattle.std.specs.Prelude.{◌≡◌, ◌<◌, ◌^◌, length};
 ghost use Rattle.policy_types.specs.References.{attribute_named, attributes_of, feature_among, feature_of, reference_of};
 
 use crate::sites::{Feature, variable_of};
-use policy_tree::{AttrList, Name, Owner};
+use policy_tree::{Attr, AttrList, Name, Owner};
 use sched_base::VARIABLES;
 
 /// The attributes that a policy declares, of cores and of threads.
@@ -44,7 +44,7 @@ impl Scope {
 }
 
 /// What the word says of an owner that has these attributes.
-fn feature_among(attrs: &AttrList, word: &Name) -> Option<Feature>
+pub(crate) fn feature_among(attrs: &AttrList, word: &Name) -> Option<Feature>
     ensures { result ≡ feature_among attrs.now word.now }
 {
     let bytes = word.as_slice();
@@ -57,17 +57,18 @@ fn feature_among(attrs: &AttrList, word: &Name) -> Option<Feature>
     } else if bytes == b"fresh".as_slice() {
         Some(Feature::Fresh)
     } else {
-        attribute_named(attrs, word)
+        attribute_named(attrs.as_slice(), bytes)
     }
 }
 
 /// The first attribute of that name.
-pub(crate) fn attribute_named(attrs: &AttrList, word: &Name) -> Option<Feature>
+pub(crate) fn attribute_named(attrs: &[Attr], word: &[u8]) -> Option<Feature>
+    requires { length attrs.now < 2 ^ 32 }
     ensures { result ≡ attribute_named 0 attrs.now word.now }
 {
     for at in 0..attrs.len() {
-        if attrs.get(at).name.as_slice() == word.as_slice() {
-            return Some(Feature::Attribute(at));
+        if attrs[at].name.as_slice() == word {
+            return Some(Feature::Attribute(at as u32));
         }
     }
     None
