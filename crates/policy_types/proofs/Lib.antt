@@ -5,3 +5,5 @@ pub mod Firsts
 pub mod Signs
 pub mod TermsRead
 pub mod SumsRead
+pub mod Ranges
+pub mod HandlersRead

@@ -1,6 +1,6 @@
 //! Which handlers a syntax is.
 
-ghost use Rattle.std.specs.Prelude.{◌≡◌, [], IfOk, IfErr, Option, List, map, option_map, is_some, if◌then◌else◌, Some};
+ghost use Rattle.std.specs.Prelude.{◌≡◌, ◌<◌, ◌^◌, length, [], IfOk, IfErr, Option, List, map, option_map, is_some, if◌then◌else◌, Some};
 ghost use Rattle.policy_tree.specs.declared.typed.Event.{Event};
 ghost use Rattle.policy_tree.specs.Meaning.{CaseTree, case_tree, handler_trees, set_tree};
 ghost use Rattle.policy_tree.specs.SyntaxTrees.{case_syntax_tree, handler_syntax_tree};
@@ -97,6 +97,7 @@ impl Scope {
 
     /// The cases of the handler of that event.
     fn cases(&self, alloc: Global, event: Event, cases: &[CaseSyntax]) -> Result<CaseList, TypeFault>
+        requires { length cases.now < 2 ^ 32 }
         ensures tree { IfOk result (λ cs. map case_tree cs ≡ map (case_meaning self.now) (map case_syntax_tree cases.now)) }
         ensures sound { IfOk result (λ cs. cases_faults self.now event (map case_syntax_tree cases.now) ≡ []) }
         ensures fault { IfErr result (IsFirst (cases_faults self.now event (map case_syntax_tree cases.now))) }
@@ -128,6 +129,7 @@ impl Scope {
 
     /// The assignments of a case of the handler of that event.
     fn sets(&self, alloc: Global, event: Event, sets: &[SetSyntax]) -> Result<SetList, TypeFault>
+        requires { length sets.now < 2 ^ 32 }
         ensures tree { IfOk result (λ s. map set_tree s ≡ map (set_meaning self.now) sets.now) }
         ensures sound { IfOk result (λ s. sets_faults self.now event sets.now ≡ []) }
         ensures fault { IfErr result (IsFirst (sets_faults self.now event sets.now)) }

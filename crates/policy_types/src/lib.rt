@@ -7,8 +7,10 @@ mod expressions;
 mod fault;
 mod handlers;
 mod products;
+mod resolution;
 mod scope;
 mod sites;
 mod sums;
 
 pub use fault::TypeFault;
+pub use resolution::resolve;
