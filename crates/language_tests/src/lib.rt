@@ -1,5 +1,9 @@
-//! Tests of texts of policies, through the public calls of the lexer and the parser.
+//! Tests of texts of policies, through the public calls of the lexer, the parser and the resolver.
 #![tactic(auto)]
 
+#[cfg(test)]
+mod resolving;
+#[cfg(test)]
+mod shown;
 #[cfg(test)]
 mod tests;

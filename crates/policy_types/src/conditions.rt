@@ -94,12 +94,7 @@ impl Scope {
 }
 
 /// The chain with one part more.
-fn linked(
-    alloc: Global,
-    both: bool,
-    chain: Option<Cond>,
-    right: Cond,
-) -> Result<Cond, AllocError>
+fn linked(alloc: Global, both: bool, chain: Option<Cond>, right: Cond) -> Result<Cond, AllocError>
     ensures { IfOk result (λ c. cond_tree c ≡ linked both (option_map cond_tree chain) (cond_tree right)) }
 {
     let left = match chain {

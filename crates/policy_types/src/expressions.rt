@@ -60,13 +60,7 @@ impl Scope {
     }
 
     /// The feature that stands behind a dot, where it may stand there.
-    fn reference_at(
-        &self,
-        site: Site,
-        at: u32,
-        owner: Owner,
-        word: &Name,
-    ) -> Result<u32, TypeFault>
+    fn reference_at(&self, site: Site, at: u32, owner: Owner, word: &Name) -> Result<u32, TypeFault>
         ensures value { IfOk result (λ v. v ≡ reference_of self.now owner word.now) }
         ensures sound { IfOk result (λ v. feature_faults site at owner (feature_of self.now owner word.now) ≡ []) }
         ensures fault { IfErr result (IsFirst (feature_faults site at owner (feature_of self.now owner word.now))) }
@@ -141,7 +135,12 @@ impl Scope {
     }
 
     /// An expression.
-    pub(crate) fn expr(&self, alloc: Global, site: Site, expr: &ExprSyntax) -> Result<Expr, TypeFault>
+    pub(crate) fn expr(
+        &self,
+        alloc: Global,
+        site: Site,
+        expr: &ExprSyntax,
+    ) -> Result<Expr, TypeFault>
         ensures tree { IfOk result (λ e. expr_tree e ≡ expr_meaning self.now expr.now) }
         ensures sound { IfOk result (λ e. expr_faults self.now site expr.now ≡ []) }
         ensures fault { IfErr result (IsFirst (expr_faults self.now site expr.now)) }

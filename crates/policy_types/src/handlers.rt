@@ -96,7 +96,12 @@ impl Scope {
     }
 
     /// The cases of the handler of that event.
-    fn cases(&self, alloc: Global, event: Event, cases: &[CaseSyntax]) -> Result<CaseList, TypeFault>
+    fn cases(
+        &self,
+        alloc: Global,
+        event: Event,
+        cases: &[CaseSyntax],
+    ) -> Result<CaseList, TypeFault>
         requires { length cases.now < 2 ^ 32 }
         ensures tree { IfOk result (λ cs. map case_tree cs ≡ map (case_meaning self.now) (map case_syntax_tree cases.now)) }
         ensures sound { IfOk result (λ cs. cases_faults self.now event (map case_syntax_tree cases.now) ≡ []) }

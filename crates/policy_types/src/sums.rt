@@ -52,8 +52,11 @@ impl Form {
         let mut form = self;
         match at {
             Some(at) => {
-                form.coefficients[at as usize] =
-                    moved(self.coefficients[at as usize], negative, size)?;
+                form.coefficients[at as usize] = moved(
+                    self.coefficients[at as usize],
+                    negative,
+                    size,
+                )?;
             }
             None => form.constant = moved(self.constant, negative, size)?,
         }

@@ -12,8 +12,10 @@ stored x y same wide fits = ap (λ z. to_z w32 (of_z w32 z)) (to_z-of_z w128 y w
 pub returns-clause-attr : goal.returns-clause-attr
 returns-clause-attr c =
     let fits = attribute_fits c.args.attr.now (sym c.if-not-is_attribute_range.ensures) in
-    rw (c.in_ok-copy_of_name.ensures,
-    stored (int_meaning c.args.attr.now.range.low) c.int.result c.int.ensures.value (fits_signed_from_abs w128 c.int.result (omega (arith, c.int.ensures.bound))) fits.low,
-    stored (int_meaning c.args.attr.now.range.high) c.int-2.result c.int-2.ensures.value (fits_signed_from_abs w128 c.int-2.result (omega (arith, c.int-2.ensures.bound))) fits.high,
-    stored (int_meaning c.args.attr.now.start) c.int-3.result c.int-3.ensures.value (fits_signed_from_abs w128 c.int-3.result (omega (arith, c.int-3.ensures.bound))) fits.start)
+    rw (
+      c.in_ok-copy_of_name.ensures,
+      stored (int_meaning c.args.attr.now.range.low) c.int.result c.int.ensures.value (fits_signed_from_abs w128 c.int.result (omega (arith, c.int.ensures.bound))) fits.low,
+      stored (int_meaning c.args.attr.now.range.high) c.int-2.result c.int-2.ensures.value (fits_signed_from_abs w128 c.int-2.result (omega (arith, c.int-2.ensures.bound))) fits.high,
+      stored (int_meaning c.args.attr.now.start) c.int-3.result c.int-3.ensures.value (fits_signed_from_abs w128 c.int-3.result (omega (arith, c.int-3.ensures.bound))) fits.start,
+    )
     refl
