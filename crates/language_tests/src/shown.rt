@@ -112,6 +112,7 @@ fn show_cond(alloc: Global, text: &mut String, cond: &Cond) -> Result<(), Fail> 
 }
 
 /// An expression, with parentheses round each operation and variables by their numbers.
+#[cycle(expressions)]
 fn show_expr(alloc: Global, text: &mut String, expr: &Expr) -> Result<(), Fail> {
     match expr {
         Expr::Num(number) => text.push_str(&format!(in alloc; "{number}")?)?,
@@ -128,6 +129,7 @@ fn show_expr(alloc: Global, text: &mut String, expr: &Expr) -> Result<(), Fail> 
 }
 
 /// Two expressions and what stands between them.
+#[cycle(expressions)]
 fn show_pair(
     alloc: Global,
     text: &mut String,

@@ -1,8 +1,8 @@
 -- The first of faults in order.
-use Rattle.std.proofs.Common.{◌≡◌, ◌+◌, ◌^◌, ◌<◌, ℕ, List, [], ◌∷◌, ◌++◌, Option, Some, None, length, drop, get_or, drop-cons, add-one, refl, sym, ap, subst, ◌∙◌, arith}
+use Rattle.std.proofs.Common.{◌≡◌, Bool, true, false, not, ◌+◌, ◌^◌, ◌<◌, ℕ, List, [], ◌∷◌, ◌++◌, Option, Some, None, length, drop, get_or, drop-cons, add-one, refl, sym, ap, subst, ◌∙◌, arith}
 use Rattle.policy_types.specs.declared.fault.TypeFault.{TypeFault}
 use Rattle.policy_types.specs.declared.fault.TypeFault.TheVariants.{Unknown, Twice, NotLinear, NotHere, BadRange, Big, Memory}
-use Rattle.policy_types.specs.Faults.{IsFirst, behind, first_of}
+use Rattle.policy_types.specs.Faults.{IsFirst, behind, first_of, where_broken}
 
 front : (xs ys : List TypeFault) (fault : TypeFault) → first_of xs ≡ Some fault → first_of (xs ++ ys) ≡ Some fault
 front [] ys fault is = absurd (cc)
@@ -39,3 +39,12 @@ drop_item items at x inside here = rw (add-one at, drop-cons items at x inside, 
 -- what is first of a part is first of the whole, where the parts before it break no rule
 pub part_first : (part rest whole : List TypeFault) (fault : TypeFault) → part ++ rest ≡ whole → IsFirst part fault → IsFirst whole fault
 part_first part rest whole fault same is = subst (λ xs. IsFirst xs fault) same (first_front part rest fault is)
+
+-- what is broken nowhere
+pub where_not : (b : Bool) (fault : TypeFault) → where_broken (not b) fault ≡ [] → b ≡ true
+where_not true fault none = refl
+where_not false fault none = absurd (cc)
+
+pub none_parts : (xs ys : List TypeFault) → xs ++ ys ≡ [] → (xs ≡ []) × (ys ≡ [])
+none_parts [] ys none = (refl, none)
+none_parts (x ∷ xs) ys none = absurd (cc)

@@ -7,3 +7,8 @@ pub mod TermsRead
 pub mod SumsRead
 pub mod Ranges
 pub mod HandlersRead
+pub mod Allowed
+pub mod Linear
+pub mod SoundExpressions
+pub mod Counted
+pub mod SoundConditions

@@ -8,3 +8,4 @@ pub mod Handlers
 pub mod Policies
 pub mod Products
 pub mod Given
+pub mod Correct
