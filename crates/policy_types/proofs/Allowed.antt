@@ -36,7 +36,8 @@ IsInside attrs Weight = Unit {0}
 IsInside attrs Fresh = Unit {0}
 IsInside attrs (Attribute at) = at < length attrs
 
-abbrev IsFound : ℕ → List Attr → Option Feature → Type 0
+-- what was found is inside, where the first of the list has that number
+abbrev pub IsFound : ℕ → List Attr → Option Feature → Type 0
 IsFound at attrs None = Unit {0}
 IsFound at attrs (Some Nr) = Unit {0}
 IsFound at attrs (Some Load) = Unit {0}
@@ -60,7 +61,7 @@ attribute_inside at (a ∷ rest) word = either (bytes_eq a.name word) (attribute
     either true is = omega arith
     either false is = further (attribute_named (at + 1) rest word) is
 
-feature_inside : (attrs : List Attr) (word : List ℕ) → IsFound 0 attrs (feature_among attrs word)
+pub feature_inside : (attrs : List Attr) (word : List ℕ) → IsFound 0 attrs (feature_among attrs word)
 feature_inside attrs word =
     one (bytes_eq word (codes "nr")) (bytes_eq word (codes "load")) (bytes_eq word (codes "weight")) (bytes_eq word (codes "fresh"))
   where

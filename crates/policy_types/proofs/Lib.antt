@@ -12,3 +12,6 @@ pub mod Linear
 pub mod SoundExpressions
 pub mod Counted
 pub mod SoundConditions
+pub mod SoundDeclarations
+pub mod SoundHandlers
+pub mod SoundPolicies

@@ -13,7 +13,7 @@ use Rattle.policy_types.specs.declared.scope.Scope.{Scope}
 use Rattle.policy_types.specs.Faults.{IsFirst}
 use Rattle.policy_types.proofs.Firsts.{drop_item, part_first}
 
-le_of : (a b : ℤ) → int_le a b ≡ true → a ≤ℤ b
+pub le_of : (a b : ℤ) → int_le a b ≡ true → a ≤ℤ b
 le_of a b e = grind (arith, ints)
 
 -- an attribute whose range is right

@@ -14,6 +14,7 @@ use Rattle.policy_grammar.specs.Breaks as breaks
 use Rattle.policy_grammar.specs.Breaks.{breaks_condition, breaks_expr, breaks_keys, breaks_order, breaks_parts, comparisons, deep, first_of, many}
 use Rattle.policy_eval.specs.Forms as eval
 use Rattle.policy_eval.specs.Forms.{EachSide}
+use Rattle.policy_eval.specs.Sites as Sites
 use Rattle.policy_eval.specs.Resolved.{IsResolvedCond, IsResolvedExpr, IsResolvedOrder}
 use Rattle.policy_types.specs.declared.scope.Scope.{Scope}
 use Rattle.policy_types.specs.declared.sites.Site.{Site}
@@ -143,3 +144,7 @@ module _ (p : Meaning) (cores : length p.core_attrs ≤ 8) (threads : length p.t
   resolved_order order none keeps =
       let few = keys_few 0 order.keys (omega arith) keeps in let same = length-map order.keys (key_meaning (declared p)) in
       record { few = omega arith; keys = keys_each 0 order.keys none keeps }
+
+-- an order without keys
+pub no_keys : (p : Meaning) (at : Sites.Site) → IsResolvedOrder p at []
+no_keys p at = record { few = omega arith; keys = All-nil (λ (key : KeyTree). IsResolvedExpr p at key.expr) }
