@@ -99,10 +99,18 @@ fn handlers_of_texts(rt: HostRuntime) -> Result<(), Fail> {
     Ok(())
 }
 
+/// Whether the answer to the text begins so, where the text stands behind a front of 20 tokens that declares the
+/// attribute a of cores and b of threads.
+fn begins(alloc: Global, behind: &str, expected: &str) -> Result<bool, Fail> {
+    let text = format!(in alloc;
+        "policy p load count core a in 0..1 start 0 thread b in 0..5 start 5 {behind}"
+    )?;
+    let answer = answer(alloc, &text)?;
+    Ok(answer.as_str().starts_with(expected))
+}
+
 #[test]
-fn first_faults_of_texts(rt: HostRuntime) -> Result<(), Fail> {
-    let alloc = rt.alloc();
-    // Each stands behind `policy p load count core a in 0..1 start 0 thread b in 0..5 start 5`, which are 20 tokens.
+fn first_faults_of_names(rt: HostRuntime) -> Result<(), Fail> {
     let cases = [
         ("filter self.b == 0 choose first steal first", "unknown 23"),
         (
@@ -133,6 +141,24 @@ fn first_faults_of_texts(rt: HostRuntime) -> Result<(), Fail> {
             "filter self.c * victim.a == 0 choose first steal first",
             "unknown 23",
         ),
+        (
+            "on tick { when always : t.a = 1, keep } filter always choose first steal first",
+            "unknown 28",
+        ),
+    ];
+    for (behind, expected) in cases {
+        assert_eq!(rt;
+            begins(rt.alloc(), behind, expected)?,
+            true,
+            "at {behind:?}"
+        );
+    }
+    Ok(())
+}
+
+#[test]
+fn first_faults_of_phases(rt: HostRuntime) -> Result<(), Fail> {
+    let cases = [
         (
             "filter core.nr == 0 choose first steal first",
             "not-here 23",
@@ -173,10 +199,20 @@ fn first_faults_of_texts(rt: HostRuntime) -> Result<(), Fail> {
             "on tick { when always : t.weight = 1, keep } filter always choose first steal first",
             "not-here 28",
         ),
-        (
-            "on tick { when always : t.a = 1, keep } filter always choose first steal first",
-            "unknown 28",
-        ),
+    ];
+    for (behind, expected) in cases {
+        assert_eq!(rt;
+            begins(rt.alloc(), behind, expected)?,
+            true,
+            "at {behind:?}"
+        );
+    }
+    Ok(())
+}
+
+#[test]
+fn first_faults_of_numbers(rt: HostRuntime) -> Result<(), Fail> {
+    let cases = [
         (
             "core c in 2..1 start 1 filter always choose first steal first",
             "bad-range 23",
@@ -231,13 +267,10 @@ fn first_faults_of_texts(rt: HostRuntime) -> Result<(), Fail> {
         ),
     ];
     for (behind, expected) in cases {
-        let text = format!(in alloc;
-            "policy p load count core a in 0..1 start 0 thread b in 0..5 start 5 {behind}"
-        )?;
         assert_eq!(rt;
-            answer(alloc, &text)?.as_str().starts_with(expected),
+            begins(rt.alloc(), behind, expected)?,
             true,
-            "at {text:?}"
+            "at {behind:?}"
         );
     }
     Ok(())
