@@ -15,3 +15,4 @@ pub mod SoundConditions
 pub mod SoundDeclarations
 pub mod SoundHandlers
 pub mod SoundPolicies
+pub mod Spans
