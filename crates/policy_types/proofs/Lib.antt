@@ -16,3 +16,6 @@ pub mod SoundDeclarations
 pub mod SoundHandlers
 pub mod SoundPolicies
 pub mod Spans
+pub mod WalkExpressions
+pub mod WalkConditions
+pub mod WalkPolicies

@@ -5,7 +5,7 @@ ghost use Rattle.policy_tree.specs.Meaning.{meaning_of, order_tree, place_tree};
 ghost use Rattle.policy_tree.specs.SyntaxTrees.{syntax_tree};
 ghost use Rattle.policy_types.specs.Conditions.{elect_faults, elect_meaning};
 ghost use Rattle.policy_eval.specs.Resolved.{IsResolved};
-ghost use Rattle.policy_types.specs.Correct.{IsOfGrammar};
+ghost use Rattle.policy_types.specs.Correct.{IsLeast, IsOfGrammar};
 ghost use Rattle.policy_types.specs.Faults.{IsFirst};
 ghost use Rattle.policy_types.specs.Policies.{faults_in, meaning_in, place_faults, place_meaning, policy_faults, policy_meaning};
 
@@ -19,12 +19,15 @@ use std::alloc::Global;
 
 /// The policy of that syntax, or the first rule of names, ranges and phases that it breaks.
 ///
-/// It takes any syntax. That the policy is a resolved one is said of a syntax that the grammar has within its limits.
+/// It takes any syntax. That the policy is a resolved one, and that no fault names an earlier token than the one that
+/// is answered, is said of a syntax that the grammar has within its limits.
 pub fn resolve(alloc: Global, syntax: &Syntax) -> Result<Policy, TypeFault>
     ensures policy { IfOk result (λ p. meaning_of p ≡ policy_meaning (syntax_tree syntax.now)) }
     ensures sound { IfOk result (λ p. policy_faults (syntax_tree syntax.now) ≡ []) }
     ensures fault { IfErr result (IsFirst (policy_faults (syntax_tree syntax.now))) }
     ensures resolved { IfOk result (λ p. IsOfGrammar (syntax_tree syntax.now) → IsResolved (meaning_of p)) }
+    ensures least { IfErr result (λ fault. IsOfGrammar (syntax_tree syntax.now) →
+        IsLeast (policy_faults (syntax_tree syntax.now)) fault) }
 {
     policy_of(alloc, syntax)
 }
