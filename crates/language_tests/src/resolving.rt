@@ -2,7 +2,7 @@
 //! that it breaks and its token.
 
 use crate::shown::shown_policy;
-use policy_lexer::lex;
+use policy_lexer::{TEXT_LIMIT, lex};
 use policy_parser::parse;
 use policy_tree::Syntax;
 use policy_types::{TypeFault, resolve};
@@ -11,6 +11,9 @@ use std::test::Fail;
 
 /// The syntax of a text, if it has one.
 fn syntax_of(alloc: Global, text: &[u8]) -> Option<Syntax> {
+    if text.len() > TEXT_LIMIT {
+        return None;
+    }
     let tokens = lex(alloc, text).ok()?;
     parse(alloc, text, tokens.as_slice()).ok()
 }

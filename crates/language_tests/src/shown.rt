@@ -112,7 +112,6 @@ fn show_cond(alloc: Global, text: &mut String, cond: &Cond) -> Result<(), Fail> 
 }
 
 /// An expression, with parentheses round each operation and variables by their numbers.
-#[cycle(expressions)]
 fn show_expr(alloc: Global, text: &mut String, expr: &Expr) -> Result<(), Fail> {
     match expr {
         Expr::Num(number) => text.push_str(&format!(in alloc; "{number}")?)?,
@@ -121,26 +120,27 @@ fn show_expr(alloc: Global, text: &mut String, expr: &Expr) -> Result<(), Fail> 
             text.push_str("-")?;
             show_expr(alloc, text, inner)?;
         }
-        Expr::Add(left, right) => show_pair(alloc, text, left, " + ", right)?,
-        Expr::Sub(left, right) => show_pair(alloc, text, left, " - ", right)?,
-        Expr::Mul(left, right) => show_pair(alloc, text, left, " * ", right)?,
+        Expr::Add(left, right) => {
+            text.push_str("(")?;
+            show_expr(alloc, text, left)?;
+            text.push_str(" + ")?;
+            show_expr(alloc, text, right)?;
+            text.push_str(")")?;
+        }
+        Expr::Sub(left, right) => {
+            text.push_str("(")?;
+            show_expr(alloc, text, left)?;
+            text.push_str(" - ")?;
+            show_expr(alloc, text, right)?;
+            text.push_str(")")?;
+        }
+        Expr::Mul(left, right) => {
+            text.push_str("(")?;
+            show_expr(alloc, text, left)?;
+            text.push_str(" * ")?;
+            show_expr(alloc, text, right)?;
+            text.push_str(")")?;
+        }
     }
-    Ok(())
-}
-
-/// Two expressions and what stands between them.
-#[cycle(expressions)]
-fn show_pair(
-    alloc: Global,
-    text: &mut String,
-    left: &Expr,
-    sign: &str,
-    right: &Expr,
-) -> Result<(), Fail> {
-    text.push_str("(")?;
-    show_expr(alloc, text, left)?;
-    text.push_str(sign)?;
-    show_expr(alloc, text, right)?;
-    text.push_str(")")?;
     Ok(())
 }

@@ -1,5 +1,5 @@
 -- The first of faults in order.
-use Rattle.std.proofs.Common.{◌≡◌, Bool, true, false, not, ◌+◌, ◌^◌, ◌<◌, ℕ, List, [], ◌∷◌, ◌++◌, Option, Some, None, length, drop, get_or, drop-cons, add-one, refl, sym, ap, subst, ◌∙◌, arith}
+use Rattle.std.proofs.Common.{◌≡◌, Bool, true, false, not, ◌+◌, ◌^◌, ◌<◌, ℕ, List, [], ◌∷◌, ◌++◌, Some, length, drop, get_or, drop-cons, add-one, refl, subst, arith}
 use Rattle.policy_types.specs.declared.fault.TypeFault.{TypeFault}
 use Rattle.policy_types.specs.declared.fault.TypeFault.TheVariants.{Unknown, Twice, NotLinear, NotHere, BadRange, Big, Memory}
 use Rattle.policy_types.specs.Faults.{IsFirst, behind, first_of, where_broken}

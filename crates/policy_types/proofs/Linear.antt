@@ -1,13 +1,12 @@
 -- Expressions that break no rule are linear, and refer to what they may.
-use Rattle.std.proofs.Common.{◌≡◌, ℕ, zero, suc, ◌+◌, ◌<◌, ◌≤◌, eqb, leb, ltb, ℤ, pos, neg_ℤ, ◌+ℤ◌, ◌-ℤ◌, ◌*ℤ◌, ◌≤ℤ◌, int_le, Bool, true, false, not, cond, ◌&&◌, ◌||◌, List, [], ◌∷◌, ◌++◌, length, refl, sym, ap, subst, ◌∙◌, arith, if◌then◌else◌}
+use Rattle.std.proofs.Common.{◌≡◌, ℕ, ◌<◌, ◌≤◌, leb, ℤ, pos, neg_ℤ, ◌≤ℤ◌, int_le, Bool, true, false, cond, ◌&&◌, [], ◌∷◌, refl, ap, ◌∙◌, arith, if◌then◌else◌}
 use Rattle.std.proofs.Math.IntN.{*ℤ-zero, zero-*ℤ}
 use Rattle.std.proofs.lemmas.Int.{ints}
 use Rattle.std.proofs.lemmas.Bool.{and_parts, le-leb, leb-true, ne_eqb}
 use Rattle.std.proofs.lemmas.Bool.Decides.{leb_tells}
-use Rattle.std.specs.Prelude.{nat_le}
 use Rattle.sched_base.specs.declared.limits.TheConstants.{MAX_COEFFICIENT, VARIABLES}
 use Rattle.policy_tree.specs.Trees.{ExprTree, number, variable, negation, plus, minus, times}
-use Rattle.policy_eval.specs.Forms.{HasSmallForm, IsLinear, IsScaled, IsSmall, RefersTo, coefficient_of, constant_of, has_reference}
+use Rattle.policy_eval.specs.Forms.{HasSmallForm, IsLinear, IsSmall, RefersTo, coefficient_of, constant_of, has_reference}
 use Rattle.policy_types.specs.Expressions.{big_faults, joined, product_faults}
 use Rattle.policy_types.specs.Forms.{has_form, has_small_form, is_small}
 use Rattle.policy_types.specs.declared.fault.TypeFault.TheVariants.{Big, NotLinear}

@@ -1,5 +1,5 @@
 -- Sums of a form and a term.
-use Rattle.std.proofs.Common.{◌≡◌, ℕ, zero, suc, ◌+◌, ◌<◌, ◌≤◌, eqb, ℤ, pos, neg_ℤ, ◌+ℤ◌, ◌-ℤ◌, Bool, true, false, not, cond, ◌&&◌, List, get_or, set, replicate, length, refl, sym, ap, ◌∙◌, arith, to_z, of_z, FitsSigned, unsigned_abs, Option, Some, None, eq-eqb, ne_eqb}
+use Rattle.std.proofs.Common.{◌≡◌, ℕ, zero, suc, ◌<◌, ◌≤◌, eqb, ℤ, pos, neg_ℤ, ◌+ℤ◌, Bool, true, false, not, cond, get_or, set, replicate, length, refl, sym, ap, ◌∙◌, arith, to_z, of_z, FitsSigned, unsigned_abs, Option, Some, None, eq-eqb, ne_eqb}
 use Rattle.std.specs.Bool.{beq}
 use Rattle.std.specs.Int.{w64}
 use Rattle.std.proofs.lemmas.Int.{ints, fits_signed_from_abs, to_z-of_z}
@@ -11,7 +11,7 @@ use Rattle.policy_eval.specs.Forms.{coefficient_of, constant_of}
 use Rattle.policy_types.specs.declared.sums.Form.{Form}
 use Rattle.policy_types.specs.Expressions.{joined}
 use Rattle.policy_types.specs.Forms.{has_form, has_small_form, is_small}
-use Rattle.policy_types.specs.Products.{IsForm, IsKnown, IsMoved, IsSingle, coefficient_part, constant_part, with_sign}
+use Rattle.policy_types.specs.Products.{IsForm, IsMoved, IsSingle, coefficient_part, constant_part, with_sign}
 use Rattle.policy_types.proofs.Small.{big_coefficient, big_constant, small_abs, small_coefficient, small_constant, small_form, small_zero}
 
 -- a small number fits 64 bits

@@ -1,13 +1,12 @@
 -- What ranges allow.
-use Rattle.std.proofs.Common.{◌≡◌, ℕ, ◌+◌, List, length, drop, get_or, ℤ, ◌≤ℤ◌, neg_ℤ, pos, int_le, ◌&&◌, Bool, true, unsigned_abs, ◌≤◌, ◌<◌, ◌^◌, FitsSigned, refl, sym, ap, ◌∙◌, arith}
+use Rattle.std.proofs.Common.{◌≡◌, ℕ, ◌+◌, List, length, drop, get_or, ℤ, ◌≤ℤ◌, neg_ℤ, int_le, ◌&&◌, Bool, true, ◌<◌, FitsSigned, sym, ap, ◌∙◌, arith}
 use Rattle.std.specs.Int.{w32}
 use Rattle.std.proofs.lemmas.Int.{ints, fits_signed_from_abs}
 use Rattle.std.proofs.lemmas.Bool.{and_parts}
-use Rattle.sched_base.specs.declared.limits.TheConstants.{MAX_ATTRIBUTE, MAX_WEIGHT}
+use Rattle.sched_base.specs.declared.limits.TheConstants.{MAX_ATTRIBUTE}
 use Rattle.policy_tree.specs.declared.syntax.AttrSyntax.{AttrSyntax}
-use Rattle.policy_tree.specs.declared.syntax.RangeSyntax.{RangeSyntax}
-use Rattle.policy_eval.specs.Resolved.{IsAttribute, IsWeightRange}
-use Rattle.policy_types.specs.Declarations.{attr_faults, attr_meaning, attrs_faults, declared_with, int_meaning, is_attribute_range, is_weight_range, of_kind}
+use Rattle.policy_eval.specs.Resolved.{IsAttribute}
+use Rattle.policy_types.specs.Declarations.{attr_faults, attr_meaning, attrs_faults, declared_with, int_meaning, is_attribute_range, of_kind}
 use Rattle.policy_types.specs.declared.fault.TypeFault.{TypeFault}
 use Rattle.policy_types.specs.declared.scope.Scope.{Scope}
 use Rattle.policy_types.specs.Faults.{IsFirst}

@@ -1,14 +1,13 @@
 -- Products of terms.
-use Rattle.std.proofs.Common.{◌≡◌, ℕ, ◌+◌, ◌*◌, eqb, ℤ, pos, neg_ℤ, ◌+ℤ◌, ◌*ℤ◌, Bool, true, false, not, cond, ◌&&◌, refl, sym, ap, ◌∙◌, arith, Option, Some, None, is_some}
+use Rattle.std.proofs.Common.{◌≡◌, ℕ, ◌*◌, eqb, ℤ, pos, neg_ℤ, ◌*ℤ◌, Bool, true, false, not, cond, ◌&&◌, refl, ap, ◌∙◌, arith, Option, Some, None, is_some}
 use Rattle.std.specs.Bool.{beq}
 use Rattle.std.proofs.Math.IntN.{*ℤ_comm, *ℤ-zero, zero-*ℤ}
 use Rattle.std.proofs.lemmas.Int.{ints}
 use Rattle.policy_tree.specs.Trees.{ExprTree, times}
-use Rattle.policy_eval.specs.Forms.{coefficient_of, constant_of, has_reference}
+use Rattle.policy_eval.specs.Forms.{constant_of, has_reference}
 use Rattle.policy_eval.proofs.Products.{neg_ℤ-*ℤ}
-use Rattle.policy_types.specs.Forms.{has_form}
 use Rattle.policy_types.specs.declared.products.Product.{Product}
-use Rattle.policy_types.specs.Products.{IsProduct, IsScaledBy, IsSingle, coefficient_part, constant_part, with_sign}
+use Rattle.policy_types.specs.Products.{IsProduct, IsScaledBy, IsSingle, with_sign}
 
 *ℤ-neg : (a b : ℤ) → a *ℤ neg_ℤ b ≡ neg_ℤ (a *ℤ b)
 *ℤ-neg a b = *ℤ_comm a (neg_ℤ b) ∙ (neg_ℤ-*ℤ b a ∙ ap neg_ℤ (*ℤ_comm b a))

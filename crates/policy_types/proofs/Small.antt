@@ -1,13 +1,13 @@
 -- Small numbers and small forms.
-use Rattle.std.proofs.Common.{◌≡◌, ℕ, zero, suc, ◌+◌, ◌*◌, ◌<◌, ◌≤◌, eqb, leb, ℤ, pos, negsuc, neg_ℤ, ◌+ℤ◌, ◌*ℤ◌, int_le, Bool, true, false, not, cond, ◌&&◌, unsigned_abs, refl, sym, ap, ◌∙◌, arith, Option, Some, None, eq-eqb}
+use Rattle.std.proofs.Common.{◌≡◌, ℕ, zero, suc, ◌<◌, ◌≤◌, eqb, leb, ℤ, pos, negsuc, Bool, true, false, cond, unsigned_abs, refl, sym, ap, ◌∙◌, arith, Option, Some, None, eq-eqb}
 use Rattle.std.proofs.lemmas.Int.{ints}
 use borrow.Author.Count.{below_more}
 use Rattle.std.proofs.lemmas.Bool.{and_parts, and_from, and_left, and_right}
-use Rattle.sched_base.specs.declared.limits.TheConstants.{MAX_COEFFICIENT, VARIABLES}
+use Rattle.sched_base.specs.declared.limits.TheConstants.{VARIABLES}
 use Rattle.policy_tree.specs.Trees.{ExprTree}
-use Rattle.policy_eval.specs.Forms.{IsSmall, HasSmallForm, coefficient_of, constant_of}
+use Rattle.policy_eval.specs.Forms.{coefficient_of, constant_of}
 use Rattle.policy_types.specs.Forms.{all_below, has_small_form, is_small}
-use Rattle.policy_types.specs.Products.{IsKnown, IsSingle, coefficient_part, constant_part, with_sign}
+use Rattle.policy_types.specs.Products.{IsKnown, IsSingle, with_sign}
 
 -- a number is small where its magnitude is
 pub small_abs : (x : ℤ) → is_small x ≡ leb (unsigned_abs x) 1099511627776

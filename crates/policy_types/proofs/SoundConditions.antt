@@ -1,8 +1,7 @@
 -- Conditions and orders that break no rule and keep the limits are resolved ones.
-use Rattle.std.proofs.Common.{◌≡◌, ℕ, zero, suc, ◌+◌, ◌<◌, ◌≤◌, Bool, true, false, List, [], ◌∷◌, ◌++◌, All, map, length, refl, sym, ap, subst, ◌∙◌, arith, Option, Some, None}
+use Rattle.std.proofs.Common.{◌≡◌, ℕ, ◌+◌, ◌≤◌, Bool, true, false, List, [], ◌∷◌, All, map, length, refl, sym, subst, ◌∙◌, arith, Option, Some, None}
 use Rattle.std.proofs.lemmas.List.{length-map}
 use Rattle.std.proofs.lemmas.List.Elements.{All-cons, All-nil}
-use Rattle.policy_tree.specs.declared.syntax.ElectSyntax.{ElectSyntax}
 use Rattle.policy_tree.specs.declared.syntax.ExprSyntax.{ExprSyntax}
 use Rattle.policy_tree.specs.declared.syntax.KeySyntax.{KeySyntax}
 use Rattle.policy_tree.specs.declared.syntax.OrderSyntax.{OrderSyntax}
@@ -18,7 +17,7 @@ use Rattle.policy_eval.specs.Sites as Sites
 use Rattle.policy_eval.specs.Resolved.{IsResolvedCond, IsResolvedExpr, IsResolvedOrder}
 use Rattle.policy_types.specs.declared.scope.Scope.{Scope}
 use Rattle.policy_types.specs.declared.sites.Site.{Site}
-use Rattle.policy_types.specs.Conditions.{chain_meaning, chain_or_always, condition_faults, condition_meaning, key_meaning, keys_faults, linked, order_faults, order_meaning, parts_faults}
+use Rattle.policy_types.specs.Conditions.{chain_meaning, condition_faults, condition_meaning, key_meaning, keys_faults, linked, order_faults, order_meaning, parts_faults}
 use Rattle.policy_types.specs.Expressions.{expr_faults, expr_meaning}
 use Rattle.policy_types.proofs.Allowed.{declared, site_of}
 use Rattle.policy_types.proofs.Counted.{expr_few, keeps_many, keeps_parts}

@@ -1,5 +1,5 @@
 -- Declarations that break no rule and keep the limits.
-use Rattle.std.proofs.Common.{◌≡◌, ℕ, zero, suc, ◌+◌, ◌<◌, ◌≤◌, ℤ, pos, neg_ℤ, ◌≤ℤ◌, int_le, cond, Bool, true, false, not, ◌&&◌, List, [], ◌∷◌, ◌++◌, All, length, refl, sym, ap, subst, ◌∙◌, arith, Option, Some, None, length-append, is_some}
+use Rattle.std.proofs.Common.{◌≡◌, ◌<◌, pos, neg_ℤ, ◌≤ℤ◌, int_le, cond, Bool, true, false, not, List, [], ◌∷◌, ◌++◌, length, refl, sym, subst, arith, None, length-append, is_some}
 use Rattle.std.proofs.lemmas.Int.{ints}
 use Rattle.std.proofs.lemmas.Bool.{and_parts}
 use Rattle.std.proofs.lemmas.List.Elements.{All-nil, All-push}
@@ -55,7 +55,7 @@ attrs_right scope (a ∷ rest) are none keeps =
     let empty = none_parts (attr_faults (of_kind a.of_cores scope) a) (attrs_faults (declared_with scope a) rest) none in
     let range = none_parts (where_broken (is_some (attribute_named 0 (of_kind a.of_cores scope) a.name)) (Twice (behind a.at 1))) (where_broken (not (is_attribute_range a)) (BadRange a.range.at)) empty.0 in
     let kept = keeps_parts (many 8 a.at (breaks.of_kind a.of_cores (length scope.cores) (length scope.threads)))
-            (breaks_attrs POLICY_LIMITS (of_cores_more a.of_cores (length scope.cores)) (of_threads_more a.of_cores (length scope.threads)) rest) keeps in
+    (breaks_attrs POLICY_LIMITS (of_cores_more a.of_cores (length scope.cores)) (of_threads_more a.of_cores (length scope.threads)) rest) keeps in
     let room = subst (λ n. n < 8) (kind_count a.of_cores scope) (keeps_many 8 a.at (breaks.of_kind a.of_cores (length scope.cores) (length scope.threads)) kept.0) in
     let is = attribute_right a (where_not (is_attribute_range a) (BadRange a.range.at) range.1) in
     attrs_right (declared_with scope a) rest (declaring_right a.of_cores scope (attr_meaning a) are is room) empty.1

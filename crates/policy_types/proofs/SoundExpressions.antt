@@ -1,5 +1,5 @@
 -- The meaning of an expression that breaks no rule and keeps the limits is a resolved expression.
-use Rattle.std.proofs.Common.{◌≡◌, ℕ, zero, suc, ◌+◌, ◌<◌, ◌≤◌, pos, Bool, true, false, not, nat_lt, List, [], ◌∷◌, ◌++◌, length, refl, sym, ap, subst, ◌∙◌, arith, Option, Some, None, if◌then◌else◌}
+use Rattle.std.proofs.Common.{◌≡◌, ℕ, zero, suc, ◌≤◌, pos, List, [], ◌∷◌, ◌++◌, length}
 use Rattle.policy_tree.specs.declared.syntax.OperandSyntax.{OperandSyntax}
 use Rattle.policy_tree.specs.declared.syntax.OperandSyntax.TheVariants.{Number, Reference}
 use Rattle.policy_tree.specs.declared.syntax.FactorSyntax.{FactorSyntax}
@@ -8,7 +8,7 @@ use Rattle.policy_tree.specs.declared.syntax.TermSyntax.{TermSyntax}
 use Rattle.policy_tree.specs.declared.syntax.AddedSyntax.{AddedSyntax}
 use Rattle.policy_tree.specs.declared.syntax.ExprSyntax.{ExprSyntax}
 use Rattle.policy_tree.specs.Meaning.{Meaning}
-use Rattle.policy_tree.specs.Trees.{ExprTree, number, variable, negation, times}
+use Rattle.policy_tree.specs.Trees.{ExprTree, times}
 use Rattle.policy_eval.specs.Sites as eval
 use Rattle.policy_types.specs.declared.fault.TypeFault.TheVariants.{Big}
 use Rattle.policy_types.specs.declared.sites.Site.{Site}

@@ -1,5 +1,5 @@
 -- Handlers that break no rule and keep the limits are resolved ones.
-use Rattle.std.proofs.Common.{◌≡◌, ℕ, zero, suc, ◌+◌, ◌<◌, ◌≤◌, Bool, true, false, not, List, [], ◌∷◌, ◌++◌, All, map, length, refl, sym, ap, subst, ◌∙◌, arith, Option, Some, None, if◌then◌else◌}
+use Rattle.std.proofs.Common.{◌≡◌, ℕ, ◌+◌, ◌<◌, ◌≤◌, Bool, true, false, not, List, [], ◌∷◌, ◌++◌, All, map, length, refl, sym, subst, arith, Option, Some, None, if◌then◌else◌}
 use Rattle.std.proofs.lemmas.List.{length-map}
 use Rattle.std.proofs.lemmas.List.Elements.{All-cons, All-nil}
 use Rattle.policy_tree.specs.declared.syntax.SetSyntax.{SetSyntax}
@@ -18,10 +18,10 @@ use Rattle.policy_types.specs.declared.fault.TypeFault.TheVariants.{NotHere, Twi
 use Rattle.policy_types.specs.declared.sites.Feature.{Feature}
 use Rattle.policy_types.specs.declared.sites.Feature.TheVariants.{Nr, Load, Weight, Fresh, Attribute}
 use Rattle.policy_types.specs.declared.sites.Site.TheVariants.{Handler}
-use Rattle.policy_types.specs.Conditions.{condition_faults, condition_meaning}
+use Rattle.policy_types.specs.Conditions.{condition_faults}
 use Rattle.policy_types.specs.Expressions.{expr_faults}
 use Rattle.policy_types.specs.Faults.{behind, where_broken}
-use Rattle.policy_types.specs.Handlers.{case_faults, case_meaning, cases_faults, cases_for, default_cases, default_put, handlers_faults, handlers_meaning, is_among, number_or, same_event, set_faults, set_meaning, sets_faults, target_faults, target_of}
+use Rattle.policy_types.specs.Handlers.{case_faults, case_meaning, cases_faults, cases_for, default_cases, default_put, handlers_faults, is_among, number_or, same_event, set_faults, set_meaning, sets_faults, target_faults, target_of}
 use Rattle.policy_types.specs.References.{allows_put, feature_among}
 use Rattle.policy_types.proofs.Allowed.{IsFound, declared, feature_inside}
 use Rattle.policy_types.proofs.Counted.{keeps_many, keeps_parts}
@@ -125,16 +125,15 @@ module _ (p : Meaning) (cores : length p.core_attrs ≤ 8) (threads : length p.t
         All-cons (IsResolvedCase p e) (case_meaning (declared p) c) (map (case_meaning (declared p)) rest)
         (resolved_case c empty.0 second.0 later.0) (cases_each (count + 1) rest empty.1 later.1)
 
-
     default_resolved : AreResolved p e (default_cases e)
     default_resolved = record {
       few = omega arith;
       each = All-cons (IsResolvedCase p e) _ [] (record {
-            guard = record { few = omega arith; sides = tt };
-            few = omega arith;
-            sets = All-nil (IsResolvedSet p e);
-            put = default_allowed e;
-          }) (All-nil (IsResolvedCase p e));
+        guard = record { few = omega arith; sides = tt };
+        few = omega arith;
+        sets = All-nil (IsResolvedSet p e);
+        put = default_allowed e;
+      }) (All-nil (IsResolvedCase p e));
     }
 
   handlers_each : (e : Event) (before : List Event) (hs : List HandlerSyntaxTree) → handlers_faults (declared p) before hs ≡ [] → breaks_handlers POLICY_LIMITS hs ≡ None → AreResolved p e (cases_for (declared p) e hs)

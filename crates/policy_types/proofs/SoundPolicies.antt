@@ -1,16 +1,16 @@
 -- A syntax that breaks no rule and keeps the limits is a resolved policy.
-use Rattle.std.proofs.Common.{◌≡◌, ◌≤◌, List, [], ◌++◌, length, refl, sym, subst, Option, Some, None, Result, Ok, Err, IfOk}
+use Rattle.std.proofs.Common.{◌≡◌, ◌≤◌, [], ◌++◌, length, refl, sym, subst, Option, Some, None, Result, Ok, Err, IfOk}
 use Rattle.policy_tree.specs.declared.syntax.ElectSyntax.{ElectSyntax}
 use Rattle.policy_tree.specs.declared.syntax.PlaceSyntax.{PlaceSyntax}
 use Rattle.policy_tree.specs.declared.syntax.PlaceSyntax.TheVariants.{Here, Least}
 use Rattle.policy_tree.specs.declared.typed.Event.{Event}
 use Rattle.policy_tree.specs.declared.typed.Event.TheVariants as event
 use Rattle.policy_tree.specs.declared.typed.Policy.{Policy}
-use Rattle.policy_tree.specs.Meaning.{KeyTree, Meaning, cases_on, meaning_of}
+use Rattle.policy_tree.specs.Meaning.{Meaning, cases_on, meaning_of}
 use Rattle.policy_tree.specs.SyntaxTrees.{SyntaxTree}
 use Rattle.policy_grammar.specs.declared.limits.TheConstants.{POLICY_LIMITS}
-use Rattle.policy_grammar.specs.Breaks.{breaks_attrs, breaks_condition, breaks_elect, breaks_handlers, breaks_order, breaks_place, breaks_policy, first_of}
-use Rattle.policy_eval.specs.Resolved.{IsResolved, IsResolvedHandler, IsResolvedOrder, IsResolvedPlace}
+use Rattle.policy_grammar.specs.Breaks.{breaks_attrs, breaks_condition, breaks_elect, breaks_handlers, breaks_order, breaks_place, first_of}
+use Rattle.policy_eval.specs.Resolved.{IsResolved, IsResolvedOrder, IsResolvedPlace}
 use Rattle.policy_eval.specs.Sites.{electing}
 use Rattle.policy_types.specs.declared.fault.TypeFault.{TypeFault}
 use Rattle.policy_types.specs.declared.sites.Site.TheVariants.{Choose, Elect, Filter, Placement, Steal}
@@ -23,7 +23,7 @@ use Rattle.policy_types.proofs.Allowed.{declared}
 use Rattle.policy_types.proofs.Counted.{keeps_parts}
 use Rattle.policy_types.proofs.Firsts.{none_parts}
 use Rattle.policy_types.proofs.SoundConditions.{no_keys, resolved_condition, resolved_expr, resolved_order}
-use Rattle.policy_types.proofs.SoundDeclarations.{AreRight, attrs_right, load_right, nothing_right}
+use Rattle.policy_types.proofs.SoundDeclarations.{attrs_right, load_right, nothing_right}
 use Rattle.policy_types.proofs.SoundHandlers.{handler_resolved}
 
 module _ (p : Meaning) (cores : length p.core_attrs ≤ 8) (threads : length p.thread_attrs ≤ 8) where
@@ -43,13 +43,13 @@ policy_resolved s of none =
     let behind = none_parts (attrs_faults nothing_declared s.attrs) (faults_in scope s) later.1 in
     let kept = of.is.keeps in
     let kept1 = keeps_parts (breaks_attrs POLICY_LIMITS 0 0 s.attrs) (first_of (breaks_place POLICY_LIMITS s.place) (first_of (breaks_elect POLICY_LIMITS s.elect) (first_of (breaks_handlers POLICY_LIMITS s.handlers)
-        (first_of (breaks_condition POLICY_LIMITS 0 0 s.filter) (first_of (breaks_order POLICY_LIMITS s.choose) (breaks_order POLICY_LIMITS s.steal)))))) kept in
+    (first_of (breaks_condition POLICY_LIMITS 0 0 s.filter) (first_of (breaks_order POLICY_LIMITS s.choose) (breaks_order POLICY_LIMITS s.steal)))))) kept in
     let kept2 = keeps_parts (breaks_place POLICY_LIMITS s.place) (first_of (breaks_elect POLICY_LIMITS s.elect) (first_of (breaks_handlers POLICY_LIMITS s.handlers)
-        (first_of (breaks_condition POLICY_LIMITS 0 0 s.filter) (first_of (breaks_order POLICY_LIMITS s.choose) (breaks_order POLICY_LIMITS s.steal))))) kept1.1 in
+    (first_of (breaks_condition POLICY_LIMITS 0 0 s.filter) (first_of (breaks_order POLICY_LIMITS s.choose) (breaks_order POLICY_LIMITS s.steal))))) kept1.1 in
     let kept3 = keeps_parts (breaks_elect POLICY_LIMITS s.elect) (first_of (breaks_handlers POLICY_LIMITS s.handlers)
-        (first_of (breaks_condition POLICY_LIMITS 0 0 s.filter) (first_of (breaks_order POLICY_LIMITS s.choose) (breaks_order POLICY_LIMITS s.steal)))) kept2.1 in
+    (first_of (breaks_condition POLICY_LIMITS 0 0 s.filter) (first_of (breaks_order POLICY_LIMITS s.choose) (breaks_order POLICY_LIMITS s.steal)))) kept2.1 in
     let kept4 = keeps_parts (breaks_handlers POLICY_LIMITS s.handlers)
-        (first_of (breaks_condition POLICY_LIMITS 0 0 s.filter) (first_of (breaks_order POLICY_LIMITS s.choose) (breaks_order POLICY_LIMITS s.steal))) kept3.1 in
+    (first_of (breaks_condition POLICY_LIMITS 0 0 s.filter) (first_of (breaks_order POLICY_LIMITS s.choose) (breaks_order POLICY_LIMITS s.steal))) kept3.1 in
     let kept5 = keeps_parts (breaks_condition POLICY_LIMITS 0 0 s.filter) (first_of (breaks_order POLICY_LIMITS s.choose) (breaks_order POLICY_LIMITS s.steal)) kept4.1 in
     let kept6 = keeps_parts (breaks_order POLICY_LIMITS s.choose) (breaks_order POLICY_LIMITS s.steal) kept5.1 in
     let none1 = none_parts (place_faults scope s.place) (elect_faults scope s.elect ++ (handlers_faults scope [] s.handlers ++ (condition_faults scope Filter s.filter ++ (order_faults scope Choose s.choose ++ order_faults scope Steal s.steal)))) behind.1 in

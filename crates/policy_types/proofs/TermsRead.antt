@@ -1,5 +1,5 @@
 -- A term as far as it is read.
-use Rattle.std.proofs.Common.{◌≡◌, ℕ, ◌+◌, ◌<◌, Bool, true, false, ◌&&◌, List, [], ◌∷◌, ◌++◌, length, drop, get_or, refl, sym, ap, subst, ◌∙◌}
+use Rattle.std.proofs.Common.{◌≡◌, ℕ, ◌+◌, ◌<◌, Bool, true, false, ◌&&◌, List, [], ◌∷◌, ◌++◌, length, drop, get_or, refl, sym, subst, ◌∙◌}
 use Rattle.policy_tree.specs.declared.syntax.TimesSyntax.{TimesSyntax}
 use Rattle.policy_tree.specs.declared.syntax.TermSyntax.{TermSyntax}
 use Rattle.policy_tree.specs.Trees.{ExprTree, times}

@@ -1,5 +1,5 @@
 -- The faults of an expression stand in the order of its tokens.
-use Rattle.std.proofs.Common.{◌≡◌, ℕ, zero, suc, ◌+◌, ◌^◌, ◌<◌, ◌≤◌, pos, Bool, true, false, not, ◌&&◌, List, [], ◌∷◌, ◌++◌, refl, sym, ap, subst, ◌∙◌, arith, append_assoc, Option, Some, None, if◌then◌else◌}
+use Rattle.std.proofs.Common.{◌≡◌, ℕ, suc, ◌+◌, ◌^◌, ◌<◌, ◌≤◌, Bool, true, false, not, ◌&&◌, List, [], ◌∷◌, ◌++◌, refl, sym, subst, arith, append_assoc, Option, Some, None, if◌then◌else◌}
 use Rattle.policy_tree.specs.declared.syntax.Owner.{Owner}
 use Rattle.policy_tree.specs.declared.syntax.OperandSyntax.{OperandSyntax}
 use Rattle.policy_tree.specs.declared.syntax.FactorSyntax.{FactorSyntax}
@@ -14,15 +14,14 @@ use Rattle.policy_grammar.specs.declared.terminal.Lexeme.{Lexeme}
 use Rattle.policy_grammar.specs.Expressions.{IsOperand, operand_number, operand_reference, IsFactor, factor_plain, factor_signed, IsTimes, times_none, times_more, IsTerm, term_of, IsAdded, added_none, added_more, IsExpr, expr_of, IsKey, key_of, IsKeys, keys_none, keys_more, IsOrder, order_first, order_keys}
 use Rattle.policy_grammar.specs.Terminals.{word_at}
 use Rattle.policy_eval.specs.Forms.{has_reference}
-use Rattle.policy_types.specs.declared.fault.TypeFault.{TypeFault}
 use Rattle.policy_types.specs.declared.fault.TypeFault.TheVariants.{Unknown, NotLinear, NotHere, Big}
 use Rattle.policy_types.specs.declared.scope.Scope.{Scope}
 use Rattle.policy_types.specs.declared.sites.Feature.{Feature}
 use Rattle.policy_types.specs.declared.sites.Site.{Site}
 use Rattle.policy_types.specs.Conditions.{keys_faults, order_faults}
 use Rattle.policy_types.specs.Expressions.{added_faults, big_faults, expr_faults, factor_faults, factor_meaning, feature_faults, joined, operand_faults, operand_meaning, product_faults, sign_faults, signed, term_faults, term_meaning, times_faults}
-use Rattle.policy_types.specs.Faults.{behind, where_broken}
-use Rattle.policy_types.specs.Forms.{has_form, has_small_form, is_small}
+use Rattle.policy_types.specs.Faults.{behind}
+use Rattle.policy_types.specs.Forms.{has_form, has_small_form}
 use Rattle.policy_types.specs.References.{allows, feature_of}
 use Rattle.policy_types.proofs.Firsts.{behind_none}
 use Rattle.policy_types.proofs.Spans.{Spans, behind_is, spans_append, spans_none, spans_one, spans_where, spans_wider}

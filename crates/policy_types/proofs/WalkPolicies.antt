@@ -1,5 +1,5 @@
 -- The faults of a policy stand in the order of its tokens.
-use Rattle.std.proofs.Common.{◌≡◌, ℕ, ◌+◌, ◌^◌, ◌<◌, ◌≤◌, Bool, not, List, [], ◌∷◌, ◌++◌, length, refl, sym, ap, subst, ◌∙◌, arith, Option, Some, None, is_some, Result, Ok, Err, IfErr}
+use Rattle.std.proofs.Common.{◌≡◌, ℕ, ◌+◌, ◌^◌, ◌<◌, ◌≤◌, not, List, [], ◌∷◌, ◌++◌, length, refl, arith, Option, Some, None, Result, Ok, Err, IfErr}
 use Rattle.policy_tree.specs.declared.syntax.AttrSyntax.{AttrSyntax}
 use Rattle.policy_tree.specs.declared.syntax.ElectSyntax.{ElectSyntax}
 use Rattle.policy_tree.specs.declared.syntax.IntSyntax.{IntSyntax}
@@ -11,7 +11,7 @@ use Rattle.policy_tree.specs.declared.typed.Event.{Event}
 use Rattle.policy_tree.specs.SyntaxTrees.{CaseSyntaxTree, HandlerSyntaxTree, SyntaxTree}
 use Rattle.policy_grammar.specs.declared.terminal.Lexeme.{Lexeme}
 use Rattle.policy_grammar.specs.Expressions.{IsInt, int_plain, int_signed, IsRange, range_of}
-use Rattle.policy_grammar.specs.Policies.{IsLoad, load_count, load_weight, IsAttr, attr_of, IsAttrs, attrs_none, attrs_more, IsPlace, place_none, place_here, place_least, IsElect, elect_none, elect_some, IsSets, sets_none, sets_more, IsCase, case_of, IsCases, cases_none, cases_more, IsHandler, handler_of, IsHandlers, handlers_none, handlers_more, IsPolicy, policy_of}
+use Rattle.policy_grammar.specs.Policies.{IsLoad, load_count, load_weight, IsAttr, attr_of, IsAttrs, attrs_none, attrs_more, IsPlace, place_none, place_here, place_least, IsElect, elect_none, elect_some, IsSets, sets_none, sets_more, IsCase, case_of, IsCases, cases_none, cases_more, handler_of, IsHandlers, handlers_none, handlers_more, IsPolicy, policy_of}
 use Rattle.policy_grammar.specs.Terminals.{word_at}
 use Rattle.policy_types.specs.declared.fault.TypeFault.{TypeFault}
 use Rattle.policy_types.specs.declared.fault.TypeFault.TheVariants.{BadRange, NotHere, Twice, Unknown}
@@ -21,12 +21,12 @@ use Rattle.policy_types.specs.declared.sites.Feature.TheVariants.{Nr, Load, Weig
 use Rattle.policy_types.specs.declared.sites.Site.TheVariants.{Choose, Elect, Filter, Handler, Placement, Steal}
 use Rattle.policy_types.specs.Conditions.{condition_faults, elect_faults, order_faults}
 use Rattle.policy_types.specs.Correct.{IsLeast, IsOfGrammar}
-use Rattle.policy_types.specs.Declarations.{attr_faults, attrs_faults, declared_with, is_attribute_range, is_weight_range, load_faults, nothing_declared, of_kind, scope_after}
+use Rattle.policy_types.specs.Declarations.{attr_faults, attrs_faults, declared_with, is_weight_range, load_faults, nothing_declared, of_kind, scope_after}
 use Rattle.policy_types.specs.Expressions.{expr_faults}
 use Rattle.policy_types.specs.Faults.{IsFirst, behind, where_broken}
-use Rattle.policy_types.specs.Handlers.{case_faults, cases_faults, handlers_faults, is_among, set_faults, sets_faults, target_faults}
-use Rattle.policy_types.specs.Policies.{faults_in, place_faults, policy_faults, scope_of}
-use Rattle.policy_types.specs.References.{allows_put, attribute_named, feature_among}
+use Rattle.policy_types.specs.Handlers.{case_faults, cases_faults, handlers_faults, is_among, sets_faults, target_faults}
+use Rattle.policy_types.specs.Policies.{place_faults, policy_faults}
+use Rattle.policy_types.specs.References.{allows_put, feature_among}
 use Rattle.policy_types.proofs.Spans.{Spans, behind_is, first_least, spans_append, spans_none, spans_one, spans_where, spans_wider}
 use Rattle.policy_types.proofs.WalkConditions.{guard_spans}
 use Rattle.policy_types.proofs.WalkExpressions.{expr_spans, order_spans}
@@ -87,7 +87,7 @@ module _ (text : List ℕ) (ts : List Lexeme) where
         let here = behind_is at 2 (omega arith) in
         let target = feature_among scope.threads (word_at text ts (at + 2)) in
         let set = spans_append at (at + 4) mid (target_faults (behind at 2) target) (expr_faults scope (Handler e) v)
-                (target_spans at (at + 4) (behind at 2) target (omega arith) (omega arith)) value in
+        (target_spans at (at + 4) (behind at 2) target (omega arith) (omega arith)) value in
         spans_append at mid to (target_faults (behind at 2) target ++ expr_faults scope (Handler e) v) (sets_faults scope e rest) set
         (spans_wider mid (mid + 1) to to (sets_faults scope e rest) (omega arith) (omega arith) later)
 

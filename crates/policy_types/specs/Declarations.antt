@@ -1,5 +1,5 @@
 -- The load and the attributes that a syntax declares, and the rules that they break, in the order of the text.
-use Rattle.std.specs.Prelude.{ℕ, ◌+◌, ℤ, pos, neg_ℤ, int_le, Bool, true, false, cond, not, ◌&&◌, List, [], ◌∷◌, ◌++◌, Option, is_some}
+use Rattle.std.specs.Prelude.{ℤ, pos, neg_ℤ, int_le, Bool, true, false, cond, not, ◌&&◌, List, [], ◌∷◌, ◌++◌, is_some}
 use Rattle.sched_base.specs.declared.limits.TheConstants.{MAX_ATTRIBUTE, MAX_WEIGHT}
 use Rattle.policy_tree.specs.declared.syntax.AttrSyntax.{AttrSyntax}
 use Rattle.policy_tree.specs.declared.syntax.IntSyntax.{IntSyntax}

@@ -1,5 +1,5 @@
 -- Which expressions have a linear form, and whether it is small.
-use Rattle.std.specs.Prelude.{ℕ, zero, suc, ℤ, neg_ℤ, int_le, Bool, true, not, ◌&&◌, ◌||◌}
+use Rattle.std.specs.Prelude.{ℕ, zero, suc, ℤ, neg_ℤ, int_le, Bool, true, not, ◌&&◌}
 use Rattle.sched_base.specs.declared.limits.TheConstants.{MAX_COEFFICIENT, VARIABLES}
 use Rattle.policy_tree.specs.Trees.{ExprTree, number, variable, negation, plus, minus, times}
 use Rattle.policy_eval.specs.Forms.{coefficient_of, constant_of, has_reference}

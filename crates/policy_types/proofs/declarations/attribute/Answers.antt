@@ -1,8 +1,8 @@
 -- Numbers of an attribute's range fit 32 bits.
-use Rattle.std.proofs.Common.{◌≡◌, ℤ, ◌≤ℤ◌, neg_ℤ, pos, int_le, ◌&&◌, true, unsigned_abs, ◌≤◌, ◌<◌, ◌^◌, to_z, of_z, FitsSigned, refl, sym, ap, ◌∙◌, arith}
+use Rattle.std.proofs.Common.{◌≡◌, ℤ, to_z, of_z, FitsSigned, refl, sym, ap, ◌∙◌, arith}
 use Rattle.std.specs.Int.{w32, w128}
 use Rattle.std.proofs.lemmas.Int.{to_z-of_z, fits_signed_from_abs}
-use Rattle.policy_types.specs.Declarations.{attr_meaning, int_meaning}
+use Rattle.policy_types.specs.Declarations.{int_meaning}
 use Rattle.policy_types.proofs.Ranges.{attribute_fits}
 use Rattle.policy_types.proofs.declarations.attribute.Goals as goal
 

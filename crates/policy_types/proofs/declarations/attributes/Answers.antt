@@ -1,5 +1,5 @@
 -- The first fault of an attribute is that of them all.
-use Rattle.std.proofs.Common.{◌≡◌, List, subst, true, false, refl, sym, ap, ◌∙◌, arith}
+use Rattle.std.proofs.Common.{List, subst, true, false, arith}
 use Rattle.std.proofs.lemmas.Result.{err_from_is_err_and}
 use Rattle.policy_tree.specs.declared.typed.Attr.{Attr}
 use Rattle.policy_types.specs.Faults.{IsFirst}

@@ -1,5 +1,5 @@
 -- A number too great for 64 bits is far from any small one.
-use Rattle.std.proofs.Common.{◌≡◌, ◌≤◌, ◌<◌, ◌^◌, ◌+ℤ◌, leb, true, unsigned_abs, refl, sym, ap, ◌∙◌, arith, subst, ℕ, Option}
+use Rattle.std.proofs.Common.{◌≡◌, ◌≤◌, ◌<◌, ◌^◌, ◌+ℤ◌, unsigned_abs, sym, ◌∙◌, arith, subst, ℕ, Option}
 use Rattle.std.proofs.lemmas.Int.{ints}
 use Rattle.std.proofs.lemmas.Bool.{leb-true}
 use Rattle.std.proofs.lemmas.Bool.Decides.{leb_tells}

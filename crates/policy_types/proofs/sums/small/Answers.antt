@@ -1,7 +1,7 @@
 -- The magnitude decides.
-use Rattle.std.proofs.Common.{◌≡◌, leb, unsigned_abs, refl, sym, ap, ◌∙◌, arith, to_z, of_z, ◌≤◌, ◌<◌, FitsSigned}
+use Rattle.std.proofs.Common.{unsigned_abs, ap, ◌∙◌, arith, to_z, of_z, ◌≤◌, ◌<◌, FitsSigned}
 use Rattle.std.specs.Int.{w64, w128}
-use Rattle.std.proofs.lemmas.Int.{ints, to_z-of_z, fits_signed_from_abs}
+use Rattle.std.proofs.lemmas.Int.{to_z-of_z, fits_signed_from_abs}
 use Rattle.std.proofs.lemmas.Bool.Decides.{leb_tells}
 use Rattle.policy_types.proofs.Small.{small_abs}
 use Rattle.policy_types.proofs.sums.small.Goals as goal

@@ -1,8 +1,8 @@
 -- The magnitude is that of the number.
-use Rattle.std.proofs.Common.{◌≡◌, ℕ, ◌^◌, ◌≤◌, ◌<◌, leb, ltb, Bool, true, false, refl, sym, ap, ◌∙◌, arith, subst, Option, Some, None}
+use Rattle.std.proofs.Common.{◌≡◌, ℕ, ◌^◌, ◌≤◌, leb, Bool, false, sym, ap, ◌∙◌, arith, subst, Option, Some, None}
 use Rattle.std.proofs.lemmas.Bool.Decides.{leb_tells}
 use Rattle.policy_types.specs.Forms.{is_small}
-use Rattle.policy_types.specs.Products.{IsKnown, IsSize, with_sign}
+use Rattle.policy_types.specs.Products.{IsSize, with_sign}
 use Rattle.policy_types.proofs.Small.{abs-with_sign, single_same, small_abs}
 use Rattle.policy_types.proofs.products.Product.is_small.Goals as goal
 

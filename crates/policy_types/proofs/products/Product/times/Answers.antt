@@ -1,5 +1,5 @@
 -- At most one factor has a variable.
-use Rattle.std.proofs.Common.{◌≡◌, ℕ, Option, Some, None, sym, subst, ap, ◌∙◌}
+use Rattle.std.proofs.Common.{◌≡◌, ℕ, Option, Some, sym, subst, ap}
 use Rattle.policy_types.specs.Products.{IsScaledBy}
 use Rattle.policy_types.proofs.Singles.{apart_left, apart_right, chosen, product_times}
 use Rattle.policy_types.proofs.products.Product.times.Goals as goal

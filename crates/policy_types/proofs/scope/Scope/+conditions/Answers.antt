@@ -1,5 +1,5 @@
 -- The parts of a chain are those of its vector.
-use Rattle.std.proofs.Common.{◌≡◌, refl, sym, ap, ◌∙◌, arith}
+use Rattle.std.proofs.Common.{ap, ◌∙◌}
 use Rattle.policy_tree.specs.SyntaxTrees.{condition_tree}
 use Rattle.policy_tree.proofs.Rows.{and_tree, or_tree}
 use Rattle.policy_types.proofs.scope.Scope.+conditions.Goals as goal

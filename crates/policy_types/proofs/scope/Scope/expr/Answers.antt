@@ -1,9 +1,8 @@
 -- A sign or a term is added to what is read.
-use Rattle.std.proofs.Common.{◌≡◌, refl, sym, ap, subst, ◌∙◌, arith}
+use Rattle.std.proofs.Common.{◌≡◌, ap, ◌∙◌, arith}
 use Rattle.std.proofs.lemmas.Result.{err_from_is_err_and}
-use Rattle.policy_tree.specs.Trees.{ExprTree, expr_tree}
-use Rattle.policy_types.specs.Expressions.{added_faults, added_meaning, expr_faults, expr_meaning, joined, term_meaning}
-use Rattle.policy_types.specs.Products.{IsForm, IsProduct}
+use Rattle.policy_tree.specs.Trees.{expr_tree}
+use Rattle.policy_types.specs.Expressions.{expr_faults, expr_meaning, joined, term_meaning}
 use Rattle.policy_types.proofs.SumsRead.{meaning_on, sum_on, term_second}
 use Rattle.policy_types.proofs.scope.Scope.expr.Goals as goal
 

@@ -1,6 +1,6 @@
 -- A handler more, and no handler left.
 use Rattle.std.proofs.lemmas.List.{drop_all}
-use Rattle.std.proofs.Common.{◌≡◌, refl, sym, ap, ◌∙◌, arith, map, drop, subst, ◌+◌, List, [], Option, Some, if◌then◌else◌, rules}
+use Rattle.std.proofs.Common.{sym, ap, ◌∙◌, arith, map, drop, subst, ◌+◌, List, Some, if◌then◌else◌}
 use Rattle.policy_tree.specs.declared.syntax.HandlerSyntax.{HandlerSyntax}
 use Rattle.policy_tree.specs.declared.syntax.CaseSyntax.{CaseSyntax}
 use Rattle.policy_tree.specs.Meaning.{CaseTree}

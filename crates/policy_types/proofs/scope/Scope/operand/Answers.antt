@@ -1,5 +1,5 @@
 -- Signs are big where their number is.
-use Rattle.std.proofs.Common.{◌≡◌, refl, sym, ap, ◌∙◌, arith}
+use Rattle.std.proofs.Common.{arith}
 use Rattle.std.proofs.lemmas.Result.{err_from_is_err_and}
 use Rattle.policy_types.proofs.Signs.{operand_first, operand_small, operand_sound, reference_first, reference_small, reference_sound}
 use Rattle.policy_types.proofs.scope.Scope.operand.Goals as goal

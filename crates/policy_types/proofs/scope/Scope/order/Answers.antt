@@ -1,5 +1,5 @@
 -- The first fault of a key is that of the order.
-use Rattle.std.proofs.Common.{◌≡◌, ◌+◌, drop, refl, sym, ap, ◌∙◌, arith}
+use Rattle.std.proofs.Common.{◌+◌, drop, sym, ap, ◌∙◌, arith}
 use Rattle.std.proofs.lemmas.Result.{err_from_is_err_and}
 use Rattle.policy_types.specs.Conditions.{keys_faults, order_faults}
 use Rattle.policy_types.specs.Expressions.{expr_faults}

@@ -1,5 +1,5 @@
 -- The first fault of an assignment is that of them all.
-use Rattle.std.proofs.Common.{◌≡◌, ◌+◌, drop, refl, sym, ap, ◌∙◌, arith}
+use Rattle.std.proofs.Common.{◌+◌, drop, sym, ap, ◌∙◌, arith}
 use Rattle.std.proofs.lemmas.Result.{err_from_is_err_and}
 use Rattle.policy_types.specs.Handlers.{set_faults, sets_faults}
 use Rattle.policy_types.proofs.Firsts.{drop_item, part_first}

@@ -1,5 +1,5 @@
 -- The first fault of a sign or of a factor is that of the term.
-use Rattle.std.proofs.Common.{◌≡◌, refl, sym, ap, ◌∙◌, arith}
+use Rattle.std.proofs.Common.{arith}
 use Rattle.std.proofs.lemmas.Result.{err_from_is_err_and}
 use Rattle.policy_tree.specs.Trees.{expr_tree}
 use Rattle.policy_types.specs.Expressions.{factor_meaning, term_faults}

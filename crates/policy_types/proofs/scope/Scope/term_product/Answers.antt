@@ -1,8 +1,6 @@
 -- A product of two references has no linear form, whatever comes behind it.
-use Rattle.std.proofs.Common.{◌≡◌, ◌+◌, suc, List, drop, refl, sym, ap, ◌∙◌, arith, subst, drop-cons, add-one}
-use Rattle.policy_tree.specs.declared.syntax.TimesSyntax.{TimesSyntax}
-use Rattle.policy_types.specs.Expressions.{factor_meaning, times_meaning}
-use Rattle.policy_types.specs.Forms.{has_form}
+use Rattle.std.proofs.Common.{arith}
+use Rattle.policy_types.specs.Expressions.{factor_meaning}
 use Rattle.policy_types.proofs.TermsRead.{refer_unformed}
 use Rattle.policy_types.proofs.scope.Scope.term_product.Goals as goal
 

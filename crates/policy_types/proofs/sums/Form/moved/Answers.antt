@@ -1,5 +1,5 @@
 -- The number of one variable, or the constant, changes.
-use Rattle.std.proofs.Common.{◌≡◌, ◌≤◌, ◌<◌, ◌+ℤ◌, ℤ, pos, get_or, true, false, Option, Some, None, refl, sym, ap, subst, ◌∙◌, arith, ℕ}
+use Rattle.std.proofs.Common.{◌≡◌, ◌≤◌, ◌+ℤ◌, ℤ, pos, get_or, true, false, refl, ap, subst, ◌∙◌, arith}
 use Rattle.sched_base.specs.declared.limits.TheConstants.{VARIABLES}
 use Rattle.policy_types.specs.Forms.{is_small}
 use Rattle.policy_types.specs.Products.{IsKnown, IsMoved, IsSize, with_sign}

@@ -1,5 +1,5 @@
 -- A term is joined to nothing.
-use Rattle.std.proofs.Common.{◌≡◌, pos, refl}
+use Rattle.std.proofs.Common.{pos}
 use Rattle.policy_tree.specs.Trees.{number}
 use Rattle.policy_types.specs.Products.{with_sign}
 use Rattle.policy_types.proofs.Moves.{moved_single, nothing_form}
