@@ -46,10 +46,14 @@ abbrev pub joined : Bool → ExprTree → ExprTree → ExprTree
 joined true left right = minus left right
 joined false left right = plus left right
 
+-- the sum so far and one term more
+abbrev pub sum_with : Scope → ExprTree → AddedSyntax → ExprTree
+sum_with scope left a = joined a.minus left (term_meaning scope a.term)
+
 -- with these terms added or taken away, one after the other
 abbrev pub added_meaning : Scope → ExprTree → List AddedSyntax → ExprTree
 added_meaning scope left [] = left
-added_meaning scope left (a ∷ rest) = added_meaning scope (joined a.minus left (term_meaning scope a.term)) rest
+added_meaning scope left (a ∷ rest) = added_meaning scope (sum_with scope left a) rest
 
 abbrev pub expr_meaning : Scope → ExprSyntax → ExprTree
 expr_meaning scope e = added_meaning scope (term_meaning scope e.first) e.rest
@@ -98,9 +102,8 @@ term_faults scope site t =
 abbrev pub added_faults : Scope → Site → ExprTree → List AddedSyntax → List TypeFault
 added_faults scope site left [] = []
 added_faults scope site left (a ∷ rest) =
-    big_faults a.at (joined a.minus left (term_meaning scope a.term))
-    ++ (term_faults scope site a.term
-    ++ added_faults scope site (joined a.minus left (term_meaning scope a.term)) rest)
+    big_faults a.at (sum_with scope left a)
+    ++ (term_faults scope site a.term ++ added_faults scope site (sum_with scope left a) rest)
 
 abbrev pub expr_faults : Scope → Site → ExprSyntax → List TypeFault
 expr_faults scope site e =

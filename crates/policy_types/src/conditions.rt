@@ -23,9 +23,12 @@ impl Scope {
         site: Site,
         condition: &ConditionSyntax,
     ) -> Result<Cond, TypeFault>
-        ensures tree { IfOk result (λ c. cond_tree c ≡ condition_meaning self.now (condition_tree condition.now)) }
-        ensures sound { IfOk result (λ c. condition_faults self.now site (condition_tree condition.now) ≡ []) }
-        ensures fault { IfErr result (IsFirst (condition_faults self.now site (condition_tree condition.now))) }
+        ensures tree { IfOk result (λ c.
+            cond_tree c ≡ condition_meaning self.now (condition_tree condition.now)) }
+        ensures sound { IfOk result (λ c.
+            condition_faults self.now site (condition_tree condition.now) ≡ []) }
+        ensures fault { IfErr result
+            (IsFirst (condition_faults self.now site (condition_tree condition.now))) }
     {
         match condition {
             ConditionSyntax::Always { .. } => Ok(Cond::Always),
@@ -58,9 +61,12 @@ impl Scope {
         both: bool,
         parts: &[ConditionSyntax],
     ) -> Result<Cond, TypeFault>
-        ensures tree { IfOk result (λ c. cond_tree c ≡ chain_meaning self.now both None (condition_trees parts.now)) }
-        ensures sound { IfOk result (λ c. parts_faults self.now site (condition_trees parts.now) ≡ []) }
-        ensures fault { IfErr result (IsFirst (parts_faults self.now site (condition_trees parts.now))) }
+        ensures tree { IfOk result (λ c.
+            cond_tree c ≡ chain_meaning self.now both None (condition_trees parts.now)) }
+        ensures sound { IfOk result (λ c.
+            parts_faults self.now site (condition_trees parts.now) ≡ []) }
+        ensures fault { IfErr result
+            (IsFirst (parts_faults self.now site (condition_trees parts.now))) }
     {
         let mut chain = None;
         for part in parts {
@@ -95,7 +101,8 @@ impl Scope {
 
 /// The chain with one part more.
 fn linked(alloc: Global, both: bool, chain: Option<Cond>, right: Cond) -> Result<Cond, AllocError>
-    ensures { IfOk result (λ c. cond_tree c ≡ linked both (option_map cond_tree chain) (cond_tree right)) }
+    ensures { IfOk result (λ c.
+        cond_tree c ≡ linked both (option_map cond_tree chain) (cond_tree right)) }
 {
     let left = match chain {
         None => return Ok(right),

@@ -2,7 +2,7 @@
 
 ghost use Rattle.std.specs.Prelude.{◌≡◌, IfOk, IfErr, MatchOption, true, false, [], ⊤};
 ghost use Rattle.policy_tree.specs.Trees.{ExprTree, expr_tree, times};
-ghost use Rattle.policy_types.specs.Expressions.{big_faults, expr_faults, expr_meaning, factor_faults, factor_meaning, feature_faults, joined, operand_meaning, product_faults, term_faults, term_meaning};
+ghost use Rattle.policy_types.specs.Expressions.{big_faults, expr_faults, expr_meaning, factor_faults, factor_meaning, feature_faults, joined, operand_meaning, product_faults, sum_with, term_faults, term_meaning};
 ghost use Rattle.policy_types.specs.Faults.{IsFirst, behind};
 ghost use Rattle.policy_types.specs.Forms.{has_form, has_small_form};
 ghost use Rattle.policy_types.specs.Products.{IsForm, IsKnown, IsProduct};
@@ -62,8 +62,10 @@ impl Scope {
     /// The feature that stands behind a dot, where it may stand there.
     fn reference_at(&self, site: Site, at: u32, owner: Owner, word: &Name) -> Result<u32, TypeFault>
         ensures value { IfOk result (λ v. v ≡ reference_of self.now owner word.now) }
-        ensures sound { IfOk result (λ v. feature_faults site at owner (feature_of self.now owner word.now) ≡ []) }
-        ensures fault { IfErr result (IsFirst (feature_faults site at owner (feature_of self.now owner word.now))) }
+        ensures sound { IfOk result (λ v.
+            feature_faults site at owner (feature_of self.now owner word.now) ≡ []) }
+        ensures fault { IfErr result
+            (IsFirst (feature_faults site at owner (feature_of self.now owner word.now))) }
     {
         match self.feature(owner, word) {
             None => Err(TypeFault::Unknown(at)),
@@ -74,8 +76,10 @@ impl Scope {
 
     /// A factor without its signs. Where the number is too big, so is each sign before it.
     fn operand(&self, site: Site, factor: &FactorSyntax) -> Result<Expr, TypeFault>
-        ensures tree { IfOk result (λ e. expr_tree e ≡ operand_meaning self.now factor.now.operand) }
-        ensures small { IfOk result (λ e. has_small_form (operand_meaning self.now factor.now.operand) ≡ true) }
+        ensures tree { IfOk result (λ e.
+            expr_tree e ≡ operand_meaning self.now factor.now.operand) }
+        ensures small { IfOk result (λ e.
+            has_small_form (operand_meaning self.now factor.now.operand) ≡ true) }
         ensures sound { IfOk result (λ e. factor_faults self.now site factor.now ≡ []) }
         ensures fault { IfErr result (IsFirst (factor_faults self.now site factor.now)) }
     {
@@ -98,7 +102,8 @@ impl Scope {
     /// A factor.
     fn factor(&self, alloc: Global, site: Site, factor: &FactorSyntax) -> Result<Expr, TypeFault>
         ensures tree { IfOk result (λ e. expr_tree e ≡ factor_meaning self.now factor.now) }
-        ensures small { IfOk result (λ e. has_small_form (factor_meaning self.now factor.now) ≡ true) }
+        ensures small { IfOk result (λ e.
+            has_small_form (factor_meaning self.now factor.now) ≡ true) }
         ensures sound { IfOk result (λ e. factor_faults self.now site factor.now ≡ []) }
         ensures fault { IfErr result (IsFirst (factor_faults self.now site factor.now)) }
     {
@@ -159,15 +164,16 @@ impl Scope {
         Ok(left)
     }
 
-    /// The linear form of a sum with one term more, whatever rules the term breaks. Where the term has no linear form,
-    /// the sum has none.
+    /// The linear form of a sum with one term more, whatever rules the term breaks. Where the term
+    /// has no linear form, the sum has none.
     fn next_form(&self, form: Form, added: &AddedSyntax) -> Result<Form, TypeFault>
-        ensures is { (l : ExprTree) → IsForm form l → has_form (term_meaning self.now added.now.term) ≡ true →
-            IfOk result (λ f. IsForm f (joined added.now.minus l (term_meaning self.now added.now.term))) }
+        ensures is { (l : ExprTree) → IsForm form l →
+            has_form (term_meaning self.now added.now.term) ≡ true →
+            IfOk result (λ f. IsForm f (sum_with self.now l added.now)) }
         ensures sound { (l : ExprTree) → IsForm form l →
-            IfOk result (λ f. big_faults added.now.at (joined added.now.minus l (term_meaning self.now added.now.term)) ≡ []) }
+            IfOk result (λ f. big_faults added.now.at (sum_with self.now l added.now) ≡ []) }
         ensures fault { (l : ExprTree) → IsForm form l →
-            IfErr result (IsFirst (big_faults added.now.at (joined added.now.minus l (term_meaning self.now added.now.term)))) }
+            IfErr result (IsFirst (big_faults added.now.at (sum_with self.now l added.now))) }
     {
         match self.term_product(&added.term) {
             Some(product) => match form.joined(added.minus, product) {

@@ -75,9 +75,12 @@ impl Scope {
         alloc: Global,
         handlers: &[HandlerSyntax],
     ) -> Result<HandlerList, TypeFault>
-        ensures tree { IfOk result (λ h. handler_trees h ≡ handlers_meaning self.now (map handler_syntax_tree handlers.now)) }
-        ensures sound { IfOk result (λ h. handlers_faults self.now [] (map handler_syntax_tree handlers.now) ≡ []) }
-        ensures fault { IfErr result (IsFirst (handlers_faults self.now [] (map handler_syntax_tree handlers.now))) }
+        ensures tree { IfOk result (λ h.
+            handler_trees h ≡ handlers_meaning self.now (map handler_syntax_tree handlers.now)) }
+        ensures sound { IfOk result (λ h.
+            handlers_faults self.now [] (map handler_syntax_tree handlers.now) ≡ []) }
+        ensures fault { IfErr result
+            (IsFirst (handlers_faults self.now [] (map handler_syntax_tree handlers.now))) }
     {
         let mut given = Given {
             on_enqueue: None,
@@ -103,9 +106,12 @@ impl Scope {
         cases: &[CaseSyntax],
     ) -> Result<CaseList, TypeFault>
         requires { length cases.now < 2 ^ 32 }
-        ensures tree { IfOk result (λ cs. map case_tree cs ≡ map (case_meaning self.now) (map case_syntax_tree cases.now)) }
-        ensures sound { IfOk result (λ cs. cases_faults self.now event (map case_syntax_tree cases.now) ≡ []) }
-        ensures fault { IfErr result (IsFirst (cases_faults self.now event (map case_syntax_tree cases.now))) }
+        ensures tree { IfOk result (λ cs.
+            map case_tree cs ≡ map (case_meaning self.now) (map case_syntax_tree cases.now)) }
+        ensures sound { IfOk result (λ cs.
+            cases_faults self.now event (map case_syntax_tree cases.now) ≡ []) }
+        ensures fault { IfErr result
+            (IsFirst (cases_faults self.now event (map case_syntax_tree cases.now))) }
     {
         let mut read = Vec::new(alloc);
         for case in cases {
@@ -116,9 +122,12 @@ impl Scope {
 
     /// A case of the handler of that event.
     fn case(&self, alloc: Global, event: Event, case: &CaseSyntax) -> Result<Case, TypeFault>
-        ensures tree { IfOk result (λ c. case_tree c ≡ case_meaning self.now (case_syntax_tree case.now)) }
-        ensures sound { IfOk result (λ c. case_faults self.now event (case_syntax_tree case.now) ≡ []) }
-        ensures fault { IfErr result (IsFirst (case_faults self.now event (case_syntax_tree case.now))) }
+        ensures tree { IfOk result (λ c.
+            case_tree c ≡ case_meaning self.now (case_syntax_tree case.now)) }
+        ensures sound { IfOk result (λ c.
+            case_faults self.now event (case_syntax_tree case.now) ≡ []) }
+        ensures fault { IfErr result
+            (IsFirst (case_faults self.now event (case_syntax_tree case.now))) }
     {
         let guard = self.condition(alloc, Site::Handler(event), &case.guard)?;
         let sets = self.sets(alloc, event, case.sets.as_slice())?;
@@ -159,9 +168,12 @@ impl Scope {
 
     /// The attribute of threads that is set by that word.
     fn target(&self, at: u32, word: &Name) -> Result<u32, TypeFault>
-        ensures number { IfOk result (λ n. target_of (feature_among self.now.threads word.now) ≡ Some n) }
-        ensures sound { IfOk result (λ n. target_faults at (feature_among self.now.threads word.now) ≡ []) }
-        ensures fault { IfErr result (IsFirst (target_faults at (feature_among self.now.threads word.now))) }
+        ensures number { IfOk result (λ n.
+            target_of (feature_among self.now.threads word.now) ≡ Some n) }
+        ensures sound { IfOk result (λ n.
+            target_faults at (feature_among self.now.threads word.now) ≡ []) }
+        ensures fault { IfErr result
+            (IsFirst (target_faults at (feature_among self.now.threads word.now))) }
     {
         match feature_among(&self.threads, word) {
             None => Err(TypeFault::Unknown(at)),
@@ -177,7 +189,8 @@ fn cases_or_default(
     cases: Option<CaseList>,
     event: Event,
 ) -> Result<CaseList, AllocError>
-    ensures { IfOk result (λ cs. map case_tree cs ≡ cases_or (default_cases event) (option_map (map case_tree) cases)) }
+    ensures { IfOk result (λ cs.
+        map case_tree cs ≡ cases_or (default_cases event) (option_map (map case_tree) cases)) }
 {
     if let Some(cases) = cases {
         return Ok(cases);

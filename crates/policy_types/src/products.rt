@@ -61,7 +61,8 @@ impl Product {
     /// The product of both, where at most one has a variable.
     pub(crate) fn times(self, other: Product) -> Option<Product>
         ensures is { (l r : ExprTree) → IsProduct self l → IsProduct other r →
-            MatchOption result ((has_reference l && has_reference r) ≡ true) (λ p. IsProduct p (times l r)) }
+            MatchOption result ((has_reference l && has_reference r) ≡ true)
+            (λ p. IsProduct p (times l r)) }
         ensures known { IsKnown self.variable → IsKnown other.variable →
             MatchOption result ⊤ (λ p. IsKnown p.variable) }
     {

@@ -19,13 +19,14 @@ use std::alloc::Global;
 
 /// The policy of that syntax, or the first rule of names, ranges and phases that it breaks.
 ///
-/// It takes any syntax. That the policy is a resolved one, and that no fault names an earlier token than the one that
-/// is answered, is said of a syntax that the grammar has within its limits.
+/// It takes any syntax. That the policy is a resolved one, and that no fault names an earlier token
+/// than the one that is answered, is said of a syntax that the grammar has within its limits.
 pub fn resolve(alloc: Global, syntax: &Syntax) -> Result<Policy, TypeFault>
     ensures policy { IfOk result (λ p. meaning_of p ≡ policy_meaning (syntax_tree syntax.now)) }
     ensures sound { IfOk result (λ p. policy_faults (syntax_tree syntax.now) ≡ []) }
     ensures fault { IfErr result (IsFirst (policy_faults (syntax_tree syntax.now))) }
-    ensures resolved { IfOk result (λ p. IsOfGrammar (syntax_tree syntax.now) → IsResolved (meaning_of p)) }
+    ensures resolved { IfOk result (λ p.
+        IsOfGrammar (syntax_tree syntax.now) → IsResolved (meaning_of p)) }
     ensures least { IfErr result (λ fault. IsOfGrammar (syntax_tree syntax.now) →
         IsLeast (policy_faults (syntax_tree syntax.now)) fault) }
 {

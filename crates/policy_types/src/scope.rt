@@ -32,7 +32,8 @@ impl Scope {
         feature_among(self.attributes(owner), word)
     }
 
-    /// The number of the variable that the word of the owner is. What is none has the number behind the last.
+    /// The number of the variable that the word of the owner is. What is none has the number behind
+    /// the last.
     pub(crate) fn reference(&self, owner: Owner, word: &Name) -> u32
         ensures { result ≡ reference_of self.now owner word.now }
     {

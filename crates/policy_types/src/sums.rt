@@ -37,7 +37,8 @@ impl Form {
     pub(crate) fn joined(self, minus: bool, product: Product) -> Option<Form>
         requires known { IsKnown product.variable }
         ensures { (l r : ExprTree) → IsForm self l → IsProduct product r →
-            MatchOption result (has_small_form (joined minus l r) ≡ false) (λ f. IsForm f (joined minus l r)) }
+            MatchOption result (has_small_form (joined minus l r) ≡ false)
+            (λ f. IsForm f (joined minus l r)) }
     {
         self.moved(product.variable, product.negative != minus, product.size)
     }
@@ -68,7 +69,8 @@ impl Form {
 fn moved(from: i64, negative: bool, by: Option<u64>) -> Option<i64>
     ensures { (n : ℕ) → is_small from ≡ true → IsSize by n →
         MatchOption result (is_small (from +ℤ with_sign negative n) ≡ false)
-        (λ x. (x ≡ from +ℤ with_sign negative n) × (is_small (from +ℤ with_sign negative n) ≡ true)) }
+        (λ x. (x ≡ from +ℤ with_sign negative n) ×
+        (is_small (from +ℤ with_sign negative n) ≡ true)) }
 {
     match by {
         Some(size) => small(i128::from(from) + with_sign(negative, size)),
@@ -90,7 +92,8 @@ fn with_sign(negative: bool, size: u64) -> i128
 
 /// The number where it is small.
 fn small(value: i128) -> Option<i64>
-    ensures { MatchOption result (is_small value ≡ false) (λ x. (x ≡ value) × (is_small value ≡ true)) }
+    ensures { MatchOption result (is_small value ≡ false)
+        (λ x. (x ≡ value) × (is_small value ≡ true)) }
 {
     if value.unsigned_abs() <= MAX_COEFFICIENT as u128 {
         Some(value as i64)
