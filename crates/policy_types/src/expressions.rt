@@ -26,7 +26,7 @@ impl Scope {
         ensures known { IsKnown result.variable }
     {
         let mut product = self.operand_product(&factor.operand);
-        for sign in 0..factor.signs {
+        for _sign in 0..factor.signs {
             product = product.negated();
         }
         product
@@ -108,7 +108,7 @@ impl Scope {
         ensures fault { IfErr result (IsFirst (factor_faults self.now site factor.now)) }
     {
         let mut expr = self.operand(site, factor)?;
-        for sign in 0..factor.signs {
+        for _sign in 0..factor.signs {
             expr = Expr::Neg(Box::new(alloc, expr)?);
         }
         Ok(expr)

@@ -5,4 +5,4 @@ use Rattle.policy_types.specs.Expressions.{operand_meaning, signed}
 use Rattle.policy_types.proofs.scope.Scope.factor.Given as goal
 
 abbrev pub invariant-loop-sign : goal.invariant-loop-sign
-invariant-loop-sign l = expr_tree l.expr ≡ signed l.sign (operand_meaning l.self l.factor.operand)
+invariant-loop-sign l = expr_tree l.expr ≡ signed l._sign (operand_meaning l.self l.factor.operand)

@@ -5,6 +5,6 @@ use Rattle.policy_types.proofs.scope.Scope.factor_product.Given as goal
 
 abbrev pub invariant-loop-sign : goal.invariant-loop-sign
 invariant-loop-sign l = record {
-  is : IsProduct l.product (signed l.sign (operand_meaning l.self l.factor.operand));
+  is : IsProduct l.product (signed l._sign (operand_meaning l.self l.factor.operand));
   known : IsKnown l.product.variable;
 }
