@@ -1,0 +1,83 @@
+-- A syntax that breaks no rule and keeps the limits is a resolved policy.
+use Rattle.std.proofs.Common.{◌≡◌, ◌≤◌, [], ◌++◌, length, refl, sym, subst, Option, Some, None, Result, Ok, Err, IfOk}
+use Rattle.policy_tree.specs.declared.syntax.ElectSyntax.{ElectSyntax}
+use Rattle.policy_tree.specs.declared.syntax.PlaceSyntax.{PlaceSyntax}
+use Rattle.policy_tree.specs.declared.syntax.PlaceSyntax.TheVariants.{Here, Least}
+use Rattle.policy_tree.specs.declared.typed.Event.{Event}
+use Rattle.policy_tree.specs.declared.typed.Event.TheVariants as event
+use Rattle.policy_tree.specs.declared.typed.Policy.{Policy}
+use Rattle.policy_tree.specs.Meaning.{Meaning, cases_on, meaning_of}
+use Rattle.policy_tree.specs.SyntaxTrees.{SyntaxTree}
+use Rattle.policy_grammar.specs.declared.limits.TheConstants.{POLICY_LIMITS}
+use Rattle.policy_grammar.specs.Breaks.{breaks_attrs, breaks_condition, breaks_elect, breaks_handlers, breaks_order, breaks_place, first_of}
+use Rattle.policy_eval.specs.Resolved.{IsResolved, IsResolvedOrder, IsResolvedPlace}
+use Rattle.policy_eval.specs.Sites.{electing}
+use Rattle.policy_types.specs.declared.fault.TypeFault.{TypeFault}
+use Rattle.policy_types.specs.declared.sites.Site.TheVariants.{Choose, Elect, Filter, Placement, Steal}
+use Rattle.policy_types.specs.Conditions.{condition_faults, elect_faults, elect_meaning, order_faults}
+use Rattle.policy_types.specs.Correct.{IsOfGrammar}
+use Rattle.policy_types.specs.Declarations.{attrs_faults, load_faults, nothing_declared}
+use Rattle.policy_types.specs.Handlers.{cases_for, handlers_faults}
+use Rattle.policy_types.specs.Policies.{faults_in, place_faults, place_meaning, policy_faults, policy_meaning, scope_of}
+use Rattle.policy_types.proofs.Allowed.{declared}
+use Rattle.policy_types.proofs.Counted.{keeps_parts}
+use Rattle.policy_types.proofs.Firsts.{none_parts}
+use Rattle.policy_types.proofs.SoundConditions.{no_keys, resolved_condition, resolved_expr, resolved_order}
+use Rattle.policy_types.proofs.SoundDeclarations.{attrs_right, load_right, nothing_right}
+use Rattle.policy_types.proofs.SoundHandlers.{handler_resolved}
+
+module _ (p : Meaning) (cores : length p.core_attrs ≤ 8) (threads : length p.thread_attrs ≤ 8) where
+  place_resolved : (place : Option PlaceSyntax) → place_faults (declared p) place ≡ [] → breaks_place POLICY_LIMITS place ≡ None → IsResolvedPlace p (place_meaning (declared p) place)
+  place_resolved None none keeps = tt
+  place_resolved (Some (Here at)) none keeps = tt
+  place_resolved (Some (Least at e)) none keeps = resolved_expr p cores threads Placement 0 e none keeps
+
+  elect_resolved : (elect : Option ElectSyntax) → elect_faults (declared p) elect ≡ [] → breaks_elect POLICY_LIMITS elect ≡ None → IsResolvedOrder p electing (elect_meaning (declared p) elect)
+  elect_resolved None none keeps = no_keys p electing
+  elect_resolved (Some e) none keeps = resolved_order p cores threads Elect e.order none keeps
+
+pub policy_resolved : (s : SyntaxTree) → IsOfGrammar s → policy_faults s ≡ [] → IsResolved (policy_meaning s)
+policy_resolved s of none =
+    let p = policy_meaning s in let scope = scope_of s in
+    let later = none_parts (load_faults s.load) (attrs_faults nothing_declared s.attrs ++ faults_in scope s) none in
+    let behind = none_parts (attrs_faults nothing_declared s.attrs) (faults_in scope s) later.1 in
+    let kept = of.is.keeps in
+    let kept1 = keeps_parts (breaks_attrs POLICY_LIMITS 0 0 s.attrs) (first_of (breaks_place POLICY_LIMITS s.place) (first_of (breaks_elect POLICY_LIMITS s.elect) (first_of (breaks_handlers POLICY_LIMITS s.handlers)
+    (first_of (breaks_condition POLICY_LIMITS 0 0 s.filter) (first_of (breaks_order POLICY_LIMITS s.choose) (breaks_order POLICY_LIMITS s.steal)))))) kept in
+    let kept2 = keeps_parts (breaks_place POLICY_LIMITS s.place) (first_of (breaks_elect POLICY_LIMITS s.elect) (first_of (breaks_handlers POLICY_LIMITS s.handlers)
+    (first_of (breaks_condition POLICY_LIMITS 0 0 s.filter) (first_of (breaks_order POLICY_LIMITS s.choose) (breaks_order POLICY_LIMITS s.steal))))) kept1.1 in
+    let kept3 = keeps_parts (breaks_elect POLICY_LIMITS s.elect) (first_of (breaks_handlers POLICY_LIMITS s.handlers)
+    (first_of (breaks_condition POLICY_LIMITS 0 0 s.filter) (first_of (breaks_order POLICY_LIMITS s.choose) (breaks_order POLICY_LIMITS s.steal)))) kept2.1 in
+    let kept4 = keeps_parts (breaks_handlers POLICY_LIMITS s.handlers)
+    (first_of (breaks_condition POLICY_LIMITS 0 0 s.filter) (first_of (breaks_order POLICY_LIMITS s.choose) (breaks_order POLICY_LIMITS s.steal))) kept3.1 in
+    let kept5 = keeps_parts (breaks_condition POLICY_LIMITS 0 0 s.filter) (first_of (breaks_order POLICY_LIMITS s.choose) (breaks_order POLICY_LIMITS s.steal)) kept4.1 in
+    let kept6 = keeps_parts (breaks_order POLICY_LIMITS s.choose) (breaks_order POLICY_LIMITS s.steal) kept5.1 in
+    let none1 = none_parts (place_faults scope s.place) (elect_faults scope s.elect ++ (handlers_faults scope [] s.handlers ++ (condition_faults scope Filter s.filter ++ (order_faults scope Choose s.choose ++ order_faults scope Steal s.steal)))) behind.1 in
+    let none2 = none_parts (elect_faults scope s.elect) (handlers_faults scope [] s.handlers ++ (condition_faults scope Filter s.filter ++ (order_faults scope Choose s.choose ++ order_faults scope Steal s.steal))) none1.1 in
+    let none3 = none_parts (handlers_faults scope [] s.handlers) (condition_faults scope Filter s.filter ++ (order_faults scope Choose s.choose ++ order_faults scope Steal s.steal)) none2.1 in
+    let none4 = none_parts (condition_faults scope Filter s.filter) (order_faults scope Choose s.choose ++ order_faults scope Steal s.steal) none3.1 in
+    let none5 = none_parts (order_faults scope Choose s.choose) (order_faults scope Steal s.steal) none4.1 in
+    let right = attrs_right nothing_declared s.attrs nothing_right behind.0 kept1.0 in
+    let cores = right.cores.few in let threads = right.threads.few in
+    record {
+      load = load_right s.load later.0;
+      core_attrs = right.cores;
+      thread_attrs = right.threads;
+      place = place_resolved p cores threads s.place none1.0 kept2.0;
+      elect = elect_resolved p cores threads s.elect none2.0 kept3.0;
+      handlers = λ e. handler_resolved p cores threads e s.handlers (same e) none3.0 kept4.0;
+      filter = resolved_condition p cores threads Filter s.filter none4.0 kept5.0;
+      choose = resolved_order p cores threads Choose s.choose none5.0 kept6.0;
+      steal = resolved_order p cores threads Steal s.steal none5.1 kept6.1;
+    }
+  where
+    same : (e : Event) → cases_on (policy_meaning s).handlers e ≡ cases_for (scope_of s) e s.handlers
+    same event.Enqueue = refl
+    same event.Tick = refl
+    same event.Yield = refl
+    same event.Block = refl
+
+-- the answer is a resolved policy
+pub answer_resolved : (r : Result Policy TypeFault) (s : SyntaxTree) → IfOk r (λ p. meaning_of p ≡ policy_meaning s) → IfOk r (λ p. policy_faults s ≡ []) → IfOk r (λ p. IsOfGrammar s → IsResolved (meaning_of p))
+answer_resolved (Ok p) s is none = λ of. subst IsResolved (sym is) (policy_resolved s of none)
+answer_resolved (Err fault) s is none = tt

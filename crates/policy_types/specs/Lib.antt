@@ -1,0 +1,11 @@
+pub mod References
+pub mod Faults
+pub mod Forms
+pub mod Expressions
+pub mod Conditions
+pub mod Declarations
+pub mod Handlers
+pub mod Policies
+pub mod Products
+pub mod Given
+pub mod Correct

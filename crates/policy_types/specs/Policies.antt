@@ -1,0 +1,58 @@
+-- The policy that a syntax is, and the rules that it breaks, in the order of the text.
+use Rattle.std.specs.Prelude.{List, [], ◌++◌, Option, Some, None}
+use Rattle.policy_tree.specs.declared.syntax.PlaceSyntax.{PlaceSyntax}
+use Rattle.policy_tree.specs.declared.syntax.PlaceSyntax.TheVariants.{Here, Least}
+use Rattle.policy_tree.specs.Meaning.{Meaning, PlaceTree, here, least}
+use Rattle.policy_tree.specs.SyntaxTrees.{SyntaxTree}
+use Rattle.policy_types.specs.declared.fault.TypeFault.{TypeFault}
+use Rattle.policy_types.specs.declared.scope.Scope.{Scope}
+use Rattle.policy_types.specs.declared.sites.Site.TheVariants.{Choose, Filter, Placement, Steal}
+use Rattle.policy_types.specs.Conditions.{condition_faults, condition_meaning, elect_faults, elect_meaning, order_faults, order_meaning}
+use Rattle.policy_types.specs.Declarations.{attrs_faults, load_faults, load_meaning, nothing_declared, scope_after}
+use Rattle.policy_types.specs.Expressions.{expr_faults, expr_meaning}
+use Rattle.policy_types.specs.Handlers.{handlers_faults, handlers_meaning}
+
+-- on the core that lets the thread in, where nothing is said
+abbrev pub place_meaning : Scope → Option PlaceSyntax → PlaceTree
+place_meaning scope None = here
+place_meaning scope (Some (Here at)) = here
+place_meaning scope (Some (Least at e)) = least (expr_meaning scope e)
+
+abbrev pub place_faults : Scope → Option PlaceSyntax → List TypeFault
+place_faults scope None = []
+place_faults scope (Some (Here at)) = []
+place_faults scope (Some (Least at e)) = expr_faults scope Placement e
+
+-- what the policy declares
+abbrev pub scope_of : SyntaxTree → Scope
+scope_of s = scope_after nothing_declared s.attrs
+
+-- the policy, where what it declares is this
+abbrev pub meaning_in : Scope → SyntaxTree → Meaning
+meaning_in scope s = record {
+  name = s.name;
+  load = load_meaning s.load;
+  core_attrs = scope.cores;
+  thread_attrs = scope.threads;
+  place = place_meaning scope s.place;
+  elect = elect_meaning scope s.elect;
+  handlers = handlers_meaning scope s.handlers;
+  filter = condition_meaning scope s.filter;
+  choose = order_meaning scope s.choose;
+  steal = order_meaning scope s.steal;
+}
+
+abbrev pub policy_meaning : SyntaxTree → Meaning
+policy_meaning s = meaning_in (scope_of s) s
+
+-- the rules that are broken behind the declarations
+abbrev pub faults_in : Scope → SyntaxTree → List TypeFault
+faults_in scope s =
+    place_faults scope s.place
+    ++ (elect_faults scope s.elect
+    ++ (handlers_faults scope [] s.handlers
+    ++ (condition_faults scope Filter s.filter
+    ++ (order_faults scope Choose s.choose ++ order_faults scope Steal s.steal))))
+
+abbrev pub policy_faults : SyntaxTree → List TypeFault
+policy_faults s = load_faults s.load ++ (attrs_faults nothing_declared s.attrs ++ faults_in (scope_of s) s)

@@ -1,0 +1,108 @@
+//! Which policy a syntax is.
+
+ghost use Rattle.std.specs.Prelude.{◌≡◌, Option, IfOk, IfErr, []};
+ghost use Rattle.policy_tree.specs.Meaning.{meaning_of, order_tree, place_tree};
+ghost use Rattle.policy_tree.specs.SyntaxTrees.{syntax_tree};
+ghost use Rattle.policy_types.specs.Conditions.{elect_faults, elect_meaning};
+ghost use Rattle.policy_eval.specs.Resolved.{IsResolved};
+ghost use Rattle.policy_types.specs.Correct.{IsLeast, IsOfGrammar};
+ghost use Rattle.policy_types.specs.Faults.{IsFirst};
+ghost use Rattle.policy_types.specs.Policies.{faults_in, meaning_in, place_faults, place_meaning, policy_faults, policy_meaning};
+
+use crate::declarations::{attributes, copy_of_name, load};
+use crate::fault::TypeFault;
+use crate::scope::Scope;
+use crate::sites::Site;
+use lists::Items;
+use policy_tree::{ElectSyntax, Load, Name, Order, PlaceRule, PlaceSyntax, Policy, Syntax};
+use std::alloc::Global;
+
+/// The policy of that syntax, or the first rule of names, ranges and phases that it breaks.
+///
+/// It takes any syntax. That the policy is a resolved one, and that no fault names an earlier token
+/// than the one that is answered, is said of a syntax that the grammar has within its limits.
+pub fn resolve(alloc: Global, syntax: &Syntax) -> Result<Policy, TypeFault>
+    ensures policy { IfOk result (λ p. meaning_of p ≡ policy_meaning (syntax_tree syntax.now)) }
+    ensures sound { IfOk result (λ p. policy_faults (syntax_tree syntax.now) ≡ []) }
+    ensures fault { IfErr result (IsFirst (policy_faults (syntax_tree syntax.now))) }
+    ensures resolved { IfOk result (λ p.
+        IsOfGrammar (syntax_tree syntax.now) → IsResolved (meaning_of p)) }
+    ensures least { IfErr result (λ fault. IsOfGrammar (syntax_tree syntax.now) →
+        IsLeast (policy_faults (syntax_tree syntax.now)) fault) }
+{
+    policy_of(alloc, syntax)
+}
+
+/// The policy of that syntax, or the first rule that it breaks in the order of the text.
+fn policy_of(alloc: Global, syntax: &Syntax) -> Result<Policy, TypeFault>
+    ensures policy { IfOk result (λ p. meaning_of p ≡ policy_meaning (syntax_tree syntax.now)) }
+    ensures sound { IfOk result (λ p. policy_faults (syntax_tree syntax.now) ≡ []) }
+    ensures fault { IfErr result (IsFirst (policy_faults (syntax_tree syntax.now))) }
+{
+    let load = load(&syntax.load)?;
+    let scope = attributes(alloc, syntax.attrs.as_slice())?;
+    let name = copy_of_name(alloc, &syntax.name)?;
+    scope.policy(alloc, name, load, syntax)
+}
+
+impl Scope {
+    /// The policy of that name and load that declares this.
+    fn policy(
+        self,
+        alloc: Global,
+        name: Name,
+        load: Load,
+        syntax: &Syntax,
+    ) -> Result<Policy, TypeFault>
+        ensures policy { IfOk result (λ p. meaning_of p ≡
+            record (meaning_in self (syntax_tree syntax.now)) { name = name; load = load }) }
+        ensures sound { IfOk result (λ p. faults_in self (syntax_tree syntax.now) ≡ []) }
+        ensures fault { IfErr result (IsFirst (faults_in self (syntax_tree syntax.now))) }
+    {
+        let place = self.place(alloc, &syntax.place)?;
+        let elect = self.elect(alloc, &syntax.elect)?;
+        let handlers = self.handlers(alloc, syntax.handlers.as_slice())?;
+        let filter = self.condition(alloc, Site::Filter, &syntax.filter)?;
+        let choose = self.order(alloc, Site::Choose, &syntax.choose)?;
+        let steal = self.order(alloc, Site::Steal, &syntax.steal)?;
+        let Scope { cores, threads } = self;
+        Ok(Policy {
+            name,
+            load,
+            core_attrs: cores,
+            thread_attrs: threads,
+            place,
+            elect,
+            handlers,
+            filter,
+            choose,
+            steal,
+        })
+    }
+
+    /// Where threads are placed.
+    fn place(&self, alloc: Global, place: &Option<PlaceSyntax>) -> Result<PlaceRule, TypeFault>
+        ensures tree { IfOk result (λ p. place_tree p ≡ place_meaning self.now place.now) }
+        ensures sound { IfOk result (λ p. place_faults self.now place.now ≡ []) }
+        ensures fault { IfErr result (IsFirst (place_faults self.now place.now)) }
+    {
+        match place {
+            Some(PlaceSyntax::Least { value, .. }) => {
+                Ok(PlaceRule::Least(self.expr(alloc, Site::Placement, value)?))
+            }
+            Some(PlaceSyntax::Here { .. }) | None => Ok(PlaceRule::Here),
+        }
+    }
+
+    /// Which thread runs next.
+    fn elect(&self, alloc: Global, elect: &Option<ElectSyntax>) -> Result<Order, TypeFault>
+        ensures tree { IfOk result (λ o. order_tree o ≡ elect_meaning self.now elect.now) }
+        ensures sound { IfOk result (λ o. elect_faults self.now elect.now ≡ []) }
+        ensures fault { IfErr result (IsFirst (elect_faults self.now elect.now)) }
+    {
+        match elect {
+            Some(elect) => self.order(alloc, Site::Elect, &elect.order),
+            None => Ok(Items::from_vec(Vec::new(alloc))),
+        }
+    }
+}

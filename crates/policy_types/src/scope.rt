@@ -1,0 +1,76 @@
+//! What a policy declares, and what a word refers to there.
+
+ghost use Rattle.std.specs.Prelude.{◌≡◌, ◌<◌, ◌^◌, length};
+ghost use Rattle.policy_types.specs.References.{attribute_named, attributes_of, feature_among, feature_of, reference_of};
+
+use crate::sites::{Feature, variable_of};
+use policy_tree::{Attr, AttrList, Name, Owner};
+use sched_base::VARIABLES;
+
+/// The attributes that a policy declares, of cores and of threads.
+#[derive(Drop)]
+pub struct Scope {
+    pub cores: AttrList,
+    pub threads: AttrList,
+}
+
+impl Scope {
+    /// The attributes that the owner has.
+    fn attributes(&self, owner: Owner) -> &AttrList
+        ensures { result.now ≡ attributes_of self.now owner }
+    {
+        match owner {
+            Owner::Itself | Owner::Victim | Owner::Core => &self.cores,
+            Owner::Thread => &self.threads,
+        }
+    }
+
+    /// What the word says of the owner, if it is known.
+    pub(crate) fn feature(&self, owner: Owner, word: &Name) -> Option<Feature>
+        ensures { result ≡ feature_of self.now owner word.now }
+    {
+        feature_among(self.attributes(owner), word)
+    }
+
+    /// The number of the variable that the word of the owner is. What is none has the number behind
+    /// the last.
+    pub(crate) fn reference(&self, owner: Owner, word: &Name) -> u32
+        ensures { result ≡ reference_of self.now owner word.now }
+    {
+        match self.feature(owner, word) {
+            Some(feature) => variable_of(owner, feature),
+            None => VARIABLES as u32,
+        }
+    }
+}
+
+/// What the word says of an owner that has these attributes.
+pub(crate) fn feature_among(attrs: &AttrList, word: &Name) -> Option<Feature>
+    ensures { result ≡ feature_among attrs.now word.now }
+{
+    let bytes = word.as_slice();
+    if bytes == b"nr".as_slice() {
+        Some(Feature::Nr)
+    } else if bytes == b"load".as_slice() {
+        Some(Feature::Load)
+    } else if bytes == b"weight".as_slice() {
+        Some(Feature::Weight)
+    } else if bytes == b"fresh".as_slice() {
+        Some(Feature::Fresh)
+    } else {
+        attribute_named(attrs.as_slice(), bytes)
+    }
+}
+
+/// The first attribute of that name.
+pub(crate) fn attribute_named(attrs: &[Attr], word: &[u8]) -> Option<Feature>
+    requires { length attrs.now < 2 ^ 32 }
+    ensures { result ≡ attribute_named 0 attrs.now word.now }
+{
+    for at in 0..attrs.len() {
+        if attrs[at].name.as_slice() == word {
+            return Some(Feature::Attribute(at as u32));
+        }
+    }
+    None
+}

@@ -1,0 +1,97 @@
+//! Where an expression may stand, and to what it may refer there.
+
+ghost use Rattle.std.specs.Prelude.{◌≡◌, ◌≤◌};
+ghost use Rattle.policy_types.specs.References.{allows, allows_put, attribute_from, variable_of};
+
+use policy_tree::{Event, Owner, Put};
+use sched_base::{MAX_ATTRIBUTES, VARIABLES};
+
+/// Where an expression or a condition stands.
+#[derive(Clone, Copy)]
+pub enum Site {
+    Filter,
+    Choose,
+    Placement,
+    Elect,
+    Steal,
+    /// In a case of that event.
+    Handler(Event),
+}
+
+/// What a word says of its owner.
+#[derive(Clone, Copy)]
+pub enum Feature {
+    /// How many threads a core has.
+    Nr,
+    /// The load of a core.
+    Load,
+    /// The weight of a thread.
+    Weight,
+    /// Whether a thread enters just now.
+    Fresh,
+    /// An attribute, by its number among those of its kind.
+    Attribute(u32),
+}
+
+/// Whether that may be referred to there.
+pub(crate) fn allows(site: Site, owner: Owner, feature: Feature) -> bool
+    ensures { result ≡ allows site owner feature }
+{
+    match (site, owner) {
+        (Site::Filter | Site::Choose, Owner::Itself | Owner::Victim)
+        | (Site::Placement, Owner::Core) => matches!(
+            feature,
+            Feature::Nr | Feature::Load | Feature::Attribute(_)
+        ),
+        (Site::Handler(Event::Enqueue), Owner::Thread) => matches!(
+            feature,
+            Feature::Weight | Feature::Fresh | Feature::Attribute(_)
+        ),
+        (Site::Elect | Site::Steal | Site::Handler(_), Owner::Thread) => {
+            matches!(feature, Feature::Weight | Feature::Attribute(_))
+        }
+        (Site::Handler(_), Owner::Itself) => matches!(feature, Feature::Attribute(_)),
+        _ => false,
+    }
+}
+
+/// Whether a case of that event may put the thread there.
+pub(crate) fn allows_put(event: Event, put: Put) -> bool
+    ensures { result ≡ allows_put event put }
+{
+    match event {
+        Event::Enqueue => matches!(put, Put::Queue),
+        Event::Tick | Event::Yield => matches!(put, Put::Queue | Put::Keep),
+        Event::Block => matches!(put, Put::Block),
+    }
+}
+
+/// The number of the variable that it is, and one more than any where it is none.
+pub(crate) fn variable_of(owner: Owner, feature: Feature) -> u32
+    ensures { result ≡ variable_of owner feature }
+{
+    match (owner, feature) {
+        (Owner::Itself, Feature::Nr) => 0,
+        (Owner::Itself, Feature::Load) => 1,
+        (Owner::Victim | Owner::Core, Feature::Nr) => 2,
+        (Owner::Victim | Owner::Core, Feature::Load) => 3,
+        (Owner::Thread, Feature::Weight) => 4,
+        (Owner::Thread, Feature::Fresh) => 5,
+        (Owner::Itself, Feature::Attribute(at)) => attribute_from(6, at),
+        (Owner::Victim | Owner::Core, Feature::Attribute(at)) => attribute_from(14, at),
+        (Owner::Thread, Feature::Attribute(at)) => attribute_from(22, at),
+        _ => VARIABLES as u32,
+    }
+}
+
+/// The number of that attribute, where those of its kind have the numbers from the first on.
+fn attribute_from(first: u32, at: u32) -> u32
+    requires { first ≤ VARIABLES }
+    ensures { result ≡ attribute_from first at }
+{
+    if (at as usize) < MAX_ATTRIBUTES {
+        first + at
+    } else {
+        VARIABLES as u32
+    }
+}
