@@ -68,10 +68,10 @@ factor-begins : {text : List ℕ} {ts : List Lexeme} {at to : ℕ} {f : FactorSy
 factor-begins (factor_plain d) = operand-begins d
 factor-begins (factor_signed f k d) = record { always = rw k refl; not = rw k refl; group = rw k refl }
 
-expr-begins : {text : List ℕ} {ts : List Lexeme} {at to : ℕ} {e : ExprSyntax} → IsExpr text ts at e to → BeginsTest ts at
+pub expr-begins : {text : List ℕ} {ts : List Lexeme} {at to : ℕ} {e : ExprSyntax} → IsExpr text ts at e to → BeginsTest ts at
 expr-begins (expr_of (term_of d times) added) = factor-begins d
 
-compare-no_operator : (ts : List Lexeme) (at : ℕ) (c : Cmp) → kind_at ts at ≡ compare_word c → NoOperator ts at
+pub compare-no_operator : (ts : List Lexeme) (at : ℕ) (c : Cmp) → kind_at ts at ≡ compare_word c → NoOperator ts at
 compare-no_operator ts at cmp.Eq k = record { star = rw k refl; plus = rw k refl; minus = rw k refl }
 compare-no_operator ts at cmp.Ne k = record { star = rw k refl; plus = rw k refl; minus = rw k refl }
 compare-no_operator ts at cmp.Lt k = record { star = rw k refl; plus = rw k refl; minus = rw k refl }
@@ -101,11 +101,11 @@ or-stops k = record { operator = no_operator-by _ _ 27 k refl refl refl; and = r
 pub close-stops : {ts : List Lexeme} {at : ℕ} → kind_at ts at ≡ code Close → NoOr ts at
 close-stops k = record { before = record { operator = no_operator-by _ _ 41 k refl refl refl; and = rw k refl }; or = rw k refl }
 
-ands-stop : {text : List ℕ} {ts : List Lexeme} {at to : ℕ} {us : ConditionTrees} → IsAnds text ts at us to → NoOperator ts to → NoOperator ts at
+pub ands-stop : {text : List ℕ} {ts : List Lexeme} {at to : ℕ} {us : ConditionTrees} → IsAnds text ts at us to → NoOperator ts to → NoOperator ts at
 ands-stop ands_none n = n
 ands-stop (ands_more k d rest) n = and-stops k
 
-ors-stop : {text : List ℕ} {ts : List Lexeme} {at to : ℕ} {cs : ConditionTrees} → IsOrs text ts at cs to → NoAnd ts to → NoAnd ts at
+pub ors-stop : {text : List ℕ} {ts : List Lexeme} {at to : ℕ} {cs : ConditionTrees} → IsOrs text ts at cs to → NoAnd ts to → NoAnd ts at
 ors-stop ors_none n = n
 ors-stop (ors_more k d rest) n = or-stops k
 

@@ -5,7 +5,7 @@ use Rattle.policy_lexer.specs.Tokens.{Reads, reads_nothing, reads_gap, reads_tok
 use Rattle.policy_lexer.specs.Pieces.{Piece, piece_of, IsFirstPiece}
 use Rattle.policy_lexer.proofs.Places.{Reads-le}
 use Rattle.policy_parser.specs.Answers.{LiesIn}
-use Rattle.policy_parser.specs.Lexemes.{lexeme_of, lexemes_of}
+use Rattle.policy_grammar.specs.Lexemes.{lexeme_of, lexemes_of}
 
 -- what holds of all of them holds of each
 map-at : {X Y : Type 0} (f : X → Y) (xs : List X) (n : ℕ) (x : X) → slice_index_or (map f xs) n (f x) ≡ f (slice_index_or xs n x)
