@@ -46,7 +46,7 @@ module _ (limits : Limits) (text : List ℕ) (us ts : List Lexeme) (same : us �
   within-exact is e = subst (λ xs. IfOk r (λ s. IsWithin limits text xs (syntax_tree s))) same (within-one limits text us r is e)
 
   pub only-exact : IfOk r (λ s. IsPolicy text us (syntax_tree s)) → IfOk r (λ s. IsOnlySyntax text ts (syntax_tree s))
-  only-exact is = subst (λ xs. IfOk r (λ s. IsOnlySyntax text xs (syntax_tree s))) same (only-one text us r is)
+  only-exact is = subst (λ xs. IfOk r (λ s. IsOnlySyntax text xs (syntax_tree s))) same (only-one limits text us r is)
 
   pub faults-exact : Answers (go limits us 0 0 start) (λ s. None) r → IfErr r (IsParseFault limits text ts)
   faults-exact e = subst (λ xs. IfErr r (IsParseFault limits text xs)) same (fault-one limits text us r e)

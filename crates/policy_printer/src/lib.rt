@@ -1,0 +1,13 @@
+//! Prints the syntax of a policy, as a text that is read as the same syntax again.
+#![tactic(auto)]
+
+mod conditions;
+mod expressions;
+mod fault;
+mod policies;
+mod printer;
+mod printing;
+mod words;
+
+pub use fault::PrintFault;
+pub use printing::print;
