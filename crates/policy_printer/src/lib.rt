@@ -1,5 +1,5 @@
 //! Prints the syntax of a policy, as a text that is read as the same syntax again.
-#![tactic(auto)]
+#![tactic(auto, using(crate::proofs::AddsLemmas::spaced_append))]
 
 mod conditions;
 mod expressions;
