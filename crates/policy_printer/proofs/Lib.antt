@@ -1,2 +1,5 @@
 pub mod AddsLemmas
 pub mod Nodes
+pub mod FirstPieces
+pub mod Decimals
+pub mod Normal
