@@ -3,3 +3,7 @@ pub mod Nodes
 pub mod FirstPieces
 pub mod Decimals
 pub mod Normal
+pub mod Laid
+pub mod Alike
+pub mod AgainExpressions
+pub mod AgainPolicies
