@@ -7,3 +7,8 @@ pub mod Laid
 pub mod Alike
 pub mod AgainExpressions
 pub mod AgainPolicies
+pub mod WordTable
+pub mod Spells
+pub mod SpelledExpressions
+pub mod SpelledPolicies
+pub mod ReadAgain

@@ -4,10 +4,12 @@
 mod conditions;
 mod expressions;
 mod fault;
+mod laws;
 mod policies;
 mod printer;
 mod printing;
 mod words;
 
 pub use fault::PrintFault;
+pub use laws::law_read_again;
 pub use printing::print;
