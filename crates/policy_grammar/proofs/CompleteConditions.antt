@@ -1,24 +1,23 @@
 -- What the grammar has is read, up to the first limit that its tree passes: conditions.
-use Rattle.std.proofs.Common.{◌≡◌, ◌<◌, ℕ, suc, ◌+◌, ◌==◌, List, [], ◌∷◌, refl, sym, ap, subst, arith, lit<, Bool, true, false, Option, Some, None, ◌∙◌}
+use Rattle.std.proofs.Common.{◌≡◌, ℕ, ◌+◌, ◌==◌, List, ◌∷◌, refl, sym, ap, arith, lit<, false, Option, Some, None, ◌∙◌}
 use Rattle.policy_tree.specs.declared.trees.Cmp.{Cmp}
 use Rattle.policy_tree.specs.declared.trees.Cmp.TheVariants as cmp
 use Rattle.policy_tree.specs.declared.syntax.Owner.{Owner}
 use Rattle.policy_tree.specs.declared.syntax.Owner.TheVariants as owner
 use Rattle.policy_tree.specs.declared.syntax.OperandSyntax.{OperandSyntax}
 use Rattle.policy_tree.specs.declared.syntax.FactorSyntax.{FactorSyntax}
-use Rattle.policy_tree.specs.declared.syntax.TermSyntax.{TermSyntax}
 use Rattle.policy_tree.specs.declared.syntax.ExprSyntax.{ExprSyntax}
-use Rattle.policy_tree.specs.SyntaxTrees.{ConditionTree, always, negated, grouped, all, any, test, ConditionTrees, no_more, more}
+use Rattle.policy_tree.specs.SyntaxTrees.{ConditionTree, ConditionTrees, no_more, more}
 use Rattle.policy_grammar.specs.declared.terminal.Lexeme.{Lexeme}
 use Rattle.policy_grammar.specs.declared.terminal.Terminal.TheVariants.{And, Or, Not, Always, Open, Close}
 use Rattle.policy_grammar.specs.declared.limits.Limits.{Limits}
 use Rattle.policy_grammar.specs.declared.fault.ParseFault.{ParseFault}
 use Rattle.policy_grammar.specs.Terminals.{code, kind_at}
 use Rattle.policy_grammar.specs.Words.{compare_word, owner_word}
-use Rattle.policy_grammar.specs.Expressions.{IsOperand, operand_number, operand_reference, IsFactor, factor_plain, factor_signed, IsTerm, term_of, IsExpr, expr_of}
+use Rattle.policy_grammar.specs.Expressions.{IsOperand, operand_number, operand_reference, IsFactor, factor_plain, factor_signed, term_of, IsExpr, expr_of}
 use Rattle.policy_grammar.specs.Conditions.{conjunction, disjunction, IsUnit, unit_always, unit_not, unit_group, unit_test, IsAnds, ands_none, ands_more, IsConjunction, conjunction_of, IsOrs, ors_none, ors_more, IsCondition, condition_of}
 use Rattle.policy_grammar.specs.Breaks.{deep, many, first_of, breaks_expr, comparisons, comparisons_of, breaks_condition, breaks_parts}
-use Rattle.policy_grammar.specs.Machine.{Symbol, condition, unit, ands, ors, close, compare, operand, go, goes, state}
+use Rattle.policy_grammar.specs.Machine.{Symbol, condition, unit, ands, ors, close, compare, operand, go}
 use Rattle.policy_grammar.proofs.Steps.{judged, judged-first, go-move, go-same}
 use Rattle.policy_grammar.proofs.CompleteExpressions.{NoOperator, expr_read}
 

@@ -1,5 +1,5 @@
 -- What the grammar has is read, up to the first limit that its tree passes: policies.
-use Rattle.std.proofs.Common.{◌≡◌, ◌<◌, ◌≤◌, ◌≢◌, ℕ, zero, suc, ◌+◌, ◌==◌, List, [], ◌∷◌, length, refl, sym, ap, subst, arith, lit<, Bool, true, false, Option, Some, None, ◌∙◌}
+use Rattle.std.proofs.Common.{◌≡◌, ◌<◌, ◌≤◌, ℕ, ◌+◌, ◌==◌, List, [], ◌∷◌, length, refl, sym, ap, arith, lit<, Bool, true, false, Option, Some, None, ◌∙◌}
 use Rattle.std.proofs.lemmas.Bool.{ne_eqb}
 use Rattle.std.proofs.lemmas.Bool.Decides.{nat_tests}
 use Rattle.policy_tree.specs.declared.typed.Event.{Event}
@@ -10,18 +10,17 @@ use Rattle.policy_tree.specs.declared.syntax.LoadSyntax.{LoadSyntax}
 use Rattle.policy_tree.specs.declared.syntax.AttrSyntax.{AttrSyntax}
 use Rattle.policy_tree.specs.declared.syntax.PlaceSyntax.{PlaceSyntax}
 use Rattle.policy_tree.specs.declared.syntax.ElectSyntax.{ElectSyntax}
-use Rattle.policy_tree.specs.declared.syntax.OrderSyntax.{OrderSyntax}
 use Rattle.policy_tree.specs.declared.syntax.SetSyntax.{SetSyntax}
 use Rattle.policy_tree.specs.SyntaxTrees.{CaseSyntaxTree, HandlerSyntaxTree, SyntaxTree}
 use Rattle.policy_grammar.specs.declared.terminal.Lexeme.{Lexeme}
-use Rattle.policy_grammar.specs.declared.terminal.Terminal.TheVariants.{Policy, Load, Count, Weight, Core, Thread, In, Start, Place, Here, Min, Elect, Choose, Steal, On, When, Filter, Name, Dot, Comma, Colon, Begin, Finish, Gets, Range}
+use Rattle.policy_grammar.specs.declared.terminal.Terminal.TheVariants.{Policy, Load, In, Start, Choose, Steal, When, Filter, Name, Dot, Comma, Colon, Begin, Finish, Gets, Range}
 use Rattle.policy_grammar.specs.declared.limits.Limits.{Limits}
 use Rattle.policy_grammar.specs.declared.fault.ParseFault.{ParseFault}
 use Rattle.policy_grammar.specs.Terminals.{code, kind_at, is_word}
 use Rattle.policy_grammar.specs.Words.{attr_word, event_word, put_word}
 use Rattle.policy_grammar.specs.Policies.{IsLoad, load_count, load_weight, IsAttr, attr_of, IsAttrs, attrs_none, attrs_more, IsPlace, place_none, place_here, place_least, IsElect, elect_none, elect_some, IsSets, sets_none, sets_more, IsCase, case_of, IsCases, cases_none, cases_more, IsHandler, handler_of, IsHandlers, handlers_none, handlers_more, IsPolicy, policy_of}
-use Rattle.policy_grammar.specs.Breaks.{many, first_of, breaks_expr, breaks_condition, breaks_order, breaks_sets, breaks_cases, breaks_handlers, of_cores_more, of_threads_more, of_kind, breaks_attrs, breaks_place, breaks_elect, breaks_policy, comparisons}
-use Rattle.policy_grammar.specs.Machine.{Symbol, the, load_rule, int, attrs, place, place_rule, elect, handlers, event, case, cases, actions, field, order, condition, operand, go, goes, state, start}
+use Rattle.policy_grammar.specs.Breaks.{many, first_of, breaks_expr, breaks_condition, breaks_sets, breaks_cases, breaks_handlers, of_cores_more, of_threads_more, of_kind, breaks_attrs, breaks_place, breaks_elect, breaks_policy, comparisons}
+use Rattle.policy_grammar.specs.Machine.{Symbol, the, load_rule, int, attrs, place, place_rule, elect, handlers, event, case, cases, actions, field, order, condition, operand, go, start}
 use Rattle.policy_grammar.proofs.Steps.{judged, judged-first, go-move, go-same, is-zero}
 use Rattle.policy_grammar.proofs.CompleteExpressions.{NoOperator, the-read, int_read, range_read, expr_read, order_read, go-at}
 use Rattle.policy_grammar.proofs.CompleteConditions.{NoOr, no_operator-by, whole_read}

@@ -1,17 +1,17 @@
 -- The tokens from a place on have one tree at most, and it ends at one place: conditions.
-use Rattle.std.proofs.Common.{◌≡◌, ◌==◌, ◌+◌, ℕ, List, refl, arith, false}
+use Rattle.std.proofs.Common.{◌≡◌, ◌+◌, ℕ, List, arith}
 use Rattle.policy_tree.specs.declared.trees.Cmp.{Cmp}
 use Rattle.policy_tree.specs.declared.syntax.ExprSyntax.{ExprSyntax}
-use Rattle.policy_tree.specs.SyntaxTrees.{ConditionTree, always, negated, grouped, test, ConditionTrees, more}
+use Rattle.policy_tree.specs.SyntaxTrees.{ConditionTree, negated, grouped, test, ConditionTrees, more}
 use Rattle.policy_grammar.specs.declared.terminal.Lexeme.{Lexeme}
 use Rattle.policy_grammar.specs.Terminals.{kind_at}
 use Rattle.policy_grammar.specs.Words.{compare_word}
 use Rattle.policy_grammar.specs.Expressions.{IsExpr}
 use Rattle.policy_grammar.specs.Conditions.{conjunction, disjunction, IsUnit, unit_always, unit_not, unit_group, unit_test, IsAnds, ands_none, ands_more, IsConjunction, conjunction_of, IsOrs, ors_none, ors_more, IsCondition, condition_of}
 use Rattle.policy_grammar.proofs.CompleteExpressions.{NoOperator}
-use Rattle.policy_grammar.proofs.CompleteConditions.{NoAnd, NoOr, BeginsTest, expr-begins, compare-no_operator, close-stops, ands-stop, ors-stop}
+use Rattle.policy_grammar.proofs.CompleteConditions.{NoAnd, NoOr, expr-begins, compare-no_operator, close-stops, ands-stop, ors-stop}
 use Rattle.policy_grammar.proofs.OneExpressions.{expr-one}
-use Rattle.policy_grammar.proofs.Same.{Same, same, same-ap, same-place, and-then, is-not, compare-same}
+use Rattle.policy_grammar.proofs.Same.{Same, same, same-ap, and-then, is-not, compare-same}
 
 closed : {v w : ConditionTree} {m n : ℕ} → Same v m w n → Same v (m + 1) w (n + 1)
 closed same = same

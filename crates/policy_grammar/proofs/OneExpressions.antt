@@ -1,5 +1,5 @@
 -- The tokens from a place on have one tree at most, and it ends at one place: expressions and orders.
-use Rattle.std.proofs.Common.{◌≡◌, ◌<◌, ◌==◌, ◌+◌, ℕ, suc, List, [], ◌∷◌, Bool, true, false, refl, arith}
+use Rattle.std.proofs.Common.{◌≡◌, ◌==◌, ◌+◌, ℕ, suc, List, ◌∷◌, Bool, true, false, refl, arith}
 use Rattle.policy_tree.specs.declared.syntax.IntSyntax.{IntSyntax}
 use Rattle.policy_tree.specs.declared.syntax.RangeSyntax.{RangeSyntax}
 use Rattle.policy_tree.specs.declared.syntax.OperandSyntax.{OperandSyntax}
@@ -13,7 +13,7 @@ use Rattle.policy_tree.specs.declared.syntax.KeySyntax.{KeySyntax}
 use Rattle.policy_tree.specs.declared.syntax.OrderSyntax.{OrderSyntax}
 use Rattle.policy_grammar.specs.declared.terminal.Lexeme.{Lexeme}
 use Rattle.policy_grammar.specs.Terminals.{kind_at, word_at}
-use Rattle.policy_grammar.specs.Words.{key_word, sign_word}
+use Rattle.policy_grammar.specs.Words.{sign_word}
 use Rattle.policy_grammar.specs.Expressions.{IsInt, int_plain, int_signed, IsRange, range_of, IsOperand, operand_number, operand_reference, IsFactor, factor_plain, factor_signed, IsTimes, times_none, times_more, IsTerm, term_of, IsAdded, added_none, added_more, IsExpr, expr_of, IsKey, key_of, IsKeys, keys_none, keys_more, IsOrder, order_first, order_keys}
 use Rattle.policy_grammar.proofs.CompleteExpressions.{NoOperator}
 use Rattle.policy_grammar.proofs.Same.{Same, same, same-ap, and-then, is-not, key-same, sign-same, owner-same, owner-small}

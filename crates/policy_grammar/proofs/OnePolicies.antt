@@ -1,24 +1,21 @@
 -- The tokens have one tree at most: policies.
-use Rattle.std.proofs.Common.{◌≡◌, ◌<◌, ◌==◌, ◌+◌, ℕ, List, [], ◌∷◌, length, Bool, true, false, Option, Some, None, refl, sym, subst, arith}
+use Rattle.std.proofs.Common.{◌≡◌, ◌==◌, ◌+◌, ℕ, List, ◌∷◌, length, true, false, Option, Some, refl, arith}
 use Rattle.std.proofs.lemmas.Bool.{ne_eqb}
 use Rattle.policy_tree.specs.declared.typed.Put.{Put}
-use Rattle.policy_tree.specs.declared.syntax.RangeSyntax.{RangeSyntax}
 use Rattle.policy_tree.specs.declared.syntax.LoadSyntax.{LoadSyntax}
 use Rattle.policy_tree.specs.declared.syntax.LoadSyntax.TheVariants as load
 use Rattle.policy_tree.specs.declared.syntax.AttrSyntax.{AttrSyntax}
 use Rattle.policy_tree.specs.declared.syntax.PlaceSyntax.{PlaceSyntax}
 use Rattle.policy_tree.specs.declared.syntax.PlaceSyntax.TheVariants as place
 use Rattle.policy_tree.specs.declared.syntax.ElectSyntax.{ElectSyntax}
-use Rattle.policy_tree.specs.declared.syntax.OrderSyntax.{OrderSyntax}
 use Rattle.policy_tree.specs.declared.syntax.SetSyntax.{SetSyntax}
 use Rattle.policy_tree.specs.SyntaxTrees.{CaseSyntaxTree, HandlerSyntaxTree, SyntaxTree}
 use Rattle.policy_grammar.specs.declared.terminal.Lexeme.{Lexeme}
 use Rattle.policy_grammar.specs.Terminals.{kind_at, word_at}
-use Rattle.policy_grammar.specs.Words.{attr_word, event_word, put_word}
-use Rattle.policy_grammar.specs.Expressions.{IsInt, IsRange, IsExpr, IsOrder}
+use Rattle.policy_grammar.specs.Words.{put_word}
+use Rattle.policy_grammar.specs.Expressions.{IsInt, IsRange, IsOrder}
 use Rattle.policy_grammar.specs.Conditions.{IsCondition}
 use Rattle.policy_grammar.specs.Policies.{IsLoad, load_count, load_weight, IsAttr, attr_of, IsAttrs, attrs_none, attrs_more, IsPlace, place_none, place_here, place_least, IsElect, elect_none, elect_some, IsSets, sets_none, sets_more, IsCase, case_of, IsCases, cases_none, cases_more, IsHandler, handler_of, IsHandlers, handlers_none, handlers_more, IsPolicy, policy_of}
-use Rattle.policy_grammar.proofs.CompleteExpressions.{NoOperator}
 use Rattle.policy_grammar.proofs.CompleteConditions.{no_operator-by}
 use Rattle.policy_grammar.proofs.CompletePolicies.{From, from-no_operator, from-no_comma, from-past, handlers-from, elect-from, place-from, kind-end, no_or-by}
 use Rattle.policy_grammar.proofs.OneExpressions.{int-one, range-one, expr-one, order-one}

@@ -1,17 +1,13 @@
 -- What the grammar has of some tokens, it has of tokens that are alike: conditions and policies.
-use Rattle.std.proofs.Common.{◌≡◌, ◌∙◌, ◌+◌, ℕ, List, [], ◌∷◌, length, Option, Bool, true, refl, ap, sym, subst}
-use Rattle.policy_tree.specs.declared.syntax.IntSyntax.{IntSyntax}
-use Rattle.policy_tree.specs.declared.syntax.RangeSyntax.{RangeSyntax}
+use Rattle.std.proofs.Common.{◌≡◌, ◌+◌, ℕ, List, ◌∷◌, Option, refl, sym, subst}
 use Rattle.policy_tree.specs.declared.syntax.LoadSyntax.{LoadSyntax}
 use Rattle.policy_tree.specs.declared.syntax.AttrSyntax.{AttrSyntax}
 use Rattle.policy_tree.specs.declared.syntax.PlaceSyntax.{PlaceSyntax}
 use Rattle.policy_tree.specs.declared.syntax.ElectSyntax.{ElectSyntax}
-use Rattle.policy_tree.specs.declared.syntax.OrderSyntax.{OrderSyntax}
 use Rattle.policy_tree.specs.declared.syntax.SetSyntax.{SetSyntax}
-use Rattle.policy_tree.specs.declared.syntax.ExprSyntax.{ExprSyntax}
 use Rattle.policy_tree.specs.SyntaxTrees.{ConditionTree, ConditionTrees, CaseSyntaxTree, HandlerSyntaxTree, SyntaxTree}
 use Rattle.policy_grammar.specs.declared.terminal.Lexeme.{Lexeme}
-use Rattle.policy_grammar.specs.Terminals.{kind_at, word_at, is_word}
+use Rattle.policy_grammar.specs.Terminals.{kind_at, word_at}
 use Rattle.policy_grammar.specs.Expressions.{IsOrder}
 use Rattle.policy_grammar.specs.Conditions.{IsUnit, unit_always, unit_not, unit_group, unit_test, IsAnds, ands_none, ands_more, IsConjunction, conjunction_of, IsOrs, ors_none, ors_more, IsCondition, condition_of}
 use Rattle.policy_grammar.specs.Policies.{IsLoad, load_count, load_weight, IsAttr, attr_of, IsAttrs, attrs_none, attrs_more, IsPlace, place_none, place_here, place_least, IsElect, elect_none, elect_some, IsSets, sets_none, sets_more, IsCase, case_of, IsCases, cases_none, cases_more, IsHandler, handler_of, IsHandlers, handlers_none, handlers_more, IsPolicy, policy_of}

@@ -1,5 +1,5 @@
 -- Two texts with the same tokens, but for where they stand and for zeros before numbers: what is the same to the grammar.
-use Rattle.std.proofs.Common.{◌≡◌, ◌∙◌, ℕ, zero, suc, true, false, List, [], ◌∷◌, length, map, decimal, refl, ap, sym, subst}
+use Rattle.std.proofs.Common.{◌≡◌, ◌∙◌, ℕ, zero, suc, true, false, List, [], ◌∷◌, length, map, refl, ap, sym}
 use Rattle.std.specs.Prelude.{slice_range}
 use Rattle.policy_lexer.specs.declared.token.Symbol.{Symbol as Sign}
 use Rattle.policy_lexer.specs.declared.token.Symbol.TheVariants as sign
@@ -7,11 +7,10 @@ use Rattle.policy_lexer.specs.declared.token.Token.{Token}
 use Rattle.policy_lexer.specs.declared.token.TokenKind.{TokenKind}
 use Rattle.policy_lexer.specs.declared.token.TokenKind.TheVariants as kind
 use Rattle.policy_grammar.specs.declared.terminal.Lexeme.{Lexeme}
-use Rattle.policy_grammar.specs.declared.terminal.Terminal.{Terminal}
-use Rattle.policy_grammar.specs.Lexemes.{word_terminal, symbol_terminal, kind_terminal, kind_value, lexeme_of, lexemes_of}
+use Rattle.policy_grammar.specs.Lexemes.{symbol_terminal, kind_terminal, kind_value, lexeme_of, lexemes_of}
 use Rattle.policy_grammar.specs.Terminals.{code, is_word, kind_at, value_at, word_at}
 use Rattle.policy_printer.proofs.Laid.{AreLaid, laid_none, laid_more}
-use Rattle.policy_printer.proofs.Normal.{symbol_text, normal_bytes, Spelled, normal}
+use Rattle.policy_printer.proofs.Normal.{normal_bytes, normal}
 
 -- the tokens us of the other text are those of the first
 pub record Alike (text : List ℕ) (ts : List Lexeme) (other : List ℕ) (us : List Lexeme) : Type 0 where

@@ -1,12 +1,12 @@
 -- The decimal digits of a number are a token with its value.
-use Rattle.std.proofs.Common.{◌≡◌, ◌∙◌, ◌<◌, ◌≤◌, ◌+◌, ◌*◌, ◌/◌, ◌%◌, ◌^◌, ◌&&◌, ℕ, Bool, true, false, cond, List, [], ◌∷◌, ◌++◌, length, Some, fold, refl, ap, sym, arith, decimal, length-append}
+use Rattle.std.proofs.Common.{◌≡◌, ◌∙◌, ◌<◌, ◌≤◌, ◌+◌, ◌*◌, ◌/◌, ◌%◌, ◌^◌, ◌&&◌, ℕ, Bool, true, false, List, [], ◌∷◌, ◌++◌, length, Some, refl, ap, arith, decimal, length-append}
 use Rattle.std.specs.List.{list_all}
 use Rattle.std.specs.Char.{is_ascii_alphabetic, is_ascii_digit, digit_value}
 use Rattle.std.proofs.lemmas.Bool.Decides.{nat_tests}
 use Rattle.std.proofs.lemmas.Fmt.{decimal_by_steps}
 use Rattle.policy_lexer.specs.declared.token.TokenKind.TheVariants as kind
 use Rattle.policy_lexer.specs.Bytes.{number_behind, number_of}
-use Rattle.policy_lexer.specs.Pieces.{Piece, token, piece_of}
+use Rattle.policy_lexer.specs.Pieces.{token, piece_of}
 use Rattle.policy_lexer.proofs.Numbers.{digit_value-is}
 
 number_behind-end : (before : ℕ) (ds : List ℕ) (d : ℕ) → number_behind before (ds ++ d ∷ []) ≡ number_behind before ds * 10 + digit_value d

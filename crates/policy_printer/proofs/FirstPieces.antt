@@ -1,5 +1,5 @@
 -- The text of a token begins with that token, where a blank stands behind it.
-use Rattle.std.proofs.Common.{◌≡◌, ◌∙◌, ◌<◌, ◌≤◌, ◌+◌, ◌&&◌, ◌==◌, ℕ, suc, Bool, true, false, cond, List, [], ◌∷◌, ◌++◌, length, take, Option, Some, None, refl, ap, sym, subst, arith}
+use Rattle.std.proofs.Common.{◌≡◌, ◌∙◌, ◌+◌, ◌&&◌, ◌==◌, ℕ, suc, Bool, true, false, cond, List, [], ◌∷◌, ◌++◌, length, take, Option, Some, None, refl, ap, sym, subst, arith}
 use Rattle.std.specs.Prelude.{option_map}
 use Rattle.std.specs.List.{list_all, prefix_len}
 use Rattle.std.specs.Char.{is_ascii_alphabetic, is_ascii_digit}
@@ -10,7 +10,7 @@ use Rattle.policy_lexer.specs.declared.token.TokenKind.{TokenKind}
 use Rattle.policy_lexer.specs.declared.token.TokenKind.TheVariants as kind
 use Rattle.policy_lexer.specs.Bytes.{is_word_byte, is_blank, is_comment_byte, number_of, single_symbol, double_symbol, symbol_of}
 use Rattle.policy_lexer.specs.First.{IsOther}
-use Rattle.policy_lexer.specs.Pieces.{Piece, gap, token, run_of, piece_of, IsFirstPiece}
+use Rattle.policy_lexer.specs.Pieces.{Piece, gap, token, piece_of, IsFirstPiece}
 use Rattle.policy_lexer.proofs.Firsts.{word_is_first, number_is_first, blanks_are_first, single_is_first, double_is_first}
 
 -- a run that passes a test, up to a byte that doesn't

@@ -1,11 +1,10 @@
 -- Tokens joined by spaces, with a line feed behind them, are read as just these tokens.
-use Rattle.std.proofs.Common.{◌≡◌, ◌∙◌, ◌<◌, ◌≤◌, ◌+◌, ◌-◌, ℕ, List, [], ◌∷◌, ◌++◌, length, take, drop, map, refl, ap, sym, subst, arith, length-drop, length-append, append_assoc}
+use Rattle.std.proofs.Common.{◌≡◌, ◌∙◌, ◌≤◌, ◌+◌, ◌-◌, ℕ, List, [], ◌∷◌, ◌++◌, length, take, drop, map, refl, ap, sym, subst, arith, length-drop, length-append, append_assoc}
 use Rattle.std.specs.Prelude.{slice_range}
 use Rattle.std.specs.List.{join_with_byte}
 use Rattle.std.proofs.Math.Seq.{take-append_seam, drop-append_seam}
 use Rattle.std.proofs.lemmas.List.{drop-drop}
 use Rattle.policy_lexer.specs.declared.token.Token.{Token}
-use Rattle.policy_lexer.specs.declared.token.TokenKind.{TokenKind}
 use Rattle.policy_lexer.specs.Pieces.{gap, token, IsFirstPiece}
 use Rattle.policy_lexer.specs.Tokens.{Reads, reads_nothing, reads_gap, reads_token}
 use Rattle.policy_printer.proofs.FirstPieces.{first-token, first-gap, last-gap}

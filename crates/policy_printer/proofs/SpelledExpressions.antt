@@ -1,5 +1,5 @@
 -- The tokens of a part are its printed tokens: expressions and orders.
-use Rattle.std.proofs.Common.{◌≡◌, ◌+◌, ℕ, List, [], ◌∷◌, Bool, true, false, map, codes, lit<, refl, arith}
+use Rattle.std.proofs.Common.{◌≡◌, ◌+◌, ℕ, List, [], ◌∷◌, Bool, true, false, map, lit<, refl, arith}
 use Rattle.std.specs.List.{flat_map}
 use Rattle.policy_tree.specs.declared.syntax.IntSyntax.{IntSyntax}
 use Rattle.policy_tree.specs.declared.syntax.RangeSyntax.{RangeSyntax}
@@ -20,7 +20,7 @@ use Rattle.policy_grammar.specs.Terminals.{kind_at}
 use Rattle.policy_grammar.specs.Words.{key_word, sign_word, owner_word}
 use Rattle.policy_grammar.specs.Expressions.{IsInt, int_plain, int_signed, IsRange, range_of, IsOperand, operand_number, operand_reference, IsFactor, factor_plain, factor_signed, IsTimes, times_none, times_more, IsTerm, term_of, IsAdded, added_none, added_more, IsExpr, expr_of, IsKey, key_of, IsKeys, keys_none, keys_more, IsOrder, order_first, order_keys}
 use Rattle.policy_printer.specs.WordTexts.{key_text, sign_text, owner_text}
-use Rattle.policy_printer.specs.ExpressionTexts.{int_texts, range_texts, operand_texts, factor_texts, times_texts, term_texts, added_texts, expr_texts, key_texts, further_key_texts, keys_texts, order_texts}
+use Rattle.policy_printer.specs.ExpressionTexts.{int_texts, range_texts, operand_texts, factor_texts, times_texts, term_texts, added_texts, expr_texts, key_texts, further_key_texts, order_texts}
 use Rattle.policy_printer.proofs.Laid.{texts}
 use Rattle.policy_printer.proofs.Normal.{normal}
 use Rattle.policy_printer.proofs.Spells.{Spells, ◌▹◌, nothing, reserved, symbol, word, number}

@@ -1,5 +1,5 @@
 -- The tokens of a part are its printed tokens: conditions and policies.
-use Rattle.std.proofs.Common.{◌≡◌, ◌+◌, ℕ, List, [], ◌∷◌, ◌++◌, length, Option, Bool, true, false, map, codes, lit<, refl, ap, sym, arith, append-nil}
+use Rattle.std.proofs.Common.{◌≡◌, ◌+◌, ℕ, List, [], ◌∷◌, ◌++◌, length, Option, Bool, true, false, codes, lit<, refl, arith, append-nil}
 use Rattle.std.specs.List.{flat_map}
 use Rattle.policy_tree.specs.declared.trees.Cmp.{Cmp}
 use Rattle.policy_tree.specs.declared.trees.Cmp.TheVariants as cmp
@@ -24,7 +24,7 @@ use Rattle.policy_printer.specs.WordTexts.{kind_text, event_text, put_text, comp
 use Rattle.policy_printer.specs.ConditionTexts.{condition_texts, further_texts}
 use Rattle.policy_printer.specs.PolicyTexts.{load_texts, attr_texts, place_texts, elect_texts, set_texts, case_texts, handler_texts, policy_texts}
 use Rattle.policy_printer.proofs.SpelledExpressions.{Are, int-spells, range-spells, expr-spells, order-spells}
-use Rattle.policy_printer.proofs.Spells.{Spells, ◌▹◌, nothing, spells-as, reserved, symbol, word, number}
+use Rattle.policy_printer.proofs.Spells.{◌▹◌, nothing, spells-as, reserved, symbol, word}
 
 conjunction-texts : (at : ℕ) (first : ConditionTree) (rest : ConditionTrees) →
     condition_texts first ++ further_texts (codes "and") rest ≡ condition_texts (conjunction at first rest)

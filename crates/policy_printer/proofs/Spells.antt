@@ -5,7 +5,6 @@ use Rattle.std.proofs.lemmas.Bool.Decides.{nat_tests}
 use Rattle.policy_lexer.specs.declared.token.Symbol.{Symbol as Sign}
 use Rattle.policy_lexer.specs.declared.token.Token.{Token}
 use Rattle.policy_lexer.specs.declared.token.TokenKind.{TokenKind}
-use Rattle.policy_lexer.specs.declared.token.TokenKind.TheVariants as kind
 use Rattle.policy_grammar.specs.Lexemes.{symbol_terminal, kind_terminal, kind_value, lexeme_of, lexemes_of}
 use Rattle.policy_grammar.specs.Terminals.{code, is_word, kind_at, value_at, word_at, lexeme_at}
 use Rattle.policy_printer.proofs.Alike.{normal-word}

@@ -1,5 +1,5 @@
 -- What a token is says how it is spelled, but for names and numbers.
-use Rattle.std.proofs.Common.{◌≡◌, ◌∙◌, ◌<◌, ◌≤◌, ◌==◌, ◌&&◌, ◌||◌, ℕ, Bool, true, false, nat_le, if◌then◌else◌, List, [], ◌∷◌, codes, refl, ap, sym, arith, lit<}
+use Rattle.std.proofs.Common.{◌≡◌, ◌∙◌, ◌<◌, ◌≤◌, ◌==◌, ◌&&◌, ◌||◌, ℕ, Bool, true, false, nat_le, if◌then◌else◌, List, [], ◌∷◌, refl, ap, sym, arith, lit<}
 use Rattle.std.specs.List.{list_all}
 use Rattle.std.specs.Str.{bytes_eq}
 use Rattle.std.proofs.lemmas.Bool.Decides.{nat_tests}
@@ -9,7 +9,7 @@ use Rattle.policy_lexer.specs.declared.token.Symbol.TheVariants as sign
 use Rattle.policy_lexer.specs.declared.token.TokenKind.{TokenKind}
 use Rattle.policy_lexer.specs.declared.token.TokenKind.TheVariants as kind
 use Rattle.policy_grammar.specs.declared.terminal.Terminal.{Terminal}
-use Rattle.policy_grammar.specs.Lexemes.{reserved_words, terminal_among, word_terminal, symbol_terminal, kind_terminal}
+use Rattle.policy_grammar.specs.Lexemes.{reserved_words, terminal_among, symbol_terminal, kind_terminal}
 use Rattle.policy_grammar.specs.Terminals.{code}
 use Rattle.policy_printer.proofs.Normal.{symbol_text, normal_bytes}
 

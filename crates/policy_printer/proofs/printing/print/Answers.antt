@@ -1,5 +1,4 @@
-use Rattle.std.proofs.Common.{◌≡◌, ◌∙◌, ◌++◌, [], ◌∷◌, List, ℕ, codes, sym, subst}
-use Rattle.std.specs.List.{join_with_byte}
+use Rattle.std.proofs.Common.{◌≡◌, ◌∙◌, List, ℕ, codes, sym, subst}
 use Rattle.policy_tree.specs.SyntaxTrees.{syntax_tree}
 use Rattle.policy_printer.specs.Printed.{printed, IsTextOf}
 use Rattle.policy_printer.proofs.AddsLemmas.{◌⊳◌, whole, reads_as}
