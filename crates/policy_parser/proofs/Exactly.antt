@@ -1,5 +1,5 @@
 -- What is read is what the grammar and the limits say.
-use Rattle.std.proofs.Common.{◌≡◌, ◌∙◌, ℕ, List, refl, sym, ap, subst, Option, Some, None, Result, Ok, Err, IfOk, IfErr}
+use Rattle.std.proofs.Common.{◌≡◌, ◌∙◌, ℕ, List, sym, subst, None, Result, Ok, Err, IfOk, IfErr}
 use Rattle.policy_tree.specs.declared.syntax.Syntax.{Syntax}
 use Rattle.policy_tree.specs.SyntaxTrees.{SyntaxTree, syntax_tree}
 use Rattle.policy_grammar.specs.declared.terminal.Lexeme.{Lexeme}

@@ -1,4 +1,4 @@
-use Rattle.std.proofs.Common.{◌≡◌, ◌∙◌, ◌<◌, length, sym, ap, subst, arith, All}
+use Rattle.std.proofs.Common.{◌∙◌, length, sym, ap, subst, arith, All}
 use Rattle.policy_grammar.specs.declared.limits.TheConstants.{POLICY_LIMITS}
 use Rattle.policy_parser.specs.Answers.{LiesIn}
 use Rattle.policy_grammar.specs.Lexemes.{lexeme_of, lexemes_of}
