@@ -39,13 +39,21 @@ fn bytes_of(alloc: Global, syntax: &Syntax) -> Vec<u8> {
 }
 
 #[test]
+fn basic_prints(rt: HostRuntime) -> Result<(), Fail> {
+    let alloc = rt.alloc();
+    let text =
+        "policy basic\nload count\nfilter victim.nr - self.nr >= 2\nchoose first\nsteal first\n";
+    let bytes = printed(alloc, text.as_bytes(), false);
+    let expected =
+        "policy basic load count filter victim . nr - self . nr >= 2 choose first steal first\n";
+    assert_eq!(rt; bytes.as_slice(), expected.as_bytes());
+    Ok(())
+}
+
+#[test]
 fn printed_texts(rt: HostRuntime) -> Result<(), Fail> {
     let alloc = rt.alloc();
     let cases = [
-        (
-            "policy basic\nload count\nfilter victim.nr - self.nr >= 2\nchoose first\nsteal first\n",
-            "policy basic load count filter victim . nr - self . nr >= 2 choose first steal first\n",
-        ),
         (
             "policy p#\nload count filter not not always choose first steal first#",
             "policy p load count filter not not always choose first steal first\n",
@@ -118,5 +126,15 @@ fn long_chains(rt: HostRuntime) -> Result<(), Fail> {
         let twice = printed(alloc, text.as_bytes(), true);
         assert_eq!(rt; twice.as_slice(), text.as_bytes(), "at {link:?}");
     }
+
+    // A text within the limit of bytes, whose printed text passes it.
+    let mut text = String::from_str(alloc, "policy p load count filter always ")?;
+    for _link in 0..6_000 {
+        text.push_str("or(always)")?;
+    }
+    text.push_str("choose first steal first")?;
+    assert!(rt; text.len() <= TEXT_LIMIT);
+    assert!(rt; printed(alloc, text.as_bytes(), false).len() > TEXT_LIMIT);
+    assert!(rt; printed(alloc, text.as_bytes(), true).is_empty());
     Ok(())
 }

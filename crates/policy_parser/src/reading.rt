@@ -22,7 +22,8 @@ pub fn parse(alloc: Global, text: &[u8], tokens: &[Token]) -> Result<Syntax, Par
     requires small { length text.now ≤ TEXT_LIMIT }
     requires spells { SpellsTokens text.now tokens.now }
     ensures syntax { IfOk result (λ s. IsWithin POLICY_LIMITS text.now (lexemes_of text.now tokens.now) (syntax_tree s)) }
-    ensures only { IfOk result (λ s. IsOnlySyntax text.now (lexemes_of text.now tokens.now) (syntax_tree s)) }
+    ensures only { IfOk result
+        (λ s. IsOnlySyntax text.now (lexemes_of text.now tokens.now) (syntax_tree s)) }
     ensures fault { IfErr result (IsParseFault POLICY_LIMITS text.now (lexemes_of text.now tokens.now)) }
 
     // A policy within the limits isn't refused.

@@ -18,7 +18,9 @@ load_texts (load.Count at) = codes "load" ∷ codes "count" ∷ []
 load_texts (load.Weight at range) = codes "load" ∷ codes "weight" ∷ range_texts range
 
 abbrev pub attr_texts : AttrSyntax → List (List ℕ)
-attr_texts v = kind_text v.of_cores ∷ v.name ∷ codes "in" ∷ (range_texts v.range ++ (codes "start" ∷ int_texts v.start))
+attr_texts v =
+    kind_text v.of_cores ∷ v.name ∷ codes "in" ∷
+    (range_texts v.range ++ (codes "start" ∷ int_texts v.start))
 
 abbrev pub place_texts : Option PlaceSyntax → List (List ℕ)
 place_texts None = []
@@ -34,7 +36,8 @@ set_texts v = codes "t" ∷ codes "." ∷ v.word ∷ codes "=" ∷ (expr_texts v
 
 abbrev pub case_texts : CaseSyntaxTree → List (List ℕ)
 case_texts v =
-    codes "when" ∷ (condition_texts v.guard ++ (codes ":" ∷ (flat_map set_texts v.sets ++ (put_text v.put ∷ []))))
+    codes "when" ∷ (condition_texts v.guard
+    ++ (codes ":" ∷ (flat_map set_texts v.sets ++ (put_text v.put ∷ []))))
 
 abbrev pub handler_texts : HandlerSyntaxTree → List (List ℕ)
 handler_texts v =
@@ -43,12 +46,16 @@ handler_texts v =
 -- the parts of a policy before its filter
 abbrev pub head_texts : SyntaxTree → List (List ℕ)
 head_texts v =
-    load_texts v.load ++ (flat_map attr_texts v.attrs ++ (place_texts v.place ++ (elect_texts v.elect ++ flat_map handler_texts v.handlers)))
+    load_texts v.load
+    ++ (flat_map attr_texts v.attrs
+    ++ (place_texts v.place
+    ++ (elect_texts v.elect ++ flat_map handler_texts v.handlers)))
 
 -- its filter, choice and steal
 abbrev pub phase_texts : SyntaxTree → List (List ℕ)
 phase_texts v =
-    codes "filter" ∷ (condition_texts v.filter ++ (codes "choose" ∷ (order_texts v.choose ++ (codes "steal" ∷ order_texts v.steal))))
+    codes "filter" ∷ (condition_texts v.filter
+    ++ (codes "choose" ∷ (order_texts v.choose ++ (codes "steal" ∷ order_texts v.steal))))
 
 abbrev pub policy_texts : SyntaxTree → List (List ℕ)
 policy_texts v = codes "policy" ∷ v.name ∷ (head_texts v ++ phase_texts v)

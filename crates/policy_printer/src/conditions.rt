@@ -2,7 +2,7 @@
 
 ghost use Rattle.std.specs.Prelude.{OnOk};
 ghost use Rattle.policy_tree.specs.SyntaxTrees.{condition_tree, condition_trees};
-ghost use Rattle.policy_printer.specs.Adds.{Adds};
+ghost use Rattle.policy_printer.specs.Adds.{Prints};
 ghost use Rattle.policy_printer.specs.ConditionTexts.{condition_texts, parts_texts};
 
 use crate::printer::Printer;
@@ -11,11 +11,12 @@ use policy_tree::ConditionSyntax;
 use std::alloc::AllocError;
 
 impl Printer {
-    /// A condition. It calls itself for what stands in parentheses and behind `not`, and for the parts of a chain.
+    /// A condition. It calls itself for what stands in parentheses and behind `not`, and for the parts
+    /// of a chain.
     #[cycle(nested)]
     pub(crate) fn condition(&mut self, condition: &ConditionSyntax) -> Result<(), AllocError>
         ensures { OnOk result
-            (Adds (condition_texts (condition_tree condition.now)) self.old.bytes.items self.new.bytes.items) }
+            (Prints (condition_texts (condition_tree condition.now)) self.old self.new) }
     {
         match condition {
             ConditionSyntax::Always { .. } => self.word("always"),
@@ -47,7 +48,7 @@ impl Printer {
     #[cycle(nested)]
     fn parts(&mut self, word: &str, parts: &[ConditionSyntax]) -> Result<(), AllocError>
         ensures { OnOk result
-            (Adds (parts_texts word.now (condition_trees parts.now)) self.old.bytes.items self.new.bytes.items) }
+            (Prints (parts_texts word.now (condition_trees parts.now)) self.old self.new) }
     {
         let (first, rest) = match parts.split_first() {
             Some(parts) => parts,

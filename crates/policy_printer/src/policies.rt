@@ -3,7 +3,7 @@
 ghost use Rattle.std.specs.Prelude.{OnOk, map};
 ghost use Rattle.std.specs.List.{flat_map};
 ghost use Rattle.policy_tree.specs.SyntaxTrees.{case_syntax_tree, handler_syntax_tree, syntax_tree};
-ghost use Rattle.policy_printer.specs.Adds.{Adds};
+ghost use Rattle.policy_printer.specs.Adds.{Prints};
 ghost use Rattle.policy_printer.specs.PolicyTexts.{load_texts, attr_texts, place_texts, elect_texts, set_texts, case_texts, handler_texts, head_texts, phase_texts};
 
 use crate::printer::Printer;
@@ -16,8 +16,7 @@ use std::alloc::AllocError;
 impl Printer {
     /// What stands between the name and the filter.
     pub(crate) fn head(&mut self, syntax: &Syntax) -> Result<(), AllocError>
-        ensures { OnOk result
-            (Adds (head_texts (syntax_tree syntax.now)) self.old.bytes.items self.new.bytes.items) }
+        ensures { OnOk result (Prints (head_texts (syntax_tree syntax.now)) self.old self.new) }
     {
         self.load(syntax.load)?;
         self.attrs(syntax.attrs.as_slice())?;
@@ -28,8 +27,7 @@ impl Printer {
 
     /// The filter, the choice and the steal.
     pub(crate) fn phases(&mut self, syntax: &Syntax) -> Result<(), AllocError>
-        ensures { OnOk result
-            (Adds (phase_texts (syntax_tree syntax.now)) self.old.bytes.items self.new.bytes.items) }
+        ensures { OnOk result (Prints (phase_texts (syntax_tree syntax.now)) self.old self.new) }
     {
         self.word("filter")?;
         self.condition(&syntax.filter)?;
@@ -40,7 +38,7 @@ impl Printer {
     }
 
     fn load(&mut self, load: LoadSyntax) -> Result<(), AllocError>
-        ensures { OnOk result (Adds (load_texts load) self.old.bytes.items self.new.bytes.items) }
+        ensures { OnOk result (Prints (load_texts load) self.old self.new) }
     {
         self.word("load")?;
         match load {
@@ -53,7 +51,7 @@ impl Printer {
     }
 
     fn attrs(&mut self, attrs: &[AttrSyntax]) -> Result<(), AllocError>
-        ensures { OnOk result (Adds (flat_map attr_texts attrs.now) self.old.bytes.items self.new.bytes.items) }
+        ensures { OnOk result (Prints (flat_map attr_texts attrs.now) self.old self.new) }
     {
         for attr in attrs {
             self.attr(attr)?;
@@ -62,7 +60,7 @@ impl Printer {
     }
 
     fn attr(&mut self, attr: &AttrSyntax) -> Result<(), AllocError>
-        ensures { OnOk result (Adds (attr_texts attr.now) self.old.bytes.items self.new.bytes.items) }
+        ensures { OnOk result (Prints (attr_texts attr.now) self.old self.new) }
     {
         self.word(kind_text(attr.of_cores))?;
         self.token(attr.name.as_slice())?;
@@ -73,7 +71,7 @@ impl Printer {
     }
 
     fn place(&mut self, place: &Option<PlaceSyntax>) -> Result<(), AllocError>
-        ensures { OnOk result (Adds (place_texts place.now) self.old.bytes.items self.new.bytes.items) }
+        ensures { OnOk result (Prints (place_texts place.now) self.old self.new) }
     {
         match place {
             None => Ok(()),
@@ -90,7 +88,7 @@ impl Printer {
     }
 
     fn elect(&mut self, elect: &Option<ElectSyntax>) -> Result<(), AllocError>
-        ensures { OnOk result (Adds (elect_texts elect.now) self.old.bytes.items self.new.bytes.items) }
+        ensures { OnOk result (Prints (elect_texts elect.now) self.old self.new) }
     {
         match elect {
             None => Ok(()),
@@ -103,7 +101,7 @@ impl Printer {
 
     fn handlers(&mut self, handlers: &[HandlerSyntax]) -> Result<(), AllocError>
         ensures { OnOk result
-            (Adds (flat_map handler_texts (map handler_syntax_tree handlers.now)) self.old.bytes.items self.new.bytes.items) }
+            (Prints (flat_map handler_texts (map handler_syntax_tree handlers.now)) self.old self.new) }
     {
         for handler in handlers {
             self.handler(handler)?;
@@ -113,7 +111,7 @@ impl Printer {
 
     fn handler(&mut self, handler: &HandlerSyntax) -> Result<(), AllocError>
         ensures { OnOk result
-            (Adds (handler_texts (handler_syntax_tree handler.now)) self.old.bytes.items self.new.bytes.items) }
+            (Prints (handler_texts (handler_syntax_tree handler.now)) self.old self.new) }
     {
         self.word("on")?;
         self.word(event_text(handler.event))?;
@@ -125,8 +123,7 @@ impl Printer {
     }
 
     fn case(&mut self, case: &CaseSyntax) -> Result<(), AllocError>
-        ensures { OnOk result
-            (Adds (case_texts (case_syntax_tree case.now)) self.old.bytes.items self.new.bytes.items) }
+        ensures { OnOk result (Prints (case_texts (case_syntax_tree case.now)) self.old self.new) }
     {
         self.word("when")?;
         self.condition(&case.guard)?;
@@ -138,7 +135,7 @@ impl Printer {
     }
 
     fn set(&mut self, set: &SetSyntax) -> Result<(), AllocError>
-        ensures { OnOk result (Adds (set_texts set.now) self.old.bytes.items self.new.bytes.items) }
+        ensures { OnOk result (Prints (set_texts set.now) self.old self.new) }
     {
         self.word("t")?;
         self.word(".")?;

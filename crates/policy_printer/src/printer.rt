@@ -1,7 +1,7 @@
 //! What is printed so far.
 
 ghost use Rattle.std.specs.Prelude.{[], ◌∷◌, OnOk, decimal};
-ghost use Rattle.policy_printer.specs.Adds.{Adds};
+ghost use Rattle.policy_printer.specs.Adds.{Prints};
 
 use itoa::Buffer;
 use std::alloc::AllocError;
@@ -15,7 +15,7 @@ pub(crate) struct Printer {
 impl Printer {
     /// A token, with a space before it.
     pub(crate) fn token(&mut self, text: &[u8]) -> Result<(), AllocError>
-        ensures { OnOk result (Adds (text.now ∷ []) self.old.bytes.items self.new.bytes.items) }
+        ensures { OnOk result (Prints (text.now ∷ []) self.old self.new) }
     {
         self.bytes.push(b' ')?;
         self.bytes.extend_from_slice(text)?;
@@ -24,14 +24,14 @@ impl Printer {
 
     /// A word or a symbol.
     pub(crate) fn word(&mut self, text: &str) -> Result<(), AllocError>
-        ensures { OnOk result (Adds (text.now ∷ []) self.old.bytes.items self.new.bytes.items) }
+        ensures { OnOk result (Prints (text.now ∷ []) self.old self.new) }
     {
         self.token(text.as_bytes())
     }
 
     /// A number, in decimal and without leading zeros.
     pub(crate) fn number(&mut self, value: u64) -> Result<(), AllocError>
-        ensures { OnOk result (Adds (decimal value ∷ []) self.old.bytes.items self.new.bytes.items) }
+        ensures { OnOk result (Prints (decimal value ∷ []) self.old self.new) }
     {
         let mut buffer = Buffer::new();
         self.word(buffer.format(value))
