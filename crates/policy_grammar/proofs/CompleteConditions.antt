@@ -1,24 +1,23 @@
 -- What the grammar has is read, up to the first limit that its tree passes: conditions.
-use Rattle.std.proofs.Common.{◌≡◌, ◌<◌, ℕ, suc, ◌+◌, ◌==◌, List, [], ◌∷◌, refl, sym, ap, subst, arith, lit<, Bool, true, false, Option, Some, None, ◌∙◌}
+use Rattle.std.proofs.Common.{◌≡◌, ℕ, ◌+◌, ◌==◌, List, ◌∷◌, refl, sym, ap, arith, lit<, false, Option, Some, None, ◌∙◌}
 use Rattle.policy_tree.specs.declared.trees.Cmp.{Cmp}
 use Rattle.policy_tree.specs.declared.trees.Cmp.TheVariants as cmp
 use Rattle.policy_tree.specs.declared.syntax.Owner.{Owner}
 use Rattle.policy_tree.specs.declared.syntax.Owner.TheVariants as owner
 use Rattle.policy_tree.specs.declared.syntax.OperandSyntax.{OperandSyntax}
 use Rattle.policy_tree.specs.declared.syntax.FactorSyntax.{FactorSyntax}
-use Rattle.policy_tree.specs.declared.syntax.TermSyntax.{TermSyntax}
 use Rattle.policy_tree.specs.declared.syntax.ExprSyntax.{ExprSyntax}
-use Rattle.policy_tree.specs.SyntaxTrees.{ConditionTree, always, negated, grouped, all, any, test, ConditionTrees, no_more, more}
+use Rattle.policy_tree.specs.SyntaxTrees.{ConditionTree, ConditionTrees, no_more, more}
 use Rattle.policy_grammar.specs.declared.terminal.Lexeme.{Lexeme}
 use Rattle.policy_grammar.specs.declared.terminal.Terminal.TheVariants.{And, Or, Not, Always, Open, Close}
 use Rattle.policy_grammar.specs.declared.limits.Limits.{Limits}
 use Rattle.policy_grammar.specs.declared.fault.ParseFault.{ParseFault}
 use Rattle.policy_grammar.specs.Terminals.{code, kind_at}
 use Rattle.policy_grammar.specs.Words.{compare_word, owner_word}
-use Rattle.policy_grammar.specs.Expressions.{IsOperand, operand_number, operand_reference, IsFactor, factor_plain, factor_signed, IsTerm, term_of, IsExpr, expr_of}
+use Rattle.policy_grammar.specs.Expressions.{IsOperand, operand_number, operand_reference, IsFactor, factor_plain, factor_signed, term_of, IsExpr, expr_of}
 use Rattle.policy_grammar.specs.Conditions.{conjunction, disjunction, IsUnit, unit_always, unit_not, unit_group, unit_test, IsAnds, ands_none, ands_more, IsConjunction, conjunction_of, IsOrs, ors_none, ors_more, IsCondition, condition_of}
 use Rattle.policy_grammar.specs.Breaks.{deep, many, first_of, breaks_expr, comparisons, comparisons_of, breaks_condition, breaks_parts}
-use Rattle.policy_grammar.specs.Machine.{Symbol, condition, unit, ands, ors, close, compare, operand, go, goes, state}
+use Rattle.policy_grammar.specs.Machine.{Symbol, condition, unit, ands, ors, close, compare, operand, go}
 use Rattle.policy_grammar.proofs.Steps.{judged, judged-first, go-move, go-same}
 use Rattle.policy_grammar.proofs.CompleteExpressions.{NoOperator, expr_read}
 
@@ -68,10 +67,10 @@ factor-begins : {text : List ℕ} {ts : List Lexeme} {at to : ℕ} {f : FactorSy
 factor-begins (factor_plain d) = operand-begins d
 factor-begins (factor_signed f k d) = record { always = rw k refl; not = rw k refl; group = rw k refl }
 
-expr-begins : {text : List ℕ} {ts : List Lexeme} {at to : ℕ} {e : ExprSyntax} → IsExpr text ts at e to → BeginsTest ts at
+pub expr-begins : {text : List ℕ} {ts : List Lexeme} {at to : ℕ} {e : ExprSyntax} → IsExpr text ts at e to → BeginsTest ts at
 expr-begins (expr_of (term_of d times) added) = factor-begins d
 
-compare-no_operator : (ts : List Lexeme) (at : ℕ) (c : Cmp) → kind_at ts at ≡ compare_word c → NoOperator ts at
+pub compare-no_operator : (ts : List Lexeme) (at : ℕ) (c : Cmp) → kind_at ts at ≡ compare_word c → NoOperator ts at
 compare-no_operator ts at cmp.Eq k = record { star = rw k refl; plus = rw k refl; minus = rw k refl }
 compare-no_operator ts at cmp.Ne k = record { star = rw k refl; plus = rw k refl; minus = rw k refl }
 compare-no_operator ts at cmp.Lt k = record { star = rw k refl; plus = rw k refl; minus = rw k refl }
@@ -101,11 +100,11 @@ or-stops k = record { operator = no_operator-by _ _ 27 k refl refl refl; and = r
 pub close-stops : {ts : List Lexeme} {at : ℕ} → kind_at ts at ≡ code Close → NoOr ts at
 close-stops k = record { before = record { operator = no_operator-by _ _ 41 k refl refl refl; and = rw k refl }; or = rw k refl }
 
-ands-stop : {text : List ℕ} {ts : List Lexeme} {at to : ℕ} {us : ConditionTrees} → IsAnds text ts at us to → NoOperator ts to → NoOperator ts at
+pub ands-stop : {text : List ℕ} {ts : List Lexeme} {at to : ℕ} {us : ConditionTrees} → IsAnds text ts at us to → NoOperator ts to → NoOperator ts at
 ands-stop ands_none n = n
 ands-stop (ands_more k d rest) n = and-stops k
 
-ors-stop : {text : List ℕ} {ts : List Lexeme} {at to : ℕ} {cs : ConditionTrees} → IsOrs text ts at cs to → NoAnd ts to → NoAnd ts at
+pub ors-stop : {text : List ℕ} {ts : List Lexeme} {at to : ℕ} {cs : ConditionTrees} → IsOrs text ts at cs to → NoAnd ts to → NoAnd ts at
 ors-stop ors_none n = n
 ors-stop (ors_more k d rest) n = or-stops k
 

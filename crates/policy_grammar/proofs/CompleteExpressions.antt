@@ -1,5 +1,5 @@
 -- What the grammar has is read, up to the first limit that its tree passes: expressions and orders.
-use Rattle.std.proofs.Common.{◌≡◌, ◌≢◌, ◌<◌, ℕ, zero, suc, ◌+◌, ◌==◌, List, [], ◌∷◌, refl, sym, ap, subst, arith, lit<, Bool, true, false, Option, Some, None, ◌∙◌, if◌then◌else◌, ◌||◌}
+use Rattle.std.proofs.Common.{◌≡◌, ◌<◌, ℕ, suc, ◌+◌, ◌==◌, List, ◌∷◌, refl, sym, ap, arith, lit<, Bool, true, false, None, ◌∙◌}
 use Rattle.policy_tree.specs.declared.syntax.IntSyntax.{IntSyntax}
 use Rattle.policy_tree.specs.declared.syntax.RangeSyntax.{RangeSyntax}
 use Rattle.policy_tree.specs.declared.syntax.Owner.{Owner}
@@ -18,11 +18,10 @@ use Rattle.policy_grammar.specs.declared.terminal.Terminal.{Terminal}
 use Rattle.std.proofs.lemmas.Bool.Decides.{nat_tests}
 use Rattle.policy_grammar.specs.Words.{key_word, sign_word, owner_word}
 use Rattle.policy_grammar.specs.declared.limits.Limits.{Limits}
-use Rattle.policy_grammar.specs.declared.fault.ParseFault.{ParseFault}
 use Rattle.policy_grammar.specs.Terminals.{code, kind_at, is_word}
 use Rattle.policy_grammar.specs.Expressions.{IsInt, int_plain, int_signed, IsRange, range_of, IsOperand, operand_number, operand_reference, IsFactor, factor_plain, factor_signed, IsTimes, times_none, times_more, IsTerm, term_of, IsAdded, added_none, added_more, IsExpr, expr_of, IsKey, key_of, IsKeys, keys_none, keys_more, IsOrder, order_first, order_keys}
 use Rattle.policy_grammar.specs.Breaks.{deep, many, first_of, breaks_signs, breaks_factor, after_times, breaks_times, after_term, breaks_term, after_added, breaks_added, after_expr, breaks_expr, breaks_keys, breaks_order}
-use Rattle.policy_grammar.specs.Machine.{Symbol, the, int, order, key, keys, operand, dot, word, operators, go, goes, state}
+use Rattle.policy_grammar.specs.Machine.{Symbol, the, int, order, key, keys, operand, dot, word, operators, go}
 use Rattle.policy_grammar.proofs.Steps.{judged, judged-first, go-move, go-same}
 
 -- no operator stands there

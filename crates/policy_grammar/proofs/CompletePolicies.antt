@@ -1,5 +1,5 @@
 -- What the grammar has is read, up to the first limit that its tree passes: policies.
-use Rattle.std.proofs.Common.{◌≡◌, ◌<◌, ◌≤◌, ◌≢◌, ℕ, zero, suc, ◌+◌, ◌==◌, List, [], ◌∷◌, length, refl, sym, ap, subst, arith, lit<, Bool, true, false, Option, Some, None, ◌∙◌}
+use Rattle.std.proofs.Common.{◌≡◌, ◌<◌, ◌≤◌, ℕ, ◌+◌, ◌==◌, List, [], ◌∷◌, length, refl, sym, ap, arith, lit<, Bool, true, false, Option, Some, None, ◌∙◌}
 use Rattle.std.proofs.lemmas.Bool.{ne_eqb}
 use Rattle.std.proofs.lemmas.Bool.Decides.{nat_tests}
 use Rattle.policy_tree.specs.declared.typed.Event.{Event}
@@ -10,18 +10,17 @@ use Rattle.policy_tree.specs.declared.syntax.LoadSyntax.{LoadSyntax}
 use Rattle.policy_tree.specs.declared.syntax.AttrSyntax.{AttrSyntax}
 use Rattle.policy_tree.specs.declared.syntax.PlaceSyntax.{PlaceSyntax}
 use Rattle.policy_tree.specs.declared.syntax.ElectSyntax.{ElectSyntax}
-use Rattle.policy_tree.specs.declared.syntax.OrderSyntax.{OrderSyntax}
 use Rattle.policy_tree.specs.declared.syntax.SetSyntax.{SetSyntax}
 use Rattle.policy_tree.specs.SyntaxTrees.{CaseSyntaxTree, HandlerSyntaxTree, SyntaxTree}
 use Rattle.policy_grammar.specs.declared.terminal.Lexeme.{Lexeme}
-use Rattle.policy_grammar.specs.declared.terminal.Terminal.TheVariants.{Policy, Load, Count, Weight, Core, Thread, In, Start, Place, Here, Min, Elect, Choose, Steal, On, When, Filter, Name, Dot, Comma, Colon, Begin, Finish, Gets, Range}
+use Rattle.policy_grammar.specs.declared.terminal.Terminal.TheVariants.{Policy, Load, In, Start, Choose, Steal, When, Filter, Name, Dot, Comma, Colon, Begin, Finish, Gets, Range}
 use Rattle.policy_grammar.specs.declared.limits.Limits.{Limits}
 use Rattle.policy_grammar.specs.declared.fault.ParseFault.{ParseFault}
 use Rattle.policy_grammar.specs.Terminals.{code, kind_at, is_word}
 use Rattle.policy_grammar.specs.Words.{attr_word, event_word, put_word}
 use Rattle.policy_grammar.specs.Policies.{IsLoad, load_count, load_weight, IsAttr, attr_of, IsAttrs, attrs_none, attrs_more, IsPlace, place_none, place_here, place_least, IsElect, elect_none, elect_some, IsSets, sets_none, sets_more, IsCase, case_of, IsCases, cases_none, cases_more, IsHandler, handler_of, IsHandlers, handlers_none, handlers_more, IsPolicy, policy_of}
-use Rattle.policy_grammar.specs.Breaks.{many, first_of, breaks_expr, breaks_condition, breaks_order, breaks_sets, breaks_cases, breaks_handlers, of_cores_more, of_threads_more, of_kind, breaks_attrs, breaks_place, breaks_elect, breaks_policy, comparisons}
-use Rattle.policy_grammar.specs.Machine.{Symbol, the, load_rule, int, attrs, place, place_rule, elect, handlers, event, case, cases, actions, field, order, condition, operand, go, goes, state, start}
+use Rattle.policy_grammar.specs.Breaks.{many, first_of, breaks_expr, breaks_condition, breaks_sets, breaks_cases, breaks_handlers, of_cores_more, of_threads_more, of_kind, breaks_attrs, breaks_place, breaks_elect, breaks_policy, comparisons}
+use Rattle.policy_grammar.specs.Machine.{Symbol, the, load_rule, int, attrs, place, place_rule, elect, handlers, event, case, cases, actions, field, order, condition, operand, go, start}
 use Rattle.policy_grammar.proofs.Steps.{judged, judged-first, go-move, go-same, is-zero}
 use Rattle.policy_grammar.proofs.CompleteExpressions.{NoOperator, the-read, int_read, range_read, expr_read, order_read, go-at}
 use Rattle.policy_grammar.proofs.CompleteConditions.{NoOr, no_operator-by, whole_read}
@@ -31,7 +30,7 @@ pub record From (first : ℕ) (ts : List Lexeme) (at : ℕ) : Type 0 where
   pub least : first ≤ kind_at ts at
   pub most : kind_at ts at ≤ 25
 
-from-no_operator : {first : ℕ} {ts : List Lexeme} {at : ℕ} → From first ts at → NoOperator ts at
+pub from-no_operator : {first : ℕ} {ts : List Lexeme} {at : ℕ} → From first ts at → NoOperator ts at
 from-no_operator {ts = ts} {at = at} f =
     let most = f.most in
     record {
@@ -40,10 +39,10 @@ from-no_operator {ts = ts} {at = at} f =
       minus = ne_eqb (kind_at ts at) 45 (λ e. omega (arith, e, most));
     }
 
-from-no_comma : {first : ℕ} {ts : List Lexeme} {at : ℕ} → From first ts at → (kind_at ts at == code Comma) ≡ false
+pub from-no_comma : {first : ℕ} {ts : List Lexeme} {at : ℕ} → From first ts at → (kind_at ts at == code Comma) ≡ false
 from-no_comma {ts = ts} {at = at} f = let most = f.most in ne_eqb (kind_at ts at) 38 (λ e. omega (arith, e, most))
 
-from-past : {first : ℕ} {ts : List Lexeme} {at : ℕ} (k : ℕ) → k < first → From first ts at → (kind_at ts at == k) ≡ false
+pub from-past : {first : ℕ} {ts : List Lexeme} {at : ℕ} (k : ℕ) → k < first → From first ts at → (kind_at ts at == k) ≡ false
 from-past {ts = ts} {at = at} k less f = let least = f.least in ne_eqb (kind_at ts at) k (λ e. omega (arith, e, least, less))
 
 from-at : {ts : List Lexeme} {at : ℕ} (first k : ℕ) → kind_at ts at ≡ k → first ≤ k → k ≤ 25 → From first ts at
@@ -52,25 +51,25 @@ from-at first k e low high = record { least = omega (arith, e, low); most = omeg
 from-less : {m n : ℕ} {ts : List Lexeme} {at : ℕ} → m ≤ n → From n ts at → From m ts at
 from-less le f = let least = f.least in record { least = omega (arith, least, le); most = f.most }
 
-handlers-from : {text : List ℕ} {ts : List Lexeme} {at to : ℕ} {hs : List HandlerSyntaxTree} → IsHandlers text ts at hs to →
+pub handlers-from : {text : List ℕ} {ts : List Lexeme} {at to : ℕ} {hs : List HandlerSyntaxTree} → IsHandlers text ts at hs to →
     kind_at ts to ≡ code Filter → From 17 ts at
 handlers-from handlers_none k = from-at 17 25 k (omega arith) (omega arith)
 handlers-from (handlers_more (handler_of e k1 k2 k3 c cs k4) more) k = from-at 17 17 k1 (omega arith) (omega arith)
 
-elect-from : {text : List ℕ} {ts : List Lexeme} {at to : ℕ} {e : Option ElectSyntax} → IsElect text ts at e to → From 17 ts to → From 13 ts at
+pub elect-from : {text : List ℕ} {ts : List Lexeme} {at to : ℕ} {e : Option ElectSyntax} → IsElect text ts at e to → From 17 ts to → From 13 ts at
 elect-from elect_none f = from-less (omega arith) f
 elect-from (elect_some k d) f = from-at 13 13 k (omega arith) (omega arith)
 
-place-from : {text : List ℕ} {ts : List Lexeme} {at to : ℕ} {p : Option PlaceSyntax} → IsPlace text ts at p to → From 13 ts to → From 9 ts at
+pub place-from : {text : List ℕ} {ts : List Lexeme} {at to : ℕ} {p : Option PlaceSyntax} → IsPlace text ts at p to → From 13 ts to → From 9 ts at
 place-from place_none f = from-less (omega arith) f
 place-from (place_here k h) f = from-at 9 9 k (omega arith) (omega arith)
 place-from (place_least k h d) f = from-at 9 9 k (omega arith) (omega arith)
 
-kind-end : (ts : List Lexeme) → kind_at ts (length ts) ≡ 0
+pub kind-end : (ts : List Lexeme) → kind_at ts (length ts) ≡ 0
 kind-end [] = refl
 kind-end (t ∷ ts) = kind-end ts
 
-no_or-by : (ts : List Lexeme) (at k : ℕ) → kind_at ts at ≡ k → (k == 46) ≡ false → (k == 44) ≡ false → (k == 45) ≡ false → (k == 26) ≡ false → (k == 27) ≡ false → NoOr ts at
+pub no_or-by : (ts : List Lexeme) (at k : ℕ) → kind_at ts at ≡ k → (k == 46) ≡ false → (k == 44) ≡ false → (k == 45) ≡ false → (k == 26) ≡ false → (k == 27) ≡ false → NoOr ts at
 no_or-by ts at k e star plus minus and or =
     record { before = record { operator = no_operator-by ts at k e star plus minus; and = rw e and }; or = rw e or }
 

@@ -1,5 +1,5 @@
 -- Reading answers as the grammar and the limits say.
-use Rattle.std.proofs.Common.{◌≡◌, ◌≢◌, ◌<◌, ◌≤◌, ℕ, ◌+◌, List, [], ◌∷◌, ◌++◌, length, take, refl, sym, ap, subst, arith, ◌∙◌, Bool, true, false, cond, if◌then◌else◌, Option, Some, None, append_assoc, append-nil, length-append}
+use Rattle.std.proofs.Common.{◌≡◌, ◌<◌, ℕ, ◌+◌, List, [], ◌∷◌, ◌++◌, length, take, refl, sym, ap, subst, arith, ◌∙◌, Bool, true, false, if◌then◌else◌, Option, Some, None, append_assoc, append-nil, length-append}
 use Rattle.std.proofs.Math.Seq.{take-append_seam, take-append-add}
 use Rattle.policy_tree.specs.SyntaxTrees.{SyntaxTree}
 use Rattle.policy_grammar.specs.declared.terminal.Lexeme.{Lexeme}
@@ -8,11 +8,11 @@ use Rattle.policy_grammar.specs.declared.fault.ParseFault.{ParseFault}
 use Rattle.policy_grammar.specs.declared.fault.ParseFault.TheVariants.{Unexpected, Deep, Many, Memory}
 use Rattle.policy_grammar.specs.Policies.{IsPolicy}
 use Rattle.policy_grammar.specs.Breaks.{breaks_policy}
-use Rattle.policy_grammar.specs.Machine.{Symbol, State, state, Move, refuses, goes, moves, all_nothing, kind_of, finish, move, after, run, go, start}
+use Rattle.policy_grammar.specs.Machine.{Symbol, state, Move, refuses, goes, moves, all_nothing, kind_of, after, run, go, start}
 use Rattle.policy_grammar.specs.Correct.{Begins, NotBefore, IsUnexpected, IsExcess, IsParseFault}
 use Rattle.policy_grammar.proofs.CompletePolicies.{policy_read}
 use Rattle.policy_grammar.proofs.Reached.{Reach, reach-start, reach-step, reach-begins}
-use Rattle.policy_grammar.proofs.Places.{IsLimit, limit-policy, IsHere, AreHere, MovesHere, moves-here}
+use Rattle.policy_grammar.proofs.Places.{IsLimit, limit-policy, IsHere, MovesHere, moves-here}
 
 module _ (limits : Limits) (text : List ℕ) where
   -- where reading stops

@@ -7,3 +7,7 @@ pub mod Reached
 pub mod Places
 pub mod Exact
 pub mod Tags
+pub mod Same
+pub mod OneExpressions
+pub mod OneConditions
+pub mod OnePolicies

@@ -1,10 +1,9 @@
 -- Where limits are passed.
-use Rattle.std.proofs.Common.{◌≡◌, ℕ, zero, suc, ◌+◌, ◌==◌, ◌||◌, List, [], ◌∷◌, refl, sym, Bool, true, false, nat_lt, Option, Some, None, if◌then◌else◌}
+use Rattle.std.proofs.Common.{◌≡◌, ℕ, zero, suc, ◌+◌, ◌==◌, ◌||◌, List, [], ◌∷◌, refl, Bool, true, false, nat_lt, Option, Some, None, if◌then◌else◌}
 use Rattle.policy_tree.specs.declared.syntax.AttrSyntax.{AttrSyntax}
 use Rattle.policy_tree.specs.declared.syntax.PlaceSyntax.{PlaceSyntax}
 use Rattle.policy_tree.specs.declared.syntax.PlaceSyntax.TheVariants as place_is
 use Rattle.policy_tree.specs.declared.syntax.ElectSyntax.{ElectSyntax}
-use Rattle.policy_tree.specs.declared.syntax.OrderSyntax.{OrderSyntax}
 use Rattle.policy_tree.specs.declared.syntax.KeySyntax.{KeySyntax}
 use Rattle.policy_tree.specs.declared.syntax.SetSyntax.{SetSyntax}
 use Rattle.policy_tree.specs.declared.syntax.TimesSyntax.{TimesSyntax}
@@ -16,7 +15,7 @@ use Rattle.policy_grammar.specs.declared.limits.Limits.{Limits}
 use Rattle.policy_grammar.specs.Terminals.{code, is_word}
 use Rattle.policy_grammar.specs.declared.fault.ParseFault.{ParseFault}
 use Rattle.policy_grammar.specs.declared.fault.ParseFault.TheVariants.{Unexpected, Deep, Many, Memory}
-use Rattle.policy_grammar.specs.Breaks.{deep, many, first_of, breaks_signs, breaks_times, breaks_term, breaks_added, breaks_expr, comparisons, breaks_condition, breaks_parts, breaks_keys, breaks_order, breaks_sets, breaks_cases, breaks_handlers, of_cores_more, of_threads_more, of_kind, breaks_attrs, breaks_place, breaks_elect, breaks_policy, after_term}
+use Rattle.policy_grammar.specs.Breaks.{deep, many, first_of, breaks_signs, breaks_times, breaks_term, breaks_added, breaks_expr, comparisons, breaks_condition, breaks_parts, breaks_keys, breaks_sets, breaks_cases, breaks_handlers, of_cores_more, of_threads_more, breaks_attrs, breaks_place, breaks_elect, breaks_policy, after_term}
 use Rattle.policy_grammar.specs.Machine.{Symbol, the, load_rule, int, attrs, place, place_rule, elect, handlers, event, case, cases, actions, field, order, key, keys, condition, unit, ands, ors, close, compare, operand, dot, word, operators, State, state, Move, refuses, goes, is_compare, factor_move, unit_move, key_move, case_move, attr_move, symbol_move, moves}
 
 -- a limit, and no other fault

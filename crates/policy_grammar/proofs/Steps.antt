@@ -1,13 +1,13 @@
 -- What one token does to reading.
-use Rattle.std.proofs.Common.{◌≡◌, ◌≢◌, ◌<◌, ℕ, zero, suc, ◌+◌, ◌==◌, List, [], ◌∷◌, drop, length, refl, sym, ap, subst, arith, Bool, true, false, cond, Option, Some, None, ◌∙◌}
+use Rattle.std.proofs.Common.{◌≡◌, ◌<◌, ℕ, zero, suc, ◌+◌, List, [], ◌∷◌, drop, length, refl, sym, ap, subst, arith, true, false, cond, Option, Some, None, ◌∙◌}
 use Rattle.std.proofs.lemmas.List.{drop_all}
 use Rattle.policy_grammar.specs.declared.terminal.Lexeme.{Lexeme}
 use Rattle.policy_grammar.specs.declared.limits.Limits.{Limits}
 use Rattle.policy_grammar.specs.declared.fault.ParseFault.{ParseFault}
 use Rattle.policy_grammar.specs.declared.fault.ParseFault.TheVariants.{Unexpected}
-use Rattle.policy_grammar.specs.Terminals.{code, kind_at}
+use Rattle.policy_grammar.specs.Terminals.{kind_at}
 use Rattle.policy_grammar.specs.Breaks.{first_of}
-use Rattle.policy_grammar.specs.Machine.{Symbol, State, state, Move, refuses, goes, symbol_move, moves, is_nothing, all_nothing, finish, move, after, run, go}
+use Rattle.policy_grammar.specs.Machine.{Symbol, State, state, Move, refuses, goes, moves, all_nothing, after, run, go}
 
 -- the answer, unless a limit is passed
 abbrev pub judged : Option ParseFault → Option ParseFault → Option ParseFault

@@ -1,5 +1,5 @@
 -- The tag of a terminal is its number.
-use Rattle.std.proofs.Common.{◌≡◌, ℕ, nat_eq, refl, ap, ◌∙◌}
+use Rattle.std.proofs.Common.{◌≡◌, refl}
 use denote.Enum.Declared.{tag_of}
 use Rattle.policy_grammar.specs.contracts.terminal.Terminal.{the_type}
 use Rattle.policy_grammar.specs.declared.terminal.Terminal.{Terminal}

@@ -1,6 +1,6 @@
 -- What is read begins some policy: each stack of what is still to come can be completed, and what completes it
 -- completes the tokens before it.
-use Rattle.std.proofs.Common.{◌≡◌, ◌≢◌, ◌<◌, ℕ, zero, suc, ◌+◌, ◌==◌, ◌||◌, ◌⊎◌, inl, inr, List, [], ◌∷◌, ◌++◌, length, refl, sym, ap, subst, arith, Bool, true, false, cond, Option, Some, None, ◌∙◌, if◌then◌else◌, append_assoc, append-nil, length-append}
+use Rattle.std.proofs.Common.{◌≡◌, ◌≢◌, ℕ, ◌+◌, ◌==◌, ◌||◌, ◌⊎◌, inl, inr, List, [], ◌∷◌, refl, sym, subst, arith, Bool, true, false, Option, None, ◌∙◌, if◌then◌else◌}
 use Rattle.std.proofs.lemmas.Bool.Decides.{eqb_tells}
 use Rattle.policy_tree.specs.declared.trees.Cmp.{Cmp}
 use Rattle.policy_tree.specs.declared.trees.Cmp.TheVariants as cmp
@@ -22,18 +22,16 @@ use Rattle.policy_tree.specs.declared.syntax.ExprSyntax.{ExprSyntax}
 use Rattle.policy_tree.specs.declared.syntax.TimesSyntax.{TimesSyntax}
 use Rattle.policy_tree.specs.declared.syntax.AddedSyntax.{AddedSyntax}
 use Rattle.policy_tree.specs.declared.syntax.OperandSyntax.{OperandSyntax}
-use Rattle.policy_tree.specs.SyntaxTrees.{ConditionTree, ConditionTrees, CaseSyntaxTree, HandlerSyntaxTree, SyntaxTree}
+use Rattle.policy_tree.specs.SyntaxTrees.{ConditionTree, ConditionTrees, CaseSyntaxTree, HandlerSyntaxTree}
 use Rattle.policy_grammar.specs.declared.terminal.Lexeme.{Lexeme}
-use Rattle.policy_grammar.specs.declared.terminal.Terminal.{Terminal}
-use Rattle.policy_grammar.specs.declared.terminal.Terminal.TheVariants.{Policy, Load, Count, Weight, Core, Thread, In, Start, Place, Here, Min, Max, Elect, Choose, Steal, First, On, Enqueue, Tick, Yield, Block, When, Queue, Keep, Filter, And, Or, Not, Always, Itself, Victim, Task, Name, Number, Dot, Range, Comma, Colon, Open, Close, Begin, Finish, Plus, Minus, Star, Gets, Equal, Unequal, Less, AtMost, More, AtLeast}
+use Rattle.policy_grammar.specs.declared.terminal.Terminal.TheVariants.{Load, Count, Weight, Core, In, Start, Place, Here, Min, Max, Elect, On, Enqueue, Tick, Yield, Block, When, Queue, Keep, And, Or, Not, Itself, Victim, Task, Name, Number, Dot, Range, Comma, Colon, Open, Close, Begin, Finish, Plus, Minus, Star, Gets, Equal, Unequal, Less, AtMost, More, AtLeast}
 use Rattle.policy_grammar.specs.declared.limits.Limits.{Limits}
-use Rattle.policy_grammar.specs.declared.fault.ParseFault.{ParseFault}
 use Rattle.policy_grammar.specs.Terminals.{code, kind_at, is_word}
 use Rattle.policy_grammar.specs.Words.{attr_word, key_word, sign_word, owner_word, event_word, put_word, compare_word}
-use Rattle.policy_grammar.specs.Expressions.{IsInt, int_plain, int_signed, IsRange, range_of, IsOperand, operand_number, operand_reference, IsFactor, factor_plain, factor_signed, IsTimes, times_none, times_more, IsTerm, term_of, IsAdded, added_none, added_more, IsExpr, expr_of, IsKey, key_of, IsKeys, keys_none, keys_more, IsOrder, order_first, order_keys}
-use Rattle.policy_grammar.specs.Conditions.{IsUnit, unit_always, unit_not, unit_group, unit_test, IsAnds, ands_none, ands_more, IsConjunction, conjunction_of, IsOrs, ors_none, ors_more, IsCondition, condition_of}
-use Rattle.policy_grammar.specs.Policies.{IsLoad, load_count, load_weight, IsAttr, attr_of, IsAttrs, attrs_none, attrs_more, IsPlace, place_none, place_here, place_least, IsElect, elect_none, elect_some, IsSets, sets_none, sets_more, IsCase, case_of, IsCases, cases_none, cases_more, IsHandler, handler_of, IsHandlers, handlers_none, handlers_more, IsPolicy, policy_of}
-use Rattle.policy_grammar.specs.Machine.{Symbol, the, load_rule, int, attrs, place, place_rule, elect, handlers, event, case, cases, actions, field, order, key, keys, condition, unit, ands, ors, close, compare, operand, dot, word, operators, State, state, Move, refuses, goes, is_compare, factor_move, unit_move, key_move, case_move, attr_move, symbol_move, moves, start}
+use Rattle.policy_grammar.specs.Expressions.{IsInt, int_plain, int_signed, range_of, IsOperand, operand_number, operand_reference, factor_plain, factor_signed, IsTimes, times_none, times_more, term_of, IsAdded, added_none, added_more, IsExpr, expr_of, IsKey, key_of, IsKeys, keys_none, keys_more, IsOrder, order_first, order_keys}
+use Rattle.policy_grammar.specs.Conditions.{IsUnit, unit_always, unit_not, unit_group, unit_test, IsAnds, ands_none, ands_more, conjunction_of, IsOrs, ors_none, ors_more, IsCondition, condition_of}
+use Rattle.policy_grammar.specs.Policies.{IsLoad, load_count, load_weight, attr_of, IsAttrs, attrs_none, attrs_more, IsPlace, place_none, place_here, place_least, IsElect, elect_none, elect_some, IsSets, sets_none, sets_more, IsCase, case_of, IsCases, cases_none, cases_more, handler_of, IsHandlers, handlers_none, handlers_more}
+use Rattle.policy_grammar.specs.Machine.{Symbol, the, load_rule, int, attrs, place, place_rule, elect, handlers, event, case, cases, actions, field, order, key, keys, condition, unit, ands, ors, close, compare, operand, dot, word, operators, state, Move, refuses, goes, is_compare, factor_move, unit_move, key_move, case_move, attr_move, symbol_move, moves}
 
 module _ (text : List ℕ) (ts : List Lexeme) where
   -- a token of that kind stands there

@@ -4,5 +4,7 @@ pub mod Expressions
 pub mod Conditions
 pub mod Policies
 pub mod Breaks
+pub mod Lexemes
+pub mod OneTree
 pub mod Machine
 pub mod Correct

@@ -6,7 +6,7 @@ use Rattle.policy_grammar.specs.declared.terminal.Terminal.TheVariants.{Policy, 
 use Rattle.policy_grammar.specs.declared.terminal.Lexeme.{Lexeme}
 use Rattle.policy_grammar.specs.declared.limits.Limits.{Limits}
 use Rattle.policy_grammar.specs.declared.fault.ParseFault.{ParseFault}
-use Rattle.policy_grammar.specs.declared.fault.ParseFault.TheVariants.{Unexpected, Deep, Many, Memory}
+use Rattle.policy_grammar.specs.declared.fault.ParseFault.TheVariants.{Unexpected}
 use Rattle.policy_grammar.specs.Terminals.{code, is_word}
 use Rattle.policy_grammar.specs.Breaks.{deep, many, first_of}
 

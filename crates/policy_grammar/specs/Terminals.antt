@@ -1,5 +1,5 @@
 -- The terminals by number, and the lexemes of a text.
-use Rattle.std.specs.Prelude.{ℕ, ◌==◌, ◌+◌, ◌≤◌, Bool, nat_le, ◌&&◌, List, [], ◌∷◌, slice_get, slice_range, Option, Some, None}
+use Rattle.std.specs.Prelude.{ℕ, Bool, nat_le, ◌&&◌, List, slice_get, slice_range, Option, Some, None}
 use Rattle.policy_grammar.specs.declared.terminal.Terminal.{Terminal}
 use Rattle.policy_grammar.specs.declared.terminal.Terminal.TheVariants.{End, Policy, Load, Count, Weight, Core, Thread, In, Start, Place, Here, Min, Max, Elect, Choose, Steal, First, On, Enqueue, Tick, Yield, Block, When, Queue, Keep, Filter, And, Or, Not, Always, Itself, Victim, Task, Reserved, Name, Number, Dot, Range, Comma, Colon, Open, Close, Begin, Finish, Plus, Minus, Star, Gets, Equal, Unequal, Less, AtMost, More, AtLeast}
 use Rattle.policy_grammar.specs.declared.terminal.Lexeme.{Lexeme}

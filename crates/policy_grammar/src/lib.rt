@@ -2,9 +2,11 @@
 #![tactic(auto)]
 
 mod fault;
+mod laws;
 mod limits;
 mod terminal;
 
 pub use fault::ParseFault;
+pub use laws::law_one_tree;
 pub use limits::{Limits, POLICY_LIMITS};
 pub use terminal::{Lexeme, Terminal};

@@ -71,6 +71,10 @@ stops-end text size p first keeps =
     let within = first.within in
     omega arith
 
+-- a text has its tokens in one way
+pub tokens-same : (text : List ℕ) (one other : List Token) → SpellsTokens text one → SpellsTokens text other → one ≡ other
+tokens-same text one other spells too = (reads-same text spells (stops-end text) too (stops-end text)).0
+
 high-other : (byte : ℕ) → 128 ≤ byte → IsOther byte
 high-other byte high = record {
   letter = grind (arith, nat_tests);

@@ -2,4 +2,5 @@ pub mod Bytes
 pub mod Pieces
 pub mod Tokens
 pub mod Faults
+pub mod OneReading
 pub mod First

@@ -2,10 +2,12 @@
 #![tactic(auto)]
 
 mod fault;
+mod laws;
 mod piece;
 mod reading;
 mod token;
 
 pub use fault::LexFault;
+pub use laws::law_one_reading;
 pub use reading::lex;
 pub use token::{NAME_LIMIT, Symbol, TEXT_LIMIT, Token, TokenKind, Tokens};

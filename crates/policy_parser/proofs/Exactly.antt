@@ -1,5 +1,5 @@
 -- What is read is what the grammar and the limits say.
-use Rattle.std.proofs.Common.{◌≡◌, ◌∙◌, ℕ, List, refl, sym, ap, subst, Option, Some, None, Result, Ok, Err, IfOk, IfErr}
+use Rattle.std.proofs.Common.{◌≡◌, ◌∙◌, ℕ, List, sym, subst, None, Result, Ok, Err, IfOk, IfErr}
 use Rattle.policy_tree.specs.declared.syntax.Syntax.{Syntax}
 use Rattle.policy_tree.specs.SyntaxTrees.{SyntaxTree, syntax_tree}
 use Rattle.policy_grammar.specs.declared.terminal.Lexeme.{Lexeme}
@@ -9,8 +9,10 @@ use Rattle.policy_grammar.specs.declared.fault.ParseFault.TheVariants.{Unexpecte
 use Rattle.policy_grammar.specs.Policies.{IsPolicy}
 use Rattle.policy_grammar.specs.Machine.{go, start}
 use Rattle.policy_grammar.specs.Correct.{IsWithin, IsParseFault}
+use Rattle.policy_grammar.specs.OneTree.{IsOnlySyntax}
 use Rattle.policy_grammar.proofs.CompletePolicies.{policy_read}
 use Rattle.policy_grammar.proofs.Exact.{fault-exact}
+use Rattle.policy_grammar.proofs.OnePolicies.{policy-one}
 use Rattle.policy_parser.specs.Answers.{Answers, IsReadUnlessMemory}
 
 module _ (limits : Limits) (text : List ℕ) (ts : List Lexeme) where
@@ -18,6 +20,10 @@ module _ (limits : Limits) (text : List ℕ) (ts : List Lexeme) where
       IfOk r (λ s. IsWithin limits text ts (syntax_tree s))
   within-one (Ok s) is e = record { is = is; keeps = sym (policy_read limits text ts is) ∙ e }
   within-one (Err f) is e = tt
+
+  only-one : (r : Result Syntax ParseFault) → IfOk r (λ s. IsPolicy text ts (syntax_tree s)) → IfOk r (λ s. IsOnlySyntax text ts (syntax_tree s))
+  only-one (Ok s) is = λ other too. policy-one text ts too is
+  only-one (Err f) is = tt
 
   fault-one : (r : Result Syntax ParseFault) → Answers (go limits ts 0 0 start) (λ s. None) r → IfErr r (IsParseFault limits text ts)
   fault-one (Ok s) e = tt
@@ -38,6 +44,9 @@ module _ (limits : Limits) (text : List ℕ) (us ts : List Lexeme) (same : us �
   pub within-exact : IfOk r (λ s. IsPolicy text us (syntax_tree s)) → Answers (go limits us 0 0 start) (λ s. None) r →
       IfOk r (λ s. IsWithin limits text ts (syntax_tree s))
   within-exact is e = subst (λ xs. IfOk r (λ s. IsWithin limits text xs (syntax_tree s))) same (within-one limits text us r is e)
+
+  pub only-exact : IfOk r (λ s. IsPolicy text us (syntax_tree s)) → IfOk r (λ s. IsOnlySyntax text ts (syntax_tree s))
+  only-exact is = subst (λ xs. IfOk r (λ s. IsOnlySyntax text xs (syntax_tree s))) same (only-one limits text us r is)
 
   pub faults-exact : Answers (go limits us 0 0 start) (λ s. None) r → IfErr r (IsParseFault limits text ts)
   faults-exact e = subst (λ xs. IfErr r (IsParseFault limits text xs)) same (fault-one limits text us r e)

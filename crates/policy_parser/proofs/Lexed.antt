@@ -1,11 +1,11 @@
 -- The tokens of a text lie in it, and so do the lexemes.
-use Rattle.std.proofs.Common.{◌≡◌, ℕ, zero, suc, ◌+◌, ◌<◌, ◌≤◌, List, [], ◌∷◌, length, map, take, drop, refl, sym, ap, subst, arith, All, slice_index_or}
+use Rattle.std.proofs.Common.{◌≡◌, ℕ, zero, suc, ◌+◌, ◌<◌, ◌≤◌, List, [], ◌∷◌, length, map, refl, ap, subst, arith, All, slice_index_or}
 use Rattle.policy_lexer.specs.declared.token.Token.{Token}
-use Rattle.policy_lexer.specs.Tokens.{Reads, reads_nothing, reads_gap, reads_token, SpellsTokens}
-use Rattle.policy_lexer.specs.Pieces.{Piece, piece_of, IsFirstPiece}
+use Rattle.policy_lexer.specs.Tokens.{Reads, reads_nothing, reads_gap, reads_token}
+use Rattle.policy_lexer.specs.Pieces.{Piece, IsFirstPiece}
 use Rattle.policy_lexer.proofs.Places.{Reads-le}
 use Rattle.policy_parser.specs.Answers.{LiesIn}
-use Rattle.policy_parser.specs.Lexemes.{lexeme_of, lexemes_of}
+use Rattle.policy_grammar.specs.Lexemes.{lexemes_of}
 
 -- what holds of all of them holds of each
 map-at : {X Y : Type 0} (f : X → Y) (xs : List X) (n : ℕ) (x : X) → slice_index_or (map f xs) n (f x) ≡ f (slice_index_or xs n x)

@@ -1,5 +1,5 @@
 -- What one token does, as the parser tests it.
-use Rattle.std.proofs.Common.{◌≡◌, ◌≢◌, ◌<◌, ◌≤◌, ◌⊎◌, inl, inr, ℕ, zero, suc, ◌+◌, ◌==◌, ◌||◌, List, [], ◌∷◌, length, drop, refl, sym, ap, subst, arith, lit<, lt-ltb, eq-eqb, Bool, true, false, not, IsTrue, Option, Some, None, Result, Ok, Err, ◌∙◌}
+use Rattle.std.proofs.Common.{◌≡◌, ◌≢◌, ◌<◌, ◌≤◌, ◌⊎◌, inl, inr, ℕ, zero, suc, ◌+◌, ◌==◌, List, [], ◌∷◌, length, drop, refl, sym, ap, subst, arith, lit<, lt-ltb, Bool, true, false, not, IsTrue, Option, Some, None, Result, Ok, Err, ◌∙◌}
 use Rattle.std.proofs.lemmas.Bool.{le-ltb}
 use Rattle.std.proofs.lemmas.Bool.Decides.{eqb_tells, nat_tests}
 use Rattle.policy_grammar.specs.declared.terminal.Lexeme.{Lexeme}

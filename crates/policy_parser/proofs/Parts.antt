@@ -1,5 +1,5 @@
 -- Productions of several tokens, from the places that the parser has.
-use Rattle.std.proofs.Common.{◌≡◌, ℕ, suc, ◌+◌, List, [], ◌∷◌, ◌++◌, map, length, Option, refl, sym, ap, subst, arith, Bool, true, false, ◌∙◌}
+use Rattle.std.proofs.Common.{◌≡◌, ℕ, suc, ◌+◌, List, [], ◌∷◌, ◌++◌, map, length, Option, refl, sym, ap, subst, arith, Bool, true, ◌∙◌}
 use Rattle.policy_tree.specs.declared.syntax.Owner.{Owner}
 use Rattle.policy_tree.specs.declared.syntax.OperandSyntax.TheVariants as operand_is
 use Rattle.policy_tree.specs.declared.syntax.FactorSyntax.{FactorSyntax}

@@ -1,5 +1,5 @@
 -- What a reader of a part answers.
-use Rattle.std.specs.Prelude.{ℕ, ◌≡◌, ◌==◌, ◌≤◌, false, List, length, Option, Some, None, Result, Ok, Err}
+use Rattle.std.specs.Prelude.{ℕ, ◌≡◌, ◌==◌, ◌≤◌, false, List, length, Option, Some, Result, Ok, Err}
 use Rattle.policy_grammar.specs.declared.terminal.Terminal.TheVariants.{Star, Plus, Minus}
 use Rattle.policy_grammar.specs.declared.terminal.Lexeme.{Lexeme}
 use Rattle.policy_grammar.specs.declared.fault.ParseFault.{ParseFault}

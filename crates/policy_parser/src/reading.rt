@@ -5,9 +5,10 @@ ghost use Rattle.policy_tree.specs.SyntaxTrees.{SyntaxTree, syntax_tree};
 ghost use Rattle.policy_lexer.specs.Tokens.{SpellsTokens};
 ghost use Rattle.policy_lexer.specs.declared.token.TheConstants.{TEXT_LIMIT};
 ghost use Rattle.policy_grammar.specs.Correct.{IsParseFault, IsWithin};
+ghost use Rattle.policy_grammar.specs.OneTree.{IsOnlySyntax};
 ghost use Rattle.policy_grammar.specs.declared.limits.TheConstants.{POLICY_LIMITS};
 ghost use Rattle.policy_parser.specs.Answers.{IsReadUnlessMemory};
-ghost use Rattle.policy_parser.specs.Lexemes.{lexemes_of};
+ghost use Rattle.policy_grammar.specs.Lexemes.{lexemes_of};
 
 use crate::source::Source;
 use crate::words::lexemes;
@@ -21,6 +22,8 @@ pub fn parse(alloc: Global, text: &[u8], tokens: &[Token]) -> Result<Syntax, Par
     requires small { length text.now ≤ TEXT_LIMIT }
     requires spells { SpellsTokens text.now tokens.now }
     ensures syntax { IfOk result (λ s. IsWithin POLICY_LIMITS text.now (lexemes_of text.now tokens.now) (syntax_tree s)) }
+    ensures only { IfOk result
+        (λ s. IsOnlySyntax text.now (lexemes_of text.now tokens.now) (syntax_tree s)) }
     ensures fault { IfErr result (IsParseFault POLICY_LIMITS text.now (lexemes_of text.now tokens.now)) }
 
     // A policy within the limits isn't refused.

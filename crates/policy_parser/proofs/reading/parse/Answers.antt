@@ -1,9 +1,9 @@
-use Rattle.std.proofs.Common.{◌≡◌, ◌∙◌, ◌<◌, length, sym, ap, subst, arith, All}
+use Rattle.std.proofs.Common.{◌∙◌, length, sym, ap, subst, arith, All}
 use Rattle.policy_grammar.specs.declared.limits.TheConstants.{POLICY_LIMITS}
 use Rattle.policy_parser.specs.Answers.{LiesIn}
-use Rattle.policy_parser.specs.Lexemes.{lexeme_of, lexemes_of}
+use Rattle.policy_grammar.specs.Lexemes.{lexeme_of, lexemes_of}
 use Rattle.policy_parser.proofs.Lexed.{tokens-lie, tokens-few, map-length}
-use Rattle.policy_parser.proofs.Exactly.{within-exact, faults-exact, reads-exact}
+use Rattle.policy_parser.proofs.Exactly.{within-exact, only-exact, faults-exact, reads-exact}
 use Rattle.policy_parser.proofs.reading.parse.Goals as goal
 
 pub lexemes-requires-clause-lie : goal.lexemes-requires-clause-lie
@@ -26,6 +26,11 @@ pub returns-clause-syntax : goal.returns-clause-syntax
 returns-clause-syntax c =
     within-exact POLICY_LIMITS c.args.text.now _ (lexemes_of c.args.text.now c.args.tokens.now) (c.as_slice.ensures.value ∙ c.in_ok-lexemes.ensures.are) c.policy.result
     c.policy.ensures.is c.policy.ensures.reads
+
+pub returns-clause-only : goal.returns-clause-only
+returns-clause-only c =
+    only-exact POLICY_LIMITS c.args.text.now _ (lexemes_of c.args.text.now c.args.tokens.now) (c.as_slice.ensures.value ∙ c.in_ok-lexemes.ensures.are) c.policy.result
+    c.policy.ensures.is
 
 pub returns-clause-fault : goal.returns-clause-fault
 returns-clause-fault c =

@@ -1,5 +1,5 @@
 use Rattle.policy_parser.specs.Answers.{LiesIn}
-use Rattle.policy_parser.specs.Lexemes.{lexeme_of}
+use Rattle.policy_grammar.specs.Lexemes.{lexeme_of}
 use Rattle.policy_parser.proofs.Lexed.{all-at}
 use Rattle.policy_parser.proofs.words.lexemes.Goals as goal
 

@@ -1,5 +1,5 @@
 use Rattle.std.proofs.Common.{◌≡◌, ◌≤◌, ◌-◌, length, take, vec_len}
-use Rattle.policy_parser.specs.Lexemes.{lexemes_of}
+use Rattle.policy_grammar.specs.Lexemes.{lexemes_of}
 use Rattle.policy_parser.proofs.words.lexemes.Given as goal
 
 abbrev pub invariant-tokens : goal.invariant-tokens

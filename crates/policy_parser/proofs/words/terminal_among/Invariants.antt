@@ -1,5 +1,5 @@
 use Rattle.std.proofs.Common.{◌≡◌, drop}
-use Rattle.policy_parser.specs.Lexemes.{terminal_among}
+use Rattle.policy_grammar.specs.Lexemes.{terminal_among}
 use Rattle.policy_parser.proofs.words.terminal_among.Given as goal
 
 -- the word is what it is among those that are left

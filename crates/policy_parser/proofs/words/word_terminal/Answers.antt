@@ -1,5 +1,5 @@
 -- The table of the code is that of the definition.
-use Rattle.policy_parser.specs.Lexemes.{reserved_words}
+use Rattle.policy_grammar.specs.Lexemes.{reserved_words}
 use Rattle.policy_parser.proofs.words.word_terminal.Goals as goal
 
 pub returns : goal.returns

@@ -1,8 +1,8 @@
-use Rattle.std.proofs.Common.{◌≡◌, ◌<◌, ◌≤◌, ◌&&◌, ℕ, nat_le, ap, sym, arith, subst, ◌∙◌}
+use Rattle.std.proofs.Common.{◌≡◌, ◌<◌, ◌≤◌, ℕ, nat_le, ap, arith, ◌∙◌}
 use Rattle.std.proofs.lemmas.Bool.Decides.{nat_tests}
 use denote.Enum.Declared.{tag_of}
 use Rattle.policy_grammar.specs.contracts.terminal.Terminal.{the_type}
-use Rattle.policy_grammar.specs.Terminals.{is_word, code}
+use Rattle.policy_grammar.specs.Terminals.{is_word}
 use Rattle.policy_grammar.proofs.Tags.{tag-is}
 use Rattle.policy_grammar.proofs.terminal.Terminal.is_word.Goals as goal
 

@@ -1,9 +1,6 @@
-use Rattle.std.proofs.Common.{◌∷◌, ◌∙◌, ◌+◌, ◌≡◌, refl, sym, ap, arith, lit<, None}
+use Rattle.std.proofs.Common.{◌∙◌, refl}
 use Rattle.std.proofs.lemmas.Result.{err_from_is_err_and}
-use Rattle.policy_grammar.specs.Breaks.{deep, many, first_of}
 use Rattle.policy_grammar.specs.Expressions.{factor_plain}
-use Rattle.policy_grammar.specs.Machine.{operand, operators, go}
-use Rattle.policy_grammar.proofs.Steps.{go-move}
 use Rattle.policy_parser.proofs.Moves.{yes, isnt, passes, sign-goes, sign-many, sign-deep}
 use Rattle.policy_parser.proofs.Parts.{signed_of}
 use Rattle.policy_parser.proofs.source.Source.+factor.Goals as goal

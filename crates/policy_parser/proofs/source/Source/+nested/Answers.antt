@@ -1,4 +1,4 @@
-use Rattle.std.proofs.Common.{◌∷◌, ◌∙◌, ◌≡◌, ◌+◌, ◌++◌, List, [], refl, sym, ap, subst, arith, lit<}
+use Rattle.std.proofs.Common.{◌∷◌, ◌∙◌, ◌++◌, [], sym, ap, subst, arith, lit<}
 use Rattle.std.proofs.lemmas.Result.{err_from_is_err_and}
 use Rattle.policy_tree.specs.SyntaxTrees.{condition_tree, no_more, grouped}
 use Rattle.policy_grammar.specs.Conditions.{IsUnit, unit_always, unit_not, unit_group, ands_none, ors_none, conjunction_of, condition_of}

@@ -1,8 +1,7 @@
-use Rattle.std.proofs.Common.{◌∷◌, ◌∙◌, ◌≡◌, ◌+◌, ◌++◌, List, [], refl, sym, ap, subst, arith}
+use Rattle.std.proofs.Common.{◌∷◌, ◌∙◌, ◌+◌, refl, sym, subst, arith}
 use Rattle.std.proofs.lemmas.Result.{err_from_is_err_and}
-use Rattle.policy_grammar.specs.declared.terminal.Terminal.TheVariants.{Dot, Gets, Comma}
 use Rattle.policy_grammar.specs.Policies.{IsSets, sets_none}
-use Rattle.policy_grammar.specs.Machine.{the, field, operand, actions}
+use Rattle.policy_grammar.specs.Machine.{actions}
 use Rattle.policy_parser.proofs.Moves.{yes, isnt, passes, set-goes, set-many, put-goes, put-none}
 use Rattle.policy_parser.proofs.Parts.{sets-snoc}
 use Rattle.policy_parser.proofs.source.Source.actions.Goals as goal

@@ -1,4 +1,4 @@
-use Rattle.std.proofs.Common.{ℕ, ◌≡◌, ◌≤◌, ◌<◌, ◌-◌, ◌∷◌, List, length, vec_len}
+use Rattle.std.proofs.Common.{◌≡◌, ◌≤◌, ◌-◌, ◌∷◌, List, length, vec_len}
 use Rattle.policy_grammar.specs.Policies.{IsSets}
 use Rattle.policy_grammar.specs.Machine.{Symbol, actions, go}
 use Rattle.policy_parser.proofs.source.Source.actions.Given as goal

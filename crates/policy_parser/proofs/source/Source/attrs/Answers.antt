@@ -1,11 +1,9 @@
-use Rattle.std.proofs.Common.{not, ◌∷◌, ◌∙◌, ◌≡◌, ◌+◌, ◌++◌, List, [], refl, sym, ap, subst, arith}
+use Rattle.std.proofs.Common.{not, ◌∷◌, ◌∙◌, refl, sym, ap, subst, arith}
 use Rattle.std.proofs.lemmas.Result.{err_from_is_err_and}
-use Rattle.policy_tree.specs.declared.syntax.AttrSyntax.{AttrSyntax}
 use Rattle.policy_grammar.specs.Policies.{IsAttrs, attrs_none}
-use Rattle.policy_grammar.specs.Machine.{the, int, attrs, go}
-use Rattle.policy_grammar.specs.declared.terminal.Terminal.TheVariants.{Name, In, Range, Start}
+use Rattle.policy_grammar.specs.Machine.{attrs, go}
 use Rattle.policy_grammar.specs.Breaks.{of_cores_more, of_threads_more}
-use Rattle.policy_parser.proofs.Moves.{yes, isnt, passes, attr-goes, attr-many, attrs-over, cores-more, threads-more, at-most-one}
+use Rattle.policy_parser.proofs.Moves.{passes, attr-goes, attr-many, attrs-over, cores-more, threads-more, at-most-one}
 use Rattle.policy_parser.proofs.Parts.{attrs-snoc}
 use Rattle.policy_parser.proofs.source.Source.attrs.Goals as goal
 

@@ -1,7 +1,7 @@
-use Rattle.std.proofs.Common.{◌∷◌, ◌∙◌, ◌≡◌, ◌+◌, ◌++◌, List, [], refl, sym, ap, subst, arith}
+use Rattle.std.proofs.Common.{◌∷◌, ◌∙◌, ◌+◌, arith}
 use Rattle.std.proofs.lemmas.Result.{err_from_is_err_and}
 use Rattle.policy_grammar.specs.declared.terminal.Terminal.TheVariants.{Colon}
-use Rattle.policy_grammar.specs.Machine.{the, case, cases, actions}
+use Rattle.policy_grammar.specs.Machine.{the, cases, actions}
 use Rattle.policy_parser.proofs.Moves.{yes, isnt, passes, case-goes, case-many, case-none}
 use Rattle.policy_parser.proofs.Parts.{case-parts}
 use Rattle.policy_parser.proofs.source.Source.case.Goals as goal

@@ -1,6 +1,5 @@
-use Rattle.std.proofs.Common.{◌∷◌, ◌∙◌, ◌≡◌, ◌+◌, ◌++◌, List, [], refl, sym, ap, subst, arith}
+use Rattle.std.proofs.Common.{◌∷◌, ◌∙◌, ◌++◌, [], ap, arith}
 use Rattle.std.proofs.lemmas.Result.{err_from_is_err_and}
-use Rattle.policy_grammar.specs.Machine.{case, cases}
 use Rattle.policy_parser.proofs.Moves.{yes, isnt, passes, cases-case, cases-over}
 use Rattle.policy_parser.proofs.Parts.{cased-one, cased-snoc}
 use Rattle.policy_parser.proofs.source.Source.cases.Goals as goal

@@ -1,9 +1,8 @@
-use Rattle.std.proofs.Common.{◌∷◌, ◌∙◌, ◌≡◌, ◌+◌, List, refl, sym, ap, subst, arith}
+use Rattle.std.proofs.Common.{◌∙◌, List, sym, subst, arith}
 use Rattle.std.proofs.lemmas.Result.{err_from_is_err_and}
 use Rattle.policy_tree.specs.declared.syntax.AddedSyntax.{AddedSyntax}
 use Rattle.policy_grammar.specs.Expressions.{IsAdded, added_none, expr_of}
-use Rattle.policy_grammar.specs.Machine.{operand, operators, go}
-use Rattle.policy_parser.proofs.Moves.{yes, isnt, passes, added-goes, added-many, operators-over}
+use Rattle.policy_parser.proofs.Moves.{passes, added-goes, added-many, operators-over}
 use Rattle.policy_parser.proofs.Parts.{added-snoc}
 use Rattle.policy_parser.proofs.source.Source.expression.Goals as goal
 

@@ -1,8 +1,8 @@
-use Rattle.std.proofs.Common.{◌∷◌, ◌∙◌, ◌≡◌, ◌+◌, ◌++◌, List, [], refl, sym, ap, subst, arith}
+use Rattle.std.proofs.Common.{◌∷◌, ◌∙◌, ◌+◌}
 use Rattle.std.proofs.lemmas.Result.{err_from_is_err_and}
 use Rattle.policy_grammar.specs.declared.terminal.Terminal.TheVariants.{Begin, Finish}
-use Rattle.policy_grammar.specs.Machine.{the, event, case, handlers}
-use Rattle.policy_parser.proofs.Moves.{yes, isnt, passes, handler-goes, event-goes, event-none, go-from, plus-two}
+use Rattle.policy_grammar.specs.Machine.{the, case, handlers}
+use Rattle.policy_parser.proofs.Moves.{passes, handler-goes, event-goes, event-none, go-from, plus-two}
 use Rattle.policy_parser.proofs.Parts.{handler-parts}
 use Rattle.policy_parser.proofs.source.Source.handler.Goals as goal
 

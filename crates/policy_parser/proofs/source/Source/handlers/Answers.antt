@@ -1,7 +1,6 @@
-use Rattle.std.proofs.Common.{◌∷◌, ◌∙◌, ◌≡◌, ◌+◌, ◌++◌, List, [], refl, sym, ap, subst, arith}
+use Rattle.std.proofs.Common.{◌∙◌, refl, arith}
 use Rattle.std.proofs.lemmas.Result.{err_from_is_err_and}
-use Rattle.policy_grammar.specs.Machine.{handlers}
-use Rattle.policy_parser.proofs.Moves.{yes, isnt, passes, handlers-over}
+use Rattle.policy_parser.proofs.Moves.{isnt, passes, handlers-over}
 use Rattle.policy_parser.proofs.Parts.{handlers-first, handlers-more}
 use Rattle.policy_parser.proofs.source.Source.handlers.Goals as goal
 

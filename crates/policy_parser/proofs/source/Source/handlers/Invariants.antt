@@ -1,4 +1,4 @@
-use Rattle.std.proofs.Common.{ℕ, ◌≡◌, ◌≤◌, ◌<◌, ◌-◌, ◌∷◌, List, length, vec_len, map}
+use Rattle.std.proofs.Common.{◌≡◌, ◌≤◌, ◌-◌, ◌∷◌, List, length, vec_len, map}
 use Rattle.policy_tree.specs.SyntaxTrees.{handler_syntax_tree}
 use Rattle.policy_grammar.specs.Policies.{IsHandlers}
 use Rattle.policy_grammar.specs.Machine.{Symbol, handlers, go}

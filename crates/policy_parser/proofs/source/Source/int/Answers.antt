@@ -1,6 +1,6 @@
-use Rattle.std.proofs.Common.{◌∷◌, ◌∙◌, ◌+◌, sym, subst, refl, true, ap}
+use Rattle.std.proofs.Common.{◌∙◌, ap}
 use Rattle.std.proofs.lemmas.Result.{err_from_is_err_and}
-use Rattle.policy_grammar.specs.Expressions.{IsInt, int_plain}
+use Rattle.policy_grammar.specs.Expressions.{int_plain}
 use Rattle.policy_parser.proofs.Moves.{yes, isnt, passes, int-none, minus-goes}
 use Rattle.policy_parser.proofs.Parts.{signed-int}
 use Rattle.policy_grammar.proofs.CompleteExpressions.{int_read}

@@ -1,4 +1,4 @@
-use Rattle.std.proofs.Common.{◌∷◌, ◌∙◌, ◌+◌, refl}
+use Rattle.std.proofs.Common.{◌∷◌, ◌∙◌, refl}
 use Rattle.std.proofs.lemmas.Result.{err_from_is_err_and}
 use Rattle.policy_grammar.specs.Machine.{load_rule}
 use Rattle.policy_parser.proofs.Moves.{yes, isnt, passes, count-goes, weight-goes, load-none}

@@ -1,4 +1,3 @@
-use Rattle.std.proofs.Common.{◌∷◌, ◌∙◌, ◌+◌, refl, sym, subst}
 use Rattle.std.proofs.lemmas.Result.{err_from_is_err_and}
 use Rattle.policy_parser.proofs.source.Source.name_at.Goals as goal
 

@@ -1,8 +1,6 @@
 use Rattle.std.proofs.Common.{◌∷◌, ◌∙◌, ◌+◌, refl, sym, lit<}
 use Rattle.std.specs.Prelude.{None}
 use Rattle.std.proofs.lemmas.Result.{err_from_is_err_and}
-use Rattle.policy_grammar.specs.declared.fault.ParseFault.{ParseFault}
-use Rattle.policy_grammar.specs.declared.fault.ParseFault.TheVariants.{Unexpected, Deep, Many, Memory}
 use Rattle.policy_grammar.specs.Expressions.{operand_number}
 use Rattle.policy_grammar.specs.Machine.{operand, dot, word}
 use Rattle.policy_grammar.proofs.Steps.{go-stuck, go-move}

@@ -1,6 +1,6 @@
-use Rattle.std.proofs.Common.{◌∷◌, ◌∙◌, ◌≡◌, ◌+◌, List, [], refl, sym, subst, arith}
+use Rattle.std.proofs.Common.{◌∷◌, ◌∙◌, [], refl, arith}
 use Rattle.std.proofs.lemmas.Result.{err_from_is_err_and}
-use Rattle.policy_grammar.specs.declared.terminal.Terminal.TheVariants.{Policy, Name, Load, Filter, Choose, Steal}
+use Rattle.policy_grammar.specs.declared.terminal.Terminal.TheVariants.{Name, Load, Filter, Choose, Steal}
 use Rattle.policy_grammar.specs.Machine.{the, load_rule, attrs, place, elect, handlers, condition, order}
 use Rattle.policy_grammar.proofs.Steps.{is-zero}
 use Rattle.policy_parser.proofs.Moves.{passes, condition-begins, past-end}

@@ -1,4 +1,4 @@
-use Rattle.std.proofs.Common.{◌∷◌, ◌∙◌, ◌+◌, sym, subst}
+use Rattle.std.proofs.Common.{◌∷◌, ◌∙◌, subst}
 use Rattle.std.proofs.lemmas.Result.{err_from_is_err_and}
 use Rattle.policy_grammar.specs.declared.terminal.Terminal.TheVariants.{Range}
 use Rattle.policy_grammar.specs.Expressions.{IsInt, range_of}

@@ -1,0 +1,14 @@
+pub mod AddsLemmas
+pub mod Nodes
+pub mod FirstPieces
+pub mod Decimals
+pub mod Normal
+pub mod Laid
+pub mod Alike
+pub mod AgainExpressions
+pub mod AgainPolicies
+pub mod WordTable
+pub mod Spells
+pub mod SpelledExpressions
+pub mod SpelledPolicies
+pub mod ReadAgain

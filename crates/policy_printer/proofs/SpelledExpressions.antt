@@ -1,0 +1,95 @@
+-- The tokens of a part are its printed tokens: expressions and orders.
+use Rattle.std.proofs.Common.{◌≡◌, ◌+◌, ℕ, List, [], ◌∷◌, Bool, true, false, map, lit<, refl, arith}
+use Rattle.std.specs.List.{flat_map}
+use Rattle.policy_tree.specs.declared.syntax.IntSyntax.{IntSyntax}
+use Rattle.policy_tree.specs.declared.syntax.RangeSyntax.{RangeSyntax}
+use Rattle.policy_tree.specs.declared.syntax.Owner.{Owner}
+use Rattle.policy_tree.specs.declared.syntax.Owner.TheVariants as owner
+use Rattle.policy_tree.specs.declared.syntax.OperandSyntax.{OperandSyntax}
+use Rattle.policy_tree.specs.declared.syntax.FactorSyntax.{FactorSyntax}
+use Rattle.policy_tree.specs.declared.syntax.TimesSyntax.{TimesSyntax}
+use Rattle.policy_tree.specs.declared.syntax.TermSyntax.{TermSyntax}
+use Rattle.policy_tree.specs.declared.syntax.AddedSyntax.{AddedSyntax}
+use Rattle.policy_tree.specs.declared.syntax.ExprSyntax.{ExprSyntax}
+use Rattle.policy_tree.specs.declared.syntax.KeySyntax.{KeySyntax}
+use Rattle.policy_tree.specs.declared.syntax.OrderSyntax.{OrderSyntax}
+use Rattle.policy_lexer.specs.declared.token.Symbol.TheVariants as sign
+use Rattle.policy_lexer.specs.declared.token.Token.{Token}
+use Rattle.policy_grammar.specs.Lexemes.{reserved_words, lexemes_of}
+use Rattle.policy_grammar.specs.Terminals.{kind_at}
+use Rattle.policy_grammar.specs.Words.{key_word, sign_word, owner_word}
+use Rattle.policy_grammar.specs.Expressions.{IsInt, int_plain, int_signed, IsRange, range_of, IsOperand, operand_number, operand_reference, IsFactor, factor_plain, factor_signed, IsTimes, times_none, times_more, IsTerm, term_of, IsAdded, added_none, added_more, IsExpr, expr_of, IsKey, key_of, IsKeys, keys_none, keys_more, IsOrder, order_first, order_keys}
+use Rattle.policy_printer.specs.WordTexts.{key_text, sign_text, owner_text}
+use Rattle.policy_printer.specs.ExpressionTexts.{int_texts, range_texts, operand_texts, factor_texts, times_texts, term_texts, added_texts, expr_texts, key_texts, further_key_texts, order_texts}
+use Rattle.policy_printer.proofs.Laid.{texts}
+use Rattle.policy_printer.proofs.Normal.{normal}
+use Rattle.policy_printer.proofs.Spells.{Spells, ◌▹◌, nothing, reserved, symbol, word, number}
+
+module _ (text : List ℕ) (tokens : List Token) where
+  -- the printed tokens from one place up to the other are these
+  abbrev pub Are : ℕ → List (List ℕ) → ℕ → Type 0
+  Are at ys to = Spells (texts (map (normal text) tokens)) at ys to
+
+  two : (at : ℕ) → at + 1 + 1 ≡ at + 2
+  two at = omega arith
+
+  three : (at : ℕ) → at + 2 + 1 ≡ at + 3
+  three at = omega arith
+
+  pub int-spells : {at to : ℕ} {v : IntSyntax} → IsInt (lexemes_of text tokens) at v to → Are at (int_texts v) to
+  int-spells (int_plain k) = number text tokens refl k
+  int-spells {at = at} (int_signed k n) = symbol text tokens sign.Minus refl k (lit< tt) ▹ number text tokens (two at) n
+
+  pub range-spells : {at to : ℕ} {v : RangeSyntax} → IsRange (lexemes_of text tokens) at v to → Are at (range_texts v) to
+  range-spells (range_of low k high) = int-spells low ▹ symbol text tokens sign.Range refl k (lit< tt) ▹ int-spells high
+
+  owner-spells : {at : ℕ} (o : Owner) → kind_at (lexemes_of text tokens) at ≡ owner_word o → Are at (owner_text o ∷ []) (at + 1)
+  unfolding reserved_words
+  owner-spells owner.Itself k = reserved text tokens 30 refl k (lit< tt) (lit< tt)
+  owner-spells owner.Victim k = reserved text tokens 31 refl k (lit< tt) (lit< tt)
+  owner-spells owner.Core k = reserved text tokens 5 refl k (lit< tt) (lit< tt)
+  owner-spells owner.Thread k = reserved text tokens 32 refl k (lit< tt) (lit< tt)
+
+  operand-spells : {at to : ℕ} {v : OperandSyntax} → IsOperand text (lexemes_of text tokens) at v to → Are at (operand_texts v) to
+  operand-spells (operand_number k) = number text tokens refl k
+  operand-spells {at = at} (operand_reference o k d w) =
+      owner-spells o k ▹ symbol text tokens sign.Dot (two at) d (lit< tt) ▹ word text tokens (three at) w
+
+  factor-spells : {at to : ℕ} {v : FactorSyntax} → IsFactor text (lexemes_of text tokens) at v to → Are at (factor_texts v) to
+  factor-spells (factor_plain d) = operand-spells d
+  factor-spells (factor_signed f k d) = symbol text tokens sign.Minus refl k (lit< tt) ▹ factor-spells d
+
+  times-spells : {at to : ℕ} {v : List TimesSyntax} → IsTimes text (lexemes_of text tokens) at v to → Are at (flat_map times_texts v) to
+  times-spells times_none = nothing
+  times-spells (times_more k d more) = (symbol text tokens sign.Star refl k (lit< tt) ▹ factor-spells d) ▹ times-spells more
+
+  term-spells : {at to : ℕ} {v : TermSyntax} → IsTerm text (lexemes_of text tokens) at v to → Are at (term_texts v) to
+  term-spells (term_of d more) = factor-spells d ▹ times-spells more
+
+  sign-spells : {at : ℕ} (minus : Bool) → kind_at (lexemes_of text tokens) at ≡ sign_word minus → Are at (sign_text minus ∷ []) (at + 1)
+  sign-spells true k = symbol text tokens sign.Minus refl k (lit< tt)
+  sign-spells false k = symbol text tokens sign.Plus refl k (lit< tt)
+
+  added-spells : {at to : ℕ} {v : List AddedSyntax} → IsAdded text (lexemes_of text tokens) at v to → Are at (flat_map added_texts v) to
+  added-spells added_none = nothing
+  added-spells (added_more minus k d more) = (sign-spells minus k ▹ term-spells d) ▹ added-spells more
+
+  pub expr-spells : {at to : ℕ} {v : ExprSyntax} → IsExpr text (lexemes_of text tokens) at v to → Are at (expr_texts v) to
+  expr-spells (expr_of d more) = term-spells d ▹ added-spells more
+
+  greatest-spells : {at : ℕ} (greatest : Bool) → kind_at (lexemes_of text tokens) at ≡ key_word greatest → Are at (key_text greatest ∷ []) (at + 1)
+  unfolding reserved_words
+  greatest-spells true k = reserved text tokens 12 refl k (lit< tt) (lit< tt)
+  greatest-spells false k = reserved text tokens 11 refl k (lit< tt) (lit< tt)
+
+  key-spells : {at to : ℕ} {v : KeySyntax} → IsKey text (lexemes_of text tokens) at v to → Are at (key_texts v) to
+  key-spells (key_of greatest k d) = greatest-spells greatest k ▹ expr-spells d
+
+  keys-spells : {at to : ℕ} {v : List KeySyntax} → IsKeys text (lexemes_of text tokens) at v to → Are at (flat_map further_key_texts v) to
+  keys-spells keys_none = nothing
+  keys-spells (keys_more k d more) = (symbol text tokens sign.Comma refl k (lit< tt) ▹ key-spells d) ▹ keys-spells more
+
+  pub order-spells : {at to : ℕ} {v : OrderSyntax} → IsOrder text (lexemes_of text tokens) at v to → Are at (order_texts v) to
+  unfolding reserved_words
+  order-spells (order_first k) = reserved text tokens 16 refl k (lit< tt) (lit< tt)
+  order-spells (order_keys d more) = key-spells d ▹ keys-spells more

@@ -1,0 +1,178 @@
+-- The tokens of a part are its printed tokens: conditions and policies.
+use Rattle.std.proofs.Common.{◌≡◌, ◌+◌, ℕ, List, [], ◌∷◌, ◌++◌, length, Option, Bool, true, false, codes, lit<, refl, arith, append-nil}
+use Rattle.std.specs.List.{flat_map}
+use Rattle.policy_tree.specs.declared.trees.Cmp.{Cmp}
+use Rattle.policy_tree.specs.declared.trees.Cmp.TheVariants as cmp
+use Rattle.policy_tree.specs.declared.typed.Event.{Event}
+use Rattle.policy_tree.specs.declared.typed.Event.TheVariants as event
+use Rattle.policy_tree.specs.declared.typed.Put.{Put}
+use Rattle.policy_tree.specs.declared.typed.Put.TheVariants as put
+use Rattle.policy_tree.specs.declared.syntax.LoadSyntax.{LoadSyntax}
+use Rattle.policy_tree.specs.declared.syntax.AttrSyntax.{AttrSyntax}
+use Rattle.policy_tree.specs.declared.syntax.PlaceSyntax.{PlaceSyntax}
+use Rattle.policy_tree.specs.declared.syntax.ElectSyntax.{ElectSyntax}
+use Rattle.policy_tree.specs.declared.syntax.SetSyntax.{SetSyntax}
+use Rattle.policy_tree.specs.SyntaxTrees.{ConditionTree, ConditionTrees, no_more, more, CaseSyntaxTree, HandlerSyntaxTree, SyntaxTree}
+use Rattle.policy_lexer.specs.declared.token.Symbol.TheVariants as sign
+use Rattle.policy_lexer.specs.declared.token.Token.{Token}
+use Rattle.policy_grammar.specs.Lexemes.{reserved_words, lexemes_of}
+use Rattle.policy_grammar.specs.Terminals.{kind_at, word_at}
+use Rattle.policy_grammar.specs.Words.{attr_word, event_word, put_word, compare_word}
+use Rattle.policy_grammar.specs.Conditions.{conjunction, disjunction, IsUnit, unit_always, unit_not, unit_group, unit_test, IsAnds, ands_none, ands_more, IsConjunction, conjunction_of, IsOrs, ors_none, ors_more, IsCondition, condition_of}
+use Rattle.policy_grammar.specs.Policies.{IsLoad, load_count, load_weight, IsAttr, attr_of, IsAttrs, attrs_none, attrs_more, IsPlace, place_none, place_here, place_least, IsElect, elect_none, elect_some, IsSets, sets_none, sets_more, IsCase, case_of, IsCases, cases_none, cases_more, IsHandler, handler_of, IsHandlers, handlers_none, handlers_more, IsPolicy, policy_of}
+use Rattle.policy_printer.specs.WordTexts.{kind_text, event_text, put_text, compare_text}
+use Rattle.policy_printer.specs.ConditionTexts.{condition_texts, further_texts}
+use Rattle.policy_printer.specs.PolicyTexts.{load_texts, attr_texts, place_texts, elect_texts, set_texts, case_texts, handler_texts, policy_texts}
+use Rattle.policy_printer.proofs.SpelledExpressions.{Are, int-spells, range-spells, expr-spells, order-spells}
+use Rattle.policy_printer.proofs.Spells.{◌▹◌, nothing, spells-as, reserved, symbol, word}
+
+conjunction-texts : (at : ℕ) (first : ConditionTree) (rest : ConditionTrees) →
+    condition_texts first ++ further_texts (codes "and") rest ≡ condition_texts (conjunction at first rest)
+conjunction-texts at first no_more = append-nil (condition_texts first)
+conjunction-texts at first (more second rest) = refl
+
+disjunction-texts : (at : ℕ) (first : ConditionTree) (rest : ConditionTrees) →
+    condition_texts first ++ further_texts (codes "or") rest ≡ condition_texts (disjunction at first rest)
+disjunction-texts at first no_more = append-nil (condition_texts first)
+disjunction-texts at first (more second rest) = refl
+
+module _ (text : List ℕ) (tokens : List Token) where
+  two : (at : ℕ) → at + 1 + 1 ≡ at + 2
+  two at = omega arith
+
+  three : (at : ℕ) → at + 2 + 1 ≡ at + 3
+  three at = omega arith
+
+  four : (at : ℕ) → at + 3 + 1 ≡ at + 4
+  four at = omega arith
+
+  -- a name is a word
+  name : {at to : ℕ} → at + 1 ≡ to → kind_at (lexemes_of text tokens) at ≡ 34 → Are text tokens at (word_at text (lexemes_of text tokens) at ∷ []) to
+  name next k = word text tokens next (rw k refl)
+
+  compare-spells : {at : ℕ} (c : Cmp) → kind_at (lexemes_of text tokens) at ≡ compare_word c → Are text tokens at (compare_text c ∷ []) (at + 1)
+  compare-spells cmp.Eq k = symbol text tokens sign.Equal refl k (lit< tt)
+  compare-spells cmp.Ne k = symbol text tokens sign.Unequal refl k (lit< tt)
+  compare-spells cmp.Lt k = symbol text tokens sign.Less refl k (lit< tt)
+  compare-spells cmp.Le k = symbol text tokens sign.AtMost refl k (lit< tt)
+  compare-spells cmp.Gt k = symbol text tokens sign.More refl k (lit< tt)
+  compare-spells cmp.Ge k = symbol text tokens sign.AtLeast refl k (lit< tt)
+
+  always-spells : {at : ℕ} → kind_at (lexemes_of text tokens) at ≡ 29 → Are text tokens at (codes "always" ∷ []) (at + 1)
+  unfolding reserved_words
+  always-spells k = reserved text tokens 29 refl k (lit< tt) (lit< tt)
+
+  not-spells : {at : ℕ} → kind_at (lexemes_of text tokens) at ≡ 28 → Are text tokens at (codes "not" ∷ []) (at + 1)
+  unfolding reserved_words
+  not-spells k = reserved text tokens 28 refl k (lit< tt) (lit< tt)
+
+  and-spells : {at : ℕ} → kind_at (lexemes_of text tokens) at ≡ 26 → Are text tokens at (codes "and" ∷ []) (at + 1)
+  unfolding reserved_words
+  and-spells k = reserved text tokens 26 refl k (lit< tt) (lit< tt)
+
+  or-spells : {at : ℕ} → kind_at (lexemes_of text tokens) at ≡ 27 → Are text tokens at (codes "or" ∷ []) (at + 1)
+  unfolding reserved_words
+  or-spells k = reserved text tokens 27 refl k (lit< tt) (lit< tt)
+
+  mutual
+    unit-spells : {at to : ℕ} {v : ConditionTree} → IsUnit text (lexemes_of text tokens) at v to → Are text tokens at (condition_texts v) to
+    unit-spells (unit_always k) = always-spells k
+    unit-spells (unit_not k d) = not-spells k ▹ unit-spells d
+    unit-spells (unit_group k d c) =
+        symbol text tokens sign.Open refl k (lit< tt) ▹ condition-spells d ▹ symbol text tokens sign.Close refl c (lit< tt)
+    unit-spells (unit_test c d k e) = expr-spells text tokens d ▹ compare-spells c k ▹ expr-spells text tokens e
+
+    ands-spells : {at to : ℕ} {v : ConditionTrees} → IsAnds text (lexemes_of text tokens) at v to → Are text tokens at (further_texts (codes "and") v) to
+    ands-spells ands_none = nothing
+    ands-spells (ands_more k d rest) = and-spells k ▹ unit-spells d ▹ ands-spells rest
+
+    conjunction-spells : {at to : ℕ} {v : ConditionTree} → IsConjunction text (lexemes_of text tokens) at v to → Are text tokens at (condition_texts v) to
+    conjunction-spells {at = at} (conjunction_of first rest d are) = spells-as (conjunction-texts at first rest) (unit-spells d ▹ ands-spells are)
+
+    ors-spells : {at to : ℕ} {v : ConditionTrees} → IsOrs text (lexemes_of text tokens) at v to → Are text tokens at (further_texts (codes "or") v) to
+    ors-spells ors_none = nothing
+    ors-spells (ors_more k d rest) = or-spells k ▹ conjunction-spells d ▹ ors-spells rest
+
+    condition-spells : {at to : ℕ} {v : ConditionTree} → IsCondition text (lexemes_of text tokens) at v to → Are text tokens at (condition_texts v) to
+    condition-spells {at = at} (condition_of first rest d are) = spells-as (disjunction-texts at first rest) (conjunction-spells d ▹ ors-spells are)
+
+  load-spells : {at to : ℕ} {v : LoadSyntax} → IsLoad (lexemes_of text tokens) at v to → Are text tokens at (load_texts v) to
+  unfolding reserved_words
+  load-spells {at = at} (load_count k c) = reserved text tokens 2 refl k (lit< tt) (lit< tt) ▹ reserved text tokens 3 (two at) c (lit< tt) (lit< tt)
+  load-spells {at = at} (load_weight k w d) =
+      reserved text tokens 2 refl k (lit< tt) (lit< tt) ▹ reserved text tokens 4 (two at) w (lit< tt) (lit< tt) ▹ range-spells text tokens d
+
+  kind-spells : {at : ℕ} (of_cores : Bool) → kind_at (lexemes_of text tokens) at ≡ attr_word of_cores → Are text tokens at (kind_text of_cores ∷ []) (at + 1)
+  unfolding reserved_words
+  kind-spells true k = reserved text tokens 5 refl k (lit< tt) (lit< tt)
+  kind-spells false k = reserved text tokens 6 refl k (lit< tt) (lit< tt)
+
+  attr-spells : {at to : ℕ} {v : AttrSyntax} → IsAttr text (lexemes_of text tokens) at v to → Are text tokens at (attr_texts v) to
+  unfolding reserved_words
+  attr-spells {at = at} (attr_of of_cores k n i r s d) =
+      kind-spells of_cores k ▹ name (two at) n ▹ reserved text tokens 7 (three at) i (lit< tt) (lit< tt) ▹ range-spells text tokens r
+      ▹ reserved text tokens 8 refl s (lit< tt) (lit< tt) ▹ int-spells text tokens d
+
+  attrs-spells : {at to : ℕ} {v : List AttrSyntax} → IsAttrs text (lexemes_of text tokens) at v to → Are text tokens at (flat_map attr_texts v) to
+  attrs-spells attrs_none = nothing
+  attrs-spells (attrs_more d rest) = attr-spells d ▹ attrs-spells rest
+
+  place-spells : {at to : ℕ} {v : Option PlaceSyntax} → IsPlace text (lexemes_of text tokens) at v to → Are text tokens at (place_texts v) to
+  unfolding reserved_words
+  place-spells place_none = nothing
+  place-spells {at = at} (place_here k h) = reserved text tokens 9 refl k (lit< tt) (lit< tt) ▹ reserved text tokens 10 (two at) h (lit< tt) (lit< tt)
+  place-spells {at = at} (place_least k m d) =
+      reserved text tokens 9 refl k (lit< tt) (lit< tt) ▹ reserved text tokens 11 (two at) m (lit< tt) (lit< tt) ▹ expr-spells text tokens d
+
+  elect-spells : {at to : ℕ} {v : Option ElectSyntax} → IsElect text (lexemes_of text tokens) at v to → Are text tokens at (elect_texts v) to
+  unfolding reserved_words
+  elect-spells elect_none = nothing
+  elect-spells (elect_some k d) = reserved text tokens 13 refl k (lit< tt) (lit< tt) ▹ order-spells text tokens d
+
+  sets-spells : {at to : ℕ} {v : List SetSyntax} → IsSets text (lexemes_of text tokens) at v to → Are text tokens at (flat_map set_texts v) to
+  unfolding reserved_words
+  sets-spells sets_none = nothing
+  sets-spells {at = at} (sets_more k d w g e c rest) =
+      (reserved text tokens 32 refl k (lit< tt) (lit< tt) ▹ symbol text tokens sign.Dot (two at) d (lit< tt) ▹ word text tokens (three at) w
+      ▹ symbol text tokens sign.Gets (four at) g (lit< tt) ▹ expr-spells text tokens e ▹ symbol text tokens sign.Comma refl c (lit< tt))
+      ▹ sets-spells rest
+
+  put-spells : {at : ℕ} (p : Put) → kind_at (lexemes_of text tokens) at ≡ put_word p → Are text tokens at (put_text p ∷ []) (at + 1)
+  unfolding reserved_words
+  put-spells put.Queue k = reserved text tokens 23 refl k (lit< tt) (lit< tt)
+  put-spells put.Keep k = reserved text tokens 24 refl k (lit< tt) (lit< tt)
+  put-spells put.Block k = reserved text tokens 21 refl k (lit< tt) (lit< tt)
+
+  case-spells : {at to : ℕ} {v : CaseSyntaxTree} → IsCase text (lexemes_of text tokens) at v to → Are text tokens at (case_texts v) to
+  unfolding reserved_words
+  case-spells (case_of p k g c s q) =
+      reserved text tokens 22 refl k (lit< tt) (lit< tt) ▹ condition-spells g ▹ symbol text tokens sign.Colon refl c (lit< tt) ▹ sets-spells s ▹ put-spells p q
+
+  cases-spells : {at to : ℕ} {v : List CaseSyntaxTree} → IsCases text (lexemes_of text tokens) at v to → Are text tokens at (flat_map case_texts v) to
+  cases-spells cases_none = nothing
+  cases-spells (cases_more d rest) = case-spells d ▹ cases-spells rest
+
+  event-spells : {at to : ℕ} (e : Event) → at + 1 ≡ to → kind_at (lexemes_of text tokens) at ≡ event_word e → Are text tokens at (event_text e ∷ []) to
+  unfolding reserved_words
+  event-spells event.Enqueue next k = reserved text tokens 18 next k (lit< tt) (lit< tt)
+  event-spells event.Tick next k = reserved text tokens 19 next k (lit< tt) (lit< tt)
+  event-spells event.Yield next k = reserved text tokens 20 next k (lit< tt) (lit< tt)
+  event-spells event.Block next k = reserved text tokens 21 next k (lit< tt) (lit< tt)
+
+  handler-spells : {at to : ℕ} {v : HandlerSyntaxTree} → IsHandler text (lexemes_of text tokens) at v to → Are text tokens at (handler_texts v) to
+  unfolding reserved_words
+  handler-spells {at = at} (handler_of e k v b d rest f) =
+      reserved text tokens 17 refl k (lit< tt) (lit< tt) ▹ event-spells e (two at) v ▹ symbol text tokens sign.Begin (three at) b (lit< tt)
+      ▹ (case-spells d ▹ cases-spells rest) ▹ symbol text tokens sign.End refl f (lit< tt)
+
+  handlers-spells : {at to : ℕ} {v : List HandlerSyntaxTree} → IsHandlers text (lexemes_of text tokens) at v to → Are text tokens at (flat_map handler_texts v) to
+  handlers-spells handlers_none = nothing
+  handlers-spells (handlers_more d rest) = handler-spells d ▹ handlers-spells rest
+
+  pub policy-spells : {s : SyntaxTree} → IsPolicy text (lexemes_of text tokens) s → Are text tokens 0 (policy_texts s) (length (lexemes_of text tokens))
+  unfolding reserved_words
+  policy-spells (policy_of k0 k1 dl da dp de dh kf df kc dc ks ds) =
+      reserved text tokens 1 refl k0 (lit< tt) (lit< tt) ▹ name refl k1
+      ▹ (load-spells dl ▹ attrs-spells da ▹ place-spells dp ▹ elect-spells de ▹ handlers-spells dh)
+      ▹ reserved text tokens 25 refl kf (lit< tt) (lit< tt) ▹ condition-spells df ▹ reserved text tokens 14 refl kc (lit< tt) (lit< tt)
+      ▹ order-spells text tokens dc ▹ reserved text tokens 15 refl ks (lit< tt) (lit< tt) ▹ order-spells text tokens ds

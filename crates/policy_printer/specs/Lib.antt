@@ -1,0 +1,6 @@
+pub mod WordTexts
+pub mod ExpressionTexts
+pub mod ConditionTexts
+pub mod PolicyTexts
+pub mod Printed
+pub mod Adds
