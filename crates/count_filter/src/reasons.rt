@@ -1,6 +1,6 @@
 //! Reasons why a system has a solution or none: points and certificates, and the two tests of them.
 
-ghost use Rattle.std.specs.Prelude.{◌≡◌, ◌↔◌, ◌⊎◌, ◌<◌, ◌^◌, length, IfOk, IfSome, IsSome, IsTrue};
+ghost use Rattle.std.specs.Prelude.{◌≡◌, ◌↔◌, ◌⊎◌, ◌<◌, ◌^◌, length, IfOk, IfSome, IsSome, IsTrue, Some, false, true};
 ghost use Rattle.linear_form.specs.Solution.{HasNoSolution, Solves};
 ghost use Rattle.linear_cert.specs.Right.{IsRight, cert_tree};
 ghost use Rattle.linear_cert.specs.Right.CertTree.{leaf};
@@ -14,7 +14,9 @@ use std::alloc::{AllocError, Global};
 pub fn has_no_solution(system: &System, cert: &Cert, point: &Point) -> bool
     requires { IsRight system.now.bounds system.now.rows (cert_tree cert.now)
         ⊎ Solves system.now.bounds system.now.rows point.now.vals }
-    ensures { IsTrue result ↔ HasNoSolution system.now.bounds system.now.rows }
+    ensures answer { IsTrue result ↔ HasNoSolution system.now.bounds system.now.rows }
+    ensures yes { result ≡ true → IsRight system.now.bounds system.now.rows (cert_tree cert.now) }
+    ensures no { result ≡ false → Solves system.now.bounds system.now.rows point.now.vals }
 {
     match answer_shown(system, cert, point) {
         Some(answer) => answer,
@@ -26,6 +28,8 @@ pub fn has_no_solution(system: &System, cert: &Cert, point: &Point) -> bool
 // rows, and `None` where neither shows anything.
 fn answer_shown(system: &System, cert: &Cert, point: &Point) -> Option<bool>
     ensures answer { IfSome result (λ answer. IsTrue answer ↔ HasNoSolution system.now.bounds system.now.rows) }
+    ensures yes { result ≡ Some true → IsRight system.now.bounds system.now.rows (cert_tree cert.now) }
+    ensures no { result ≡ Some false → Solves system.now.bounds system.now.rows point.now.vals }
     ensures right { IsRight system.now.bounds system.now.rows (cert_tree cert.now) → IsSome result }
     ensures solved { Solves system.now.bounds system.now.rows point.now.vals → IsSome result }
 {

@@ -29,7 +29,7 @@ nothing_asked told read_fault write_fault before after code writes =
     record {
       known = elim among [ inl e ↦ rw e refl | inr (inl e) ↦ rw e refl | inr (inr e) ↦ rw e refl ];
       unread = λ h. absurd (elim among [ inl e ↦ omega arith | inr (inl e) ↦ omega arith | inr (inr e) ↦ omega arith ]);
-      unwritten = λ h. let stop = cut _ _ _ _ _ _ writes (λ e. omega arith) h in (stop.0, inr (codes "bad words\n", refl, stop.1));
+      unwritten = λ h. let stop = cut _ _ _ _ _ _ writes (λ e. omega arith) h in (stop.0, (codes "bad words\n", refl, stop.1));
       no_memory = λ h. inr (codes "bad words\n", refl, starved _ _ _ _ _ _ writes (λ e. omega arith) h);
       bad_words = λ h. (refl, whole _ _ _ _ _ _ writes (λ e. omega arith) (λ e. omega arith));
       no_command = λ _. elim among [ inl e ↦ rw e refl | inr (inl e) ↦ rw e refl | inr (inr e) ↦ rw e refl ];
@@ -67,7 +67,7 @@ text_answered policy told read_fault write_fault before after code text a may is
       known = elim among [ inl e ↦ rw e (known_code a) | inr (inl e) ↦ rw e refl | inr (inr e) ↦ rw e refl ];
       unread = λ h. absurd (elim among [ inl e ↦ stop.0 (sym e ∙ h) | inr (inl e) ↦ omega arith | inr (inr e) ↦ omega arith ]);
       unwritten = λ h. let found = cut _ _ _ _ _ _ writes stop.1 h in
-          (found.0, inr (output_of a, (text, a, may, is_check, refl), found.1));
+          (found.0, (output_of a, (text, a, may, is_check, refl), found.1));
       no_memory = λ h. inr (output_of a, (text, a, may, is_check, refl), starved _ _ _ _ _ _ writes stop.2 h);
       bad_words = λ h. absurd (elim among [ inl e ↦ stop.3 (sym e ∙ h) | inr (inl e) ↦ omega arith | inr (inr e) ↦ omega arith ]);
       no_command = λ e. absurd (let clash : ⊥ = cc in clash);

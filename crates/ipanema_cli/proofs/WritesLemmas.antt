@@ -1,7 +1,7 @@
 -- What a status tells of what was written.
 use Rattle.std.proofs.Common.{◌≡◌, ◌≢◌, ℕ, ◌<◌, ◌⊎◌, inl, inr, List, Option, Bool, true, false, refl, sym, ◌∙◌, arith, if◌then◌else◌}
 use Rattle.sched_io.specs.Told.{Told, untold, missing, named, holds, IfHolds, MayHold}
-use Rattle.sched_io.specs.Written.{Adds, AddsPrefix}
+use Rattle.sched_io.specs.Written.{Adds, AddsPart, AddsPrefix}
 use Rattle.std.specs.Prelude.{length, replicate, ◌+◌}
 use Rattle.std.proofs.lemmas.List.{length-replicate}
 use Rattle.count_filter.specs.Judged.{all_hold}
@@ -42,7 +42,7 @@ whole output a fault before after code (written e added) not_cut memory = added
 whole output a fault before after code (cut_off e cause part) not_cut memory = absurd (not_cut e)
 whole output a fault before after code (out_of_memory e part) not_cut memory = absurd (memory e)
 
-pub cut : (output : List ℕ) (a : Status) (fault : Type 0) (before after : Option (List ℕ)) (code : ℕ) → Writes output a fault before after code → code_of a ≢ 5 → code ≡ 5 → fault × AddsPrefix output before after
+pub cut : (output : List ℕ) (a : Status) (fault : Type 0) (before after : Option (List ℕ)) (code : ℕ) → Writes output a fault before after code → code_of a ≢ 5 → code ≡ 5 → fault × AddsPart output before after
 cut output a fault before after code (written e added) other h = absurd (other (sym e ∙ h))
 cut output a fault before after code (cut_off e cause part) other h = (cause, part)
 cut output a fault before after code (out_of_memory e part) other h = absurd (omega arith)

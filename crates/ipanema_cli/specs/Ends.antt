@@ -1,7 +1,7 @@
 -- How a call may end: with its answer, or stopped by a fault of the outside or by want of memory.
 use Rattle.std.specs.Prelude.{◌≡◌, ℕ, ◌⊎◌, List, [], Option, Some, None, codes}
 use Rattle.sched_io.specs.Told.{Told, MayHold, missing}
-use Rattle.sched_io.specs.Written.{Adds, AddsPrefix}
+use Rattle.sched_io.specs.Written.{Adds, AddsPart, AddsPrefix}
 use Rattle.ipanema_cli.specs.CheckAnswer.{IsCheckOf, output_of, status_of}
 use Rattle.ipanema_cli.specs.Command.{Asked, check}
 use Rattle.ipanema_cli.specs.Status.{code_of}
@@ -12,7 +12,7 @@ use Rattle.ipanema_cli.specs.declared.status.Status.TheVariants as status
 -- How a call ends that has this output and this status, where `write_fault` is what stops it from writing.
 pub data Writes (output : List ℕ) (answer : Status) (write_fault : Type 0) (before after : Option (List ℕ)) (code : ℕ) : Type 0 where
   written : code ≡ code_of answer → Adds output before after → Writes output answer write_fault before after code
-  cut_off : code ≡ code_of status.WriteFault → write_fault → AddsPrefix output before after → Writes output answer write_fault before after code
+  cut_off : code ≡ code_of status.WriteFault → write_fault → AddsPart output before after → Writes output answer write_fault before after code
   out_of_memory : code ≡ code_of status.Memory → AddsPrefix output before after → Writes output answer write_fault before after code
 
 -- How `check` of a file ends of which this is told: as the text that it may hold is answered, unless it isn't loaded.

@@ -2,7 +2,7 @@
 use Rattle.std.specs.Prelude.{◌≡◌, ℕ, ◌<◌, ◌≤◌, ◌⊎◌, List, [], ◌∷◌, Option, Some, None, IsTrue, codes, length, ◌==◌, ◌↔◌}
 use Rattle.std.specs.List.{list_any}
 use Rattle.sched_io.specs.Told.{Told, MayHold, missing, holds}
-use Rattle.sched_io.specs.Written.{Adds, AddsPrefix}
+use Rattle.sched_io.specs.Written.{Adds, AddsPart, AddsPrefix}
 use Rattle.count_filter.specs.Judged.{Judges, all_hold}
 use Rattle.ipanema_cli.specs.CheckAnswer.{IsCheckOf, output_of}
 use Rattle.ipanema_cli.specs.Command.{Asked, check}
@@ -30,13 +30,17 @@ abbrev pub WritesPart : Option Asked → (List ℕ → Told) → Option (List �
 WritesPart asked told before after =
     Adds [] before after ⊎ ((output : List ℕ) × IsOutput asked told output × AddsPrefix output before after)
 
+-- of an output that the call might have a front was written that isn't all of it
+abbrev pub StopsIn : Option Asked → (List ℕ → Told) → Option (List ℕ) → Option (List ℕ) → Type 0
+StopsIn asked told before after = (output : List ℕ) × IsOutput asked told output × AddsPart output before after
+
 -- Each status has its cause.
 pub record HasCause (asked : Option Asked) (told : List ℕ → Told) (read_fault write_fault : Type 0) (before after : Option (List ℕ)) (code : ℕ) : Type 0 where
   pub known : OneOf (0 ∷ 1 ∷ 2 ∷ 4 ∷ 5 ∷ 6 ∷ 7 ∷ 10 ∷ []) code
   -- the outside failed in this call, or the command's file is told to be missing; and nothing is written
   pub unread : code ≡ 4 → (policy : List ℕ) × (asked ≡ Some (check policy)) × (read_fault ⊎ (told policy ≡ missing)) × Adds [] before after
-  -- the outside failed in this call
-  pub unwritten : code ≡ 5 → write_fault × WritesPart asked told before after
+  -- the outside failed in this call, before all of an output was written
+  pub unwritten : code ≡ 5 → write_fault × StopsIn asked told before after
   -- the one free answer
   pub no_memory : code ≡ 6 → WritesPart asked told before after
   -- the words are no command

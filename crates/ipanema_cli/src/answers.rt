@@ -3,7 +3,7 @@
 ghost use Rattle.std.specs.Prelude.{◌≡◌, ◌+◌, ◌≤◌, IfOk, OnOk, OnErr, IsTrue, length};
 ghost use Rattle.std.specs.List.{flat_map};
 ghost use Rattle.sched_io.specs.Faults.{Rose};
-ghost use Rattle.sched_io.specs.Written.{Adds, AddsPrefix};
+ghost use Rattle.sched_io.specs.Written.{Adds, AddsPart};
 ghost use Rattle.ipanema_cli.specs.CheckAnswer.{IsCheckOf, line_of, output_of, status_of, verdict_line};
 
 use crate::first_form::threshold_of;
@@ -53,7 +53,7 @@ impl CheckAnswer {
     /// Writes the answer, a line at a time.
     pub fn put<S: Sink>(&self, out: &mut S) -> Result<(), PutFault>
         ensures whole { OnOk result (Adds (output_of self.now) (S.written out.old) (S.written out.new)) }
-        ensures prefix { OnErr result (AddsPrefix (output_of self.now) (S.written out.old) (S.written out.new)) }
+        ensures part { OnErr result (AddsPart (output_of self.now) (S.written out.old) (S.written out.new)) }
         ensures failed { OnErr result (Rose (S.faults out.old) (S.faults out.new)) }
     {
         match self {
@@ -67,7 +67,7 @@ impl CheckAnswer {
 /// Writes the line of each obligation, and the verdict.
 fn put_judged<S: Sink>(out: &mut S, balance: &Balance) -> Result<(), PutFault>
     ensures whole { OnOk result (Adds (output_of (CheckAnswer.Judged balance.now)) (S.written out.old) (S.written out.new)) }
-    ensures prefix { OnErr result (AddsPrefix (output_of (CheckAnswer.Judged balance.now)) (S.written out.old) (S.written out.new)) }
+    ensures part { OnErr result (AddsPart (output_of (CheckAnswer.Judged balance.now)) (S.written out.old) (S.written out.new)) }
     ensures failed { OnErr result (Rose (S.faults out.old) (S.faults out.new)) }
 {
     put_lines(out, balance, &NAMES)?;
@@ -93,7 +93,7 @@ fn put_lines<S: Sink>(
     obligations: &[ObName],
 ) -> Result<(), PutFault>
     ensures whole { OnOk result (Adds (flat_map (line_of balance.now) obligations.now) (S.written out.old) (S.written out.new)) }
-    ensures prefix { OnErr result (AddsPrefix (flat_map (line_of balance.now) obligations.now) (S.written out.old) (S.written out.new)) }
+    ensures part { OnErr result (AddsPart (flat_map (line_of balance.now) obligations.now) (S.written out.old) (S.written out.new)) }
     ensures failed { OnErr result (Rose (S.faults out.old) (S.faults out.new)) }
     ensures later { S.faults out.old ≤ S.faults out.new }
 {

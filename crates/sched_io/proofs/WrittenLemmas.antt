@@ -1,6 +1,6 @@
 -- What is written in two parts is written whole.
-use Rattle.std.proofs.Common.{ℕ, List, [], ◌++◌, Option, Some, None, sym, ◌∙◌, ap, append_assoc, append-nil}
-use Rattle.sched_io.specs.Written.{Adds, AddsPrefix}
+use Rattle.std.proofs.Common.{◌≢◌, ℕ, List, [], ◌∷◌, ◌++◌, Option, Some, None, refl, sym, ◌∙◌, ap, append_assoc, append-nil}
+use Rattle.sched_io.specs.Written.{Adds, AddsPart}
 
 pub Adds-nil : (written : Option (List ℕ)) → Adds [] written written
 Adds-nil None = tt
@@ -13,11 +13,16 @@ Adds-append a b None (Some between) (Some after) first second = absurd first
 Adds-append a b (Some before) (Some between) (Some after) first second =
     second ∙ ap (λ (w : List ℕ). w ++ b) first ∙ append_assoc before a b
 
-pub AddsPrefix-append : (a b : List ℕ) (x y z : Option (List ℕ)) → Adds a x y → AddsPrefix b y z → AddsPrefix (a ++ b) x z
-AddsPrefix-append a b x y z first (front, rest, split, second) =
-    (a ++ front, rest, ap (λ (w : List ℕ). a ++ w) split ∙ sym (append_assoc a front rest), Adds-append a front x y z first second)
+pub AddsPart-append : (a b : List ℕ) (x y z : Option (List ℕ)) → Adds a x y → AddsPart b y z → AddsPart (a ++ b) x z
+AddsPart-append a b x y z first (front, rest, left, split, second) =
+    (a ++ front, rest, left, ap (λ (w : List ℕ). a ++ w) split ∙ sym (append_assoc a front rest), Adds-append a front x y z first second)
 
--- a prefix of a front is a prefix of the whole
-pub AddsPrefix-front : (a b : List ℕ) (x y : Option (List ℕ)) → AddsPrefix a x y → AddsPrefix (a ++ b) x y
-AddsPrefix-front a b x y (front, rest, split, added) =
-    (front, rest ++ b, ap (λ (w : List ℕ). w ++ b) split ∙ append_assoc front rest b, added)
+-- what is left before more is left with it
+still_left : (rest b : List ℕ) → rest ≢ [] → rest ++ b ≢ []
+still_left [] b left = absurd (left refl)
+still_left (x ∷ rest) b left = λ e. cc
+
+-- a part of a front is a part of the whole
+pub AddsPart-front : (a b : List ℕ) (x y : Option (List ℕ)) → AddsPart a x y → AddsPart (a ++ b) x y
+AddsPart-front a b x y (front, rest, left, split, added) =
+    (front, rest ++ b, still_left rest b left, ap (λ (w : List ℕ). w ++ b) split ∙ append_assoc front rest b, added)

@@ -2,7 +2,7 @@
 
 ghost use Rattle.std.specs.Prelude.{◌≡◌, ◌≢◌, ℕ, ◌<◌, ◌≤◌, List, [], Option, IfOk, OnOk, OnErr, length, take};
 ghost use Rattle.sched_io.specs.Faults.{Rose};
-ghost use Rattle.sched_io.specs.Written.{Adds, AddsPrefix};
+ghost use Rattle.sched_io.specs.Written.{Adds, AddsPart};
 
 use crate::faults::PutFault;
 
@@ -29,7 +29,7 @@ pub trait Sink {
 pub fn put_all<S: Sink>(out: &mut S, piece: &[u8]) -> Result<(), PutFault>
     ensures whole { OnOk result (Adds piece.now (S.written out.old) (S.written out.new)) }
     ensures failed { OnErr result (Rose (S.faults out.old) (S.faults out.new)) }
-    ensures prefix { OnErr result (AddsPrefix piece.now (S.written out.old) (S.written out.new)) }
+    ensures part { OnErr result (AddsPart piece.now (S.written out.old) (S.written out.new)) }
     ensures later { S.faults out.old ≤ S.faults out.new }
 {
     let mut rest = piece;

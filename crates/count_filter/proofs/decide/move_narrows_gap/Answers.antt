@@ -8,6 +8,6 @@ has_no_solution-requires c =
 
 pub returns : goal.returns
 returns c =
-    let refuted = rw c.in_ok-system.ensures at c.has_no_solution.ensures in
+    let refuted = rw c.in_ok-system.ensures at c.has_no_solution.ensures.answer in
     let decides = narrows_without_solution c.args.threshold in
     (λ holds. decides.0 (refuted.0 holds), λ says. refuted.1 (decides.1 says))
