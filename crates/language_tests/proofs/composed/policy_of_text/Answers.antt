@@ -2,7 +2,7 @@
 use Rattle.std.proofs.Common.{ℕ, ◌≤◌, List, length, subst, sym, arith}
 use Rattle.policy_lexer.specs.declared.token.Token.{Token}
 use Rattle.policy_lexer.specs.Tokens.{SpellsTokens}
-use Rattle.policy_parser.specs.Lexemes.{lexeme_of, lexemes_of}
+use Rattle.policy_grammar.specs.Lexemes.{lexeme_of, lexemes_of}
 use Rattle.policy_parser.proofs.Lexed.{map-length, tokens-few}
 use Rattle.policy_types.specs.Correct.{IsOfGrammar}
 use Rattle.policy_tree.specs.SyntaxTrees.{SyntaxTree, syntax_tree}
