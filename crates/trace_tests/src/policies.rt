@@ -9,7 +9,7 @@ use sched_base::MAX_ATTRIBUTES;
 use std::alloc::{AllocError, Global};
 
 /// The policy that always steals, with this load and an attribute of cores for each start.
-pub fn policy(alloc: Global, load: Load, starts: &[i32]) -> Result<Policy, AllocError>
+pub(crate) fn policy(alloc: Global, load: Load, starts: &[i32]) -> Result<Policy, AllocError>
     requires { length starts.now ≤ MAX_ATTRIBUTES }
 {
     let core_attrs = attributes(alloc, starts)?;
