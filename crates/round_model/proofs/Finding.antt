@@ -1,5 +1,5 @@
 -- Items by their place: the first that passes, and what holds of each.
-use Rattle.std.proofs.Common.{◌≡◌, ℕ, zero, suc, ◌<◌, Bool, true, false, cond, List, [], ◌∷◌, ◌++◌, length, drop, get_or, slice_get, find, All, IfSome, Some, refl, sym, ap, ◌∙◌, subst, arith}
+use Rattle.std.proofs.Common.{◌≡◌, ℕ, zero, suc, ◌<◌, Bool, true, false, cond, List, [], ◌∷◌, ◌++◌, length, drop, replicate, set, get_or, slice_get, find, All, IfSome, Some, refl, sym, ap, ◌∙◌, subst, arith}
 use Rattle.std.proofs.lemmas.Option.{get_or_from_slice_get, slice_get_within}
 use Rattle.round_model.specs.Moves.{without_first}
 
@@ -46,3 +46,8 @@ without_first-append test (y ∷ rest) ys x is =
       | true ↦ λ found. refl
       | false ↦ λ found. ap (λ (items : List _). y ∷ items) (without_first-append test rest ys x found)
     ] is
+
+-- one place more filled from the front
+pub fill_front : {X : Type 0} (n : ℕ) (x y : X) (ys : List X) → set (replicate n x ++ y ∷ ys) n x ≡ replicate (suc n) x ++ ys
+fill_front zero x y ys = refl
+fill_front (suc n) x y ys = ap (λ (rest : List _). x ∷ rest) (fill_front n x y ys)

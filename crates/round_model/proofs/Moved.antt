@@ -45,6 +45,11 @@ released-outcomes id wake b (o ∷ outcomes) core is =
     released-outcomes id wake b outcomes (with_outcome wake core o) (blocked-with_task id wake o.0 b o.1 core is)
     ∙ ap (λ (c : ModelCore). fold (with_outcome wake) c outcomes) (released-with_task id wake o.0 b o.1 core is)
 
+pub blocked-outcomes : (id wake : ℕ) (b : Blocked) (outcomes : List (Task × Put)) (core : ModelCore) → blocked_of id core ≡ Some b
+    → blocked_of id (fold (with_outcome wake) core outcomes) ≡ Some b
+blocked-outcomes id wake b [] core is = is
+blocked-outcomes id wake b (o ∷ outcomes) core is = blocked-outcomes id wake b outcomes (with_outcome wake core o) (blocked-with_task id wake o.0 b o.1 core is)
+
 -- a thread that comes to a core, and a blocked one that leaves
 released-admitted : (p : Meaning) (fresh : Bool) (t : Task) (id : ℕ) (b : Blocked) (core : ModelCore) → blocked_of id core ≡ Some b
     → released id (admitted p fresh t core) ≡ admitted p fresh t (released id core)
@@ -108,6 +113,23 @@ module _ (p : Meaning) (plan : Plan) (round : ℕ) (m : Cores) where
       unchanged : (b : Bool) → m c ≡ cond b (m c) (m c)
       unchanged true = refl
       unchanged false = refl
+
+  -- entries that move nothing
+  same_core : (b : Bool) (x : ModelCore) → x ≡ cond b x x
+  same_core true x = refl
+  same_core false x = refl
+
+  pub unmoved_round : (number c : ℕ) → m c ≡ moved p plan round (entry.Round number) m c
+  unfolding touches effect
+  unmoved_round number c = same_core (touches c (entry.Round number)) (m c)
+
+  pub unmoved_fail : (by from : ℕ) (reads : List ℕ) (c : ℕ) → m c ≡ moved p plan round (entry.Fail by from reads) m c
+  unfolding touches effect
+  unmoved_fail by from reads c = same_core (touches c (entry.Fail by from reads)) (m c)
+
+  pub unmoved_pass : (by : ℕ) (reads : List ℕ) (c : ℕ) → m c ≡ moved p plan round (entry.Pass by reads) m c
+  unfolding touches effect
+  unmoved_pass by reads c = same_core (touches c (entry.Pass by reads)) (m c)
 
   -- a blocked thread that wakes
   pub moved_wake : (thread by at : ℕ) (reads : List ℕ) (b : Blocked) → blocked_of thread (m by) ≡ Some b → (c : ℕ)

@@ -101,3 +101,18 @@ pub values_All : (P : CoreValues → Type 0) (n : ℕ) (values : List CoreValues
 values_All P n values each long k d inside =
     let below : k < n = omega (arith, length-take n values) in
     subst P (sym (get_or-take n values k d below ∙ get_or_default values k d no_values (omega arith))) (each k below)
+
+-- a choice and a target are among the cores
+pub choice_there : (p : Meaning) (n : ℕ) (f : ℕ → CoreValues) (a : ℕ) → IfSome (choice_of p n f a) (λ v. v < n)
+unfolding choice_of candidates_of
+choice_there p n f a =
+    (best_same (prefers p f a) (prefers p f a) (λ c. c < n) (λ x y first second. refl) (filter (is_candidate p f a) (range_with_len 0 n))
+    (filter_keeps (is_candidate p f a) (λ c. c < n) (range_with_len 0 n) (numbers_below n 0 n (omega arith)))).1
+
+pub target_there : (p : Meaning) (n : ℕ) (f : ℕ → CoreValues) (a : ℕ) → a < n → IfSome (target_of p n f a) (λ v. v < n)
+unfolding target_of
+target_there p n f a own = by_rule p.place
+  where
+    by_rule : (rule : PlaceTree) → IfSome (target_by rule n f a) (λ v. v < n)
+    by_rule here = own
+    by_rule (least e) = (best_same (is_less e f) (is_less e f) (λ c. c < n) (λ x y first second. refl) (range_with_len 0 n) (numbers_below n 0 n (omega arith))).1

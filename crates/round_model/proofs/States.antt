@@ -48,3 +48,6 @@ OnOk-then (Err e) is then = tt
 pub OnErr-then : {T E : Type 0} {P Q : Type 0} (r : Result T E) → OnErr r P → (P → Q) → OnErr r Q
 OnErr-then (Ok x) is then = tt
 OnErr-then (Err e) is then = then is
+
+pub listed_length : (n : ℕ) (m : Cores) → length (listed n m) ≡ n
+listed_length n m = length-map-range_with_len m 0 n

@@ -24,7 +24,7 @@ use Rattle.round_model.specs.Cores.{tasks_of}
 use Rattle.round_model.specs.Fits.{Fits, IsLast, IsMiddle, IsProgram, ThreadFits}
 use Rattle.round_model.specs.Moves.{admitted, core_after_event, with_outcome, with_task}
 use Rattle.round_model.specs.Programs.{blocking, burst_of, ending_now, is_last_unit, meeting_at_end, meeting_of, place_after, planned_of, tick}
-use Rattle.round_model.specs.Units.{InQueue, IsIdleCore, IsMet, IsUnit, Runs, core_after_unit, dids_of_unit, left_by, without}
+use Rattle.round_model.specs.Units.{HasTask, IsIdleCore, IsMet, IsUnit, Runs, core_after_unit, dids_of_unit, left_by, without}
 use Rattle.round_model.specs.Work.{IsOutcomeOfWork, Worked, after_meeting, after_unit, before, core_after_work, did_of, elected, elected_over, met, run_over, with_current, worked}
 use Rattle.round_model.proofs.Directories.{is_thread}
 use Rattle.round_model.proofs.Finding.{find-All}
@@ -78,7 +78,7 @@ module _ (p : Meaning) (plan : Plan) (round : ℕ) (core : ModelCore) (place : O
   unit_met b e wake is unit.Stuck m = absurd m
   unit_met b e wake is (unit.Met at x put until) m =
       let left : worked p plan round core ≡ left_by core (unit.Met place x put until) = is ∙ m.1 in
-      (left ∙ ap (λ o. left_by core (unit.Met o x put until)) (sym m.0), subst (λ o. InQueue o core) (sym m.0) runs.there, m.2)
+      (left ∙ ap (λ o. left_by core (unit.Met o x put until)) (sym m.0), subst (λ o. HasTask o core) (sym m.0) runs.there, m.2)
   unit_met b e wake is (unit.Over at id) m = absurd m
 
   pub unit_over : (b : Burst) → worked p plan round core ≡ after_meeting p round ending_now (ran b) (without place core) → IsUnit p plan round core (unit.Over place t.id)

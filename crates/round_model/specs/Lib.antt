@@ -8,11 +8,13 @@ pub mod Explains
 pub mod FailsExplained
 pub mod Fits
 pub mod FreshReads
+pub mod Kept
 pub mod Kinds
 pub mod Laws
 pub mod Legal
 pub mod Lists
 pub mod Moves
+pub mod Notes
 pub mod OnePlace
 pub mod Outcomes
 pub mod Owed
@@ -26,6 +28,7 @@ pub mod Rows
 pub mod Scenes
 pub mod Serial
 pub mod Spread
+pub mod Steps
 pub mod StillRounds
 pub mod Stretches
 pub mod Units

@@ -1,5 +1,5 @@
 -- A unit of work, as it is computed before anything changes.
-use Rattle.std.specs.Prelude.{◌≡◌, ℕ, ◌+◌, ◌<◌, ◌^◌, ◌++◌, List, [], ◌∷◌, length, remove, slice_get, Option, Some, None, IfSome, option_map}
+use Rattle.std.specs.Prelude.{◌≡◌, ℕ, ◌+◌, ◌<◌, ◌^◌, ◌++◌, List, [], ◌∷◌, length, remove, slice_get, Option, Some, None, IsSome, option_map}
 use Rattle.sched_base.specs.declared.task.Task.{Task}
 use Rattle.policy_tree.specs.declared.typed.Event.{Event}
 use Rattle.policy_tree.specs.declared.typed.Put.{Put}
@@ -47,16 +47,17 @@ with_listed put.Queue wake t core = record core { queue = core.queue ++ t ∷ []
 with_listed put.Keep wake t core = core
 with_listed put.Block wake t core = record core { blocked = core.blocked ++ record { task = t; wake = wake } ∷ [] }
 
--- the task has a place in the queue, where one is said
-abbrev pub InQueue : Option ℕ → ModelCore → Type 0
-InQueue place core = IfSome place (λ at. at < length core.queue)
+-- a task stands there: in that place of the queue, or as the current one
+abbrev pub HasTask : Option ℕ → ModelCore → Type 0
+HasTask None core = IsSome core.current
+HasTask (Some at) core = at < length core.queue
 
 -- the task of the unit stands at the core
 abbrev pub Stands : ModelCore → WorkUnit → Type 0
 Stands core unit.Idle = Unit {0}
 Stands core unit.Stuck = Unit {0}
-Stands core (unit.Met place t put wake) = InQueue place core
-Stands core (unit.Over place id) = InQueue place core
+Stands core (unit.Met place t put wake) = HasTask place core
+Stands core (unit.Over place id) = HasTask place core
 
 abbrev pub core_after_unit : ModelCore → WorkUnit → ModelCore
 core_after_unit core unit.Idle = core
@@ -80,9 +81,9 @@ abbrev pub IsUnit : Meaning → Plan → ℕ → ModelCore → WorkUnit → Type
 IsUnit p plan round core unit.Idle = worked p plan round core ≡ left_by core unit.Idle
 IsUnit p plan round core unit.Stuck = (worked p plan round core).dids ≡ []
 IsUnit p plan round core (unit.Met place t put wake) =
-    (worked p plan round core ≡ left_by core (unit.Met place t put wake)) × InQueue place core × IsTask p t
+    (worked p plan round core ≡ left_by core (unit.Met place t put wake)) × HasTask place core × IsTask p t
 IsUnit p plan round core (unit.Over place id) =
-    (worked p plan round core ≡ left_by core (unit.Over place id)) × InQueue place core
+    (worked p plan round core ≡ left_by core (unit.Over place id)) × HasTask place core
 
 -- nothing is there to run
 pub record IsIdleCore (core : ModelCore) : Type 0 where
@@ -93,7 +94,7 @@ pub record IsIdleCore (core : ModelCore) : Type 0 where
 pub record Runs (p : Meaning) (core : ModelCore) (place : Option ℕ) (t : Task) : Type 0 where
   pub runs : (elected p core).current ≡ Some t
   pub leaves : record (elected p core) { current = None } ≡ without place core
-  pub there : InQueue place core
+  pub there : HasTask place core
   pub task : IsTask p t
 
 -- the unit of a task that meets the event, taken from its place

@@ -11,6 +11,7 @@ ghost use Rattle.round_model.specs.After.{moved};
 ghost use Rattle.round_model.specs.Bounds.{CoreInBounds};
 ghost use Rattle.round_model.specs.Cores.{Cores, listed};
 ghost use Rattle.round_model.specs.Fits.{Fits};
+ghost use Rattle.round_model.specs.Kept.{Holds, IsKept};
 ghost use Rattle.round_model.specs.Lists.{Lists};
 ghost use Rattle.round_model.specs.Programs.{entering_task as task_entering, starting_attrs as attrs_at_start};
 ghost use Rattle.round_model.specs.Units.{IsSmallCore};
@@ -44,6 +45,7 @@ pub(crate) fn enter(
     requires at { at < length state.old }
     ensures ok { OnOk result ((n : ℕ) (m : Cores) (round by : ℕ) (reads : List ℕ) → state.old ≡ listed n m → at < n →
         state.new ≡ listed n (moved (meaning_of policy.now) plan.now round (entry.Enter thread by at reads) m)) }
+    ensures kept { OnOk result (IsKept (meaning_of policy.now) 0 1 state.old state.new) }
     ensures err { OnErr result (state.new ≡ state.old) }
 {
     match planned(directory, plan, thread) {
@@ -76,6 +78,7 @@ pub(crate) fn wake(
     requires at { at < length state.old }
     ensures ok { OnOk result ((n : ℕ) (m : Cores) (plan : Plan) (round : ℕ) (reads : List ℕ) → state.old ≡ listed n m → by < n → at < n →
         state.new ≡ listed n (moved (meaning_of policy.now) plan round (entry.Wake thread by at reads) m)) }
+    ensures kept { OnOk result (IsKept (meaning_of policy.now) 0 0 state.old state.new) }
     ensures err { OnErr result (state.new ≡ state.old) }
 {
     match blocked_task(state.get(by), thread) {
@@ -108,6 +111,7 @@ pub(crate) fn work(
     ensures ok { OnOk result ((n : ℕ) (m : Cores) (did : Did) → state.old ≡ listed n m → by < n →
         IsOutcomeOfWork (meaning_of policy.now) plan.now round (m by) did →
         state.new ≡ listed n (moved (meaning_of policy.now) plan.now round (entry.Work by did) m)) }
+    ensures kept { OnOk result (IsKept (meaning_of policy.now) 0 0 state.old state.new) }
     ensures err { OnErr result (state.new ≡ state.old) }
 {
     let unit = unit_of(policy, plan, directory, state.get(by), round);
@@ -130,6 +134,7 @@ pub(crate) fn steal(
     requires from { from < length state.old }
     ensures ok { OnOk result ((n : ℕ) (m : Cores) (p : Meaning) (plan : Plan) (round : ℕ) (reads : List ℕ) → state.old ≡ listed n m → by < n → from < n →
         state.new ≡ listed n (moved p plan round (entry.Steal by from thread reads) m)) }
+    ensures kept { OnOk result ((p : Meaning) → All (Holds p) state.old → IsKept p 0 0 state.old state.new) }
     ensures err { OnErr result (state.new ≡ state.old) }
 {
     match queued_task(state.get(from), thread) {

@@ -71,7 +71,7 @@ pub enum Entry {
 
 impl Entry {
     ghost use Rattle.round_model.specs.Entries.{acting_core as core_that_acts, acts as acts_in, reads_of, touches as touches_core};
-    ghost use Rattle.round_model.specs.Kinds.{is_attempt as makes_attempt, is_round as begins_round};
+    ghost use Rattle.round_model.specs.Kinds.{is_attempt as makes_attempt, is_round as begins_round, is_work as runs_unit};
 
     /// The core that acts in the entry, `None` where a round begins.
     pub fn acting_core(&self) -> Option<CoreId>
@@ -133,6 +133,13 @@ impl Entry {
         ensures { result ≡ begins_round self.now }
     {
         matches!(self, Entry::Round { .. })
+    }
+
+    /// Whether a core runs a unit.
+    pub fn is_work(&self) -> bool
+        ensures { result ≡ runs_unit self.now }
+    {
+        matches!(self, Entry::Work { .. })
     }
 
     /// Whether it is a core's attempt of the round: a steal, a fail or a pass.

@@ -1,6 +1,7 @@
 //! The model: what plans, states and histories mean, and which histories are legal.
 #![tactic(auto)]
 
+mod adding;
 mod attempts;
 mod changes;
 pub mod choices;
@@ -13,13 +14,16 @@ pub mod laws;
 pub mod measures;
 pub mod memory;
 mod moves;
+mod notes;
 pub mod past;
 pub mod plan;
 mod progress;
+mod rounds;
 pub mod state;
 mod unit;
 pub mod windows;
 
+pub use crate::adding::step;
 pub use crate::choices::{choice, target};
 pub use crate::entry::{Did, Entry, History};
 pub use crate::judge::step_ok;

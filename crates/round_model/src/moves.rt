@@ -1,12 +1,14 @@
 //! How threads come to cores and leave them.
 
-ghost use Rattle.std.specs.Prelude.{◌≡◌, ◌<◌, ℕ, All, OnErr, OnOk, Some, length, option_map, slice_get, slice_set};
-ghost use Rattle.policy_tree.specs.Meaning.{meaning_of};
+ghost use Rattle.std.specs.Prelude.{◌≡◌, ◌<◌, ℕ, All, IsSome, OnErr, OnOk, Some, length, option_map, slice_get, slice_set};
+ghost use Rattle.policy_tree.specs.Meaning.{Meaning, meaning_of};
 ghost use Rattle.policy_eval.specs.Fitting.{IsTask};
 ghost use Rattle.policy_eval.specs.Obligations.{MeetsHandlerObligations};
 ghost use Rattle.policy_eval.specs.Resolved.{IsResolved};
 ghost use Rattle.round_model.specs.Bounds.{CoreInBounds};
 ghost use Rattle.round_model.specs.Cores.{Cores, listed};
+ghost use Rattle.round_model.specs.declared.state.ModelCore.{ModelCore};
+ghost use Rattle.round_model.specs.Kept.{IsKept};
 ghost use Rattle.round_model.specs.Moves.{admitted, blocked_of, handed, is_blocked_task, is_task, queued_of, received, released, with_task};
 ghost use Rattle.round_model.specs.Units.{IsSmallCore};
 ghost use Rattle.round_model.specs.Updates.{IsFirstPlace, updated};
@@ -36,6 +38,7 @@ pub(crate) fn admit(
     ensures ok { OnOk result ((n : ℕ) (m : Cores) → state.old ≡ listed n m → at < n →
         state.new ≡ listed n (updated m at (admitted (meaning_of policy.now) fresh task (m at)))) }
     ensures len { length state.new ≡ length state.old }
+    ensures kept { OnOk result (IsKept (meaning_of policy.now) 0 1 state.old state.new) }
     ensures err { OnErr result (state.new ≡ state.old) }
 {
     let consts = state.get(at).consts;
@@ -56,6 +59,7 @@ fn put(
     ensures ok { OnOk result ((n : ℕ) (m : Cores) → state.old ≡ listed n m → at < n →
         state.new ≡ listed n (updated m at (with_task place 0 task (m at)))) }
     ensures len { length state.new ≡ length state.old }
+    ensures kept { OnOk result ((p : Meaning) → IsTask p task → IsKept p 0 1 state.old state.new) }
     ensures err { OnErr result (state.new ≡ state.old) }
 {
     let mut core = take_core(alloc, state, at);
@@ -76,6 +80,7 @@ pub(crate) fn receive(
     ensures ok { OnOk result ((n : ℕ) (m : Cores) → state.old ≡ listed n m → at < n →
         state.new ≡ listed n (updated m at (received task (m at)))) }
     ensures len { length state.new ≡ length state.old }
+    ensures kept { OnOk result ((p : Meaning) → IsTask p task → IsKept p 0 1 state.old state.new) }
     ensures err { OnErr result (state.new ≡ state.old) }
 {
     put(alloc, state, at, task, Put::Queue)
@@ -84,8 +89,10 @@ pub(crate) fn receive(
 /// The blocked thread of that number leaves the core's blocked list.
 pub(crate) fn release(alloc: Global, state: &mut State, at: CoreId, thread: ThreadId)
     requires { at < length state.old }
-    ensures { (n : ℕ) (m : Cores) → state.old ≡ listed n m → at < n →
+    ensures state { (n : ℕ) (m : Cores) → state.old ≡ listed n m → at < n →
         state.new ≡ listed n (updated m at (released thread (m at))) }
+    ensures kept { (p : Meaning) (core : ModelCore) → slice_get state.old at ≡ Some core →
+        IsSome (blocked_of thread core) → IsKept p 1 0 state.old state.new }
 {
     let mut core = take_core(alloc, state, at);
     take_blocked(&mut core, thread);
@@ -95,8 +102,10 @@ pub(crate) fn release(alloc: Global, state: &mut State, at: CoreId, thread: Thre
 /// The earliest queued thread of that number leaves the core's queue.
 pub(crate) fn hand_over(alloc: Global, state: &mut State, at: CoreId, thread: ThreadId)
     requires { at < length state.old }
-    ensures { (n : ℕ) (m : Cores) → state.old ≡ listed n m → at < n →
+    ensures state { (n : ℕ) (m : Cores) → state.old ≡ listed n m → at < n →
         state.new ≡ listed n (updated m at (handed thread (m at))) }
+    ensures kept { (p : Meaning) (core : ModelCore) → slice_get state.old at ≡ Some core →
+        IsSome (queued_of thread core) → IsKept p 1 0 state.old state.new }
 {
     let mut core = take_core(alloc, state, at);
     take_queued(&mut core, thread);

@@ -1,6 +1,6 @@
 //! One unit of work of a core.
 
-ghost use Rattle.std.specs.Prelude.{◌≡◌, ◌↔◌, ◌<◌, ◌≤◌, Contains, IfSome, IsTrue, MatchOption, OnErr, OnOk, length, option_to_list};
+ghost use Rattle.std.specs.Prelude.{◌≡◌, ◌↔◌, ◌<◌, ◌≤◌, Contains, IsTrue, MatchOption, OnErr, OnOk, option_to_list};
 ghost use Rattle.policy_tree.specs.Meaning.{meaning_of};
 ghost use Rattle.policy_eval.specs.Fitting.{IsTask};
 ghost use Rattle.policy_eval.specs.Obligations.{MeetsHandlerObligations};
@@ -10,7 +10,7 @@ ghost use Rattle.round_model.specs.Bounds.{CoreInBounds};
 ghost use Rattle.round_model.specs.Fits.{Fits};
 ghost use Rattle.round_model.specs.Lists.{Lists};
 ghost use Rattle.round_model.specs.Programs.{is_endless as has_no_end, is_last_unit as is_last, meeting_of as meeting_at, place_after as next_place};
-ghost use Rattle.round_model.specs.Units.{IsIdleCore, IsMeeting, IsMet, IsSmallCore, IsUnit, Runs, Stands, core_after_unit, dids_of_unit, with_listed, without};
+ghost use Rattle.round_model.specs.Units.{HasTask, IsIdleCore, IsMeeting, IsMet, IsSmallCore, IsUnit, Runs, Stands, core_after_unit, dids_of_unit, with_listed, without};
 
 use crate::directory::{Directory, next_burst_of};
 use crate::election::best_place;
@@ -134,7 +134,7 @@ fn grow(core: &mut ModelCore, task: Task, put: Put, wake: u32) -> Result<(), Mod
 
 /// Takes the task that ran out of the core.
 fn leave(core: &mut ModelCore, elected: Option<u32>)
-    requires { IfSome elected (λ at. at < length core.old.queue) }
+    requires { HasTask elected core.old }
     ensures { core.new ≡ without elected core.old }
 {
     match elected {

@@ -1,4 +1,4 @@
-use Rattle.std.proofs.Common.{ap, ◌∙◌, sym, subst, Some, true}
+use Rattle.std.proofs.Common.{ap, ◌∙◌, sym, subst, refl, Some, true, arith}
 use Rattle.sched_base.specs.declared.task.Task.{Task}
 use Rattle.policy_tree.specs.Meaning.{meaning_of}
 use Rattle.policy_eval.specs.Fitting.{IsTask}
@@ -26,3 +26,6 @@ returns-in-Some-clause-ok c =
     placed n m is at
     ∙ (ap (λ (t : Task). listed n (updated m c.args.at (admitted p true t (m c.args.at)))) c.entering_task.ensures
     ∙ listed_same n _ _ (λ k inside. moved_enter p c.args.plan.now round m c.args.thread by c.args.at reads (Some c.in-Some.thread.now) c.in-Some.ensures k)))
+
+pub returns-in-None-clause-kept : goal.returns-in-None-clause-kept
+returns-in-None-clause-kept c = record { len = refl; each = λ each. each; count = omega arith }
