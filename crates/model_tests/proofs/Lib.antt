@@ -1,4 +1,5 @@
 pub mod Beginnings
+pub mod Counting
 pub mod Happenings
 pub mod MissingRows
 pub mod PolicyRows

@@ -6,3 +6,4 @@ pub mod Policies
 pub mod PolicyRows
 pub mod RoundRows
 pub mod SerialRows
+pub mod Steps

@@ -8,5 +8,6 @@ pub mod plans;
 pub mod policies;
 pub mod rounds;
 pub mod serial;
+pub mod steps;
 #[cfg(test)]
 mod tests;

@@ -2,8 +2,9 @@
 
 use crate::builders::{basic_choice, basic_policy};
 use crate::plans::{may_come_first, no_past, two_cores};
+use crate::steps::legal_length_of_two;
 use round_model::{Did, Entry, History, opening, reads_fit, round_due, round_start, spread_of};
-use sched_base::Reads;
+use sched_base::{Pos, Reads, ThreadId};
 use std::test::Fail;
 
 #[test]
@@ -96,4 +97,73 @@ fn before_the_first_round(rt: HostRuntime) -> Result<(), Fail> {
         "no round is open"
     );
     Ok(())
+}
+
+/// Reads of two cores at these positions.
+fn two_reads(first: Pos, second: Pos) -> Reads {
+    let mut reads = Reads::empty();
+    reads.push(first);
+    reads.push(second);
+    reads
+}
+
+#[test]
+fn a_round_with_one_steal(rt: HostRuntime) -> Result<(), Fail> {
+    let policy = basic_policy(rt.alloc())?;
+    let plan = two_cores(rt.alloc())?;
+    let mut entries = Vec::new(rt.alloc());
+    entries.push(Entry::Round { number: 1 })?;
+    entries.push(entering(1))?;
+    entries.push(entering(2))?;
+    entries.push(Entry::Work {
+        by: 0,
+        did: Did::Kept(1),
+    })?;
+    entries.push(Entry::Pass {
+        by: 0,
+        reads: two_reads(4, 1),
+    })?;
+    entries.push(Entry::Work {
+        by: 1,
+        did: Did::Nothing,
+    })?;
+    entries.push(stealing(1))?;
+    assert_eq!(rt;
+        legal_length_of_two(rt.alloc(), &policy, &plan, &entries)?,
+        6,
+        "the current thread isn't taken"
+    );
+    let _wrong = entries.pop();
+    entries.push(stealing(2))?;
+    assert_eq!(rt;
+        legal_length_of_two(rt.alloc(), &policy, &plan, &entries)?,
+        7
+    );
+    entries.push(stealing(2))?;
+    assert_eq!(rt;
+        legal_length_of_two(rt.alloc(), &policy, &plan, &entries)?,
+        7,
+        "one attempt a round"
+    );
+    Ok(())
+}
+
+/// The thread enters by core 0, at core 0.
+fn entering(thread: ThreadId) -> Entry {
+    Entry::Enter {
+        thread,
+        by: 0,
+        at: 0,
+        reads: Reads::empty(),
+    }
+}
+
+/// Core 1 takes the thread of core 0.
+fn stealing(thread: ThreadId) -> Entry {
+    Entry::Steal {
+        by: 1,
+        from: 0,
+        thread,
+        reads: two_reads(5, 6),
+    }
 }
