@@ -25,5 +25,6 @@ pub mod Spreads
 pub mod States
 pub mod Stillness
 pub mod There
+pub mod Turning
 pub mod Units
 pub mod Walks

@@ -31,6 +31,7 @@ pub mod Spread
 pub mod Steps
 pub mod StillRounds
 pub mod Stretches
+pub mod Turns
 pub mod Units
 pub mod Updates
 pub mod Work

@@ -3,9 +3,11 @@
 ghost use Rattle.std.specs.Prelude.{◌≡◌, ◌↔◌, ◌+◌, ◌<◌, ◌≤◌, ℕ, IfSome, IsTrue, Some, length, slice_index};
 ghost use Rattle.policy_tree.specs.Meaning.{Meaning, meaning_of};
 ghost use Rattle.policy_eval.specs.Fitting.{CoreFits};
+ghost use Rattle.round_model.specs.After.{after};
+ghost use Rattle.round_model.specs.Attempts.{attempt_of};
 ghost use Rattle.round_model.specs.Choices.{choice_of, target_of, values_in};
 ghost use Rattle.round_model.specs.Fits.{Fits};
-ghost use Rattle.round_model.specs.Outcomes.{IsAttemptBy, IsPlacedBy, ReadIn, values_at};
+ghost use Rattle.round_model.specs.Outcomes.{IsAttemptBy, IsPlacedBy, ReadIn, entry_of_attempt, values_at};
 ghost use Rattle.round_model.specs.Past.{IsPastOf, IsWindow, OfEach, seen_in};
 ghost use Rattle.round_model.specs.Reads.{ReadsFit, round_start, values_of};
 
@@ -61,12 +63,37 @@ pub(crate) fn attempt_by(
     if !were_made(plan, past, reads) {
         return None;
     }
+    Some(attempt(policy, plan, past, core, reads))
+}
+
+/// The attempt of the core by these reads.
+pub(crate) fn attempt(
+    policy: &Policy,
+    plan: &Plan,
+    past: &Past,
+    core: CoreId,
+    reads: &Reads,
+) -> Attempt
+    requires fits { Fits (meaning_of policy.now) plan.now }
+    requires past { IsPastOf (meaning_of policy.now) plan.now past.now }
+    requires core { core < plan.now.cores }
+    requires read { ReadIn plan.now past.now reads.now }
+    ensures { OfEach (meaning_of policy.now) plan.now past.now (λ history. attempt_of (meaning_of policy.now) plan.now
+        (after (meaning_of policy.now) plan.now history) (values_at (meaning_of policy.now) plan.now history reads.now)
+        core reads.now ≡ entry_of_attempt core reads.now result) }
+{
     let chosen = chosen(policy, plan, past, core, reads);
-    Some(outcome(policy, plan, &past.state, core, chosen))
+    outcome(policy, plan, &past.state, core, chosen)
 }
 
 /// The core of all on which the core places a thread, by these reads.
-fn placed(policy: &Policy, plan: &Plan, past: &Past, core: CoreId, reads: &Reads) -> CoreId
+pub(crate) fn placed(
+    policy: &Policy,
+    plan: &Plan,
+    past: &Past,
+    core: CoreId,
+    reads: &Reads,
+) -> CoreId
     requires fits { Fits (meaning_of policy.now) plan.now }
     requires past { IsPastOf (meaning_of policy.now) plan.now past.now }
     requires core { core < plan.now.cores }

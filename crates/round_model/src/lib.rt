@@ -20,6 +20,7 @@ pub mod plan;
 mod progress;
 mod rounds;
 pub mod state;
+pub mod turns;
 mod unit;
 pub mod windows;
 
@@ -34,4 +35,5 @@ pub use crate::plan::{
     Burst, BurstList, ConstList, CoreList, Ending, OrderLine, OrderList, Plan, Planned, PlannedList,
 };
 pub use crate::state::{Blocked, BlockedList, ModelCore, State, TaskList};
+pub use crate::turns::{NextStep, next_step};
 pub use crate::windows::{reads_fit, round_start};

@@ -1,0 +1,24 @@
+use Rattle.std.proofs.Common.{◌≡◌, ◌∙◌, ap, sym}
+use Rattle.policy_tree.specs.Meaning.{meaning_of}
+use Rattle.round_model.specs.declared.attempts.Attempt.TheVariants as attempt
+use Rattle.round_model.specs.Outcomes.{entry_of_attempt}
+use Rattle.round_model.proofs.Turning.{attempt_may, read_fit}
+use Rattle.round_model.proofs.turns.attempt_entry.Goals as goal
+
+pub returns-in-Pass-clause-legal : goal.returns-in-Pass-clause-legal
+returns-in-Pass-clause-legal c history stands begun owes =
+    let p = meaning_of c.args.policy.now in let plan = c.args.plan.now in
+    attempt_may p plan history c.args.core c.args.reads attempt.Pass (read_fit p plan c.args.past.now history c.args.reads stands c.requires.read)
+    (c.attempt.ensures history stands ∙ ap (entry_of_attempt c.args.core c.args.reads) c.in-Pass.is) begun c.requires.core owes
+
+pub returns-in-Fail-clause-legal : goal.returns-in-Fail-clause-legal
+returns-in-Fail-clause-legal c history stands begun owes =
+    let p = meaning_of c.args.policy.now in let plan = c.args.plan.now in
+    attempt_may p plan history c.args.core c.args.reads (attempt.Fail c.in-Fail.from) (read_fit p plan c.args.past.now history c.args.reads stands c.requires.read)
+    (c.attempt.ensures history stands ∙ ap (entry_of_attempt c.args.core c.args.reads) c.in-Fail.is) begun c.requires.core owes
+
+pub returns-in-Steal-clause-legal : goal.returns-in-Steal-clause-legal
+returns-in-Steal-clause-legal c history stands begun owes =
+    let p = meaning_of c.args.policy.now in let plan = c.args.plan.now in
+    attempt_may p plan history c.args.core c.args.reads (attempt.Steal c.in-Steal.from c.in-Steal.thread) (read_fit p plan c.args.past.now history c.args.reads stands c.requires.read)
+    (c.attempt.ensures history stands ∙ ap (entry_of_attempt c.args.core c.args.reads) c.in-Steal.is) begun c.requires.core owes
