@@ -6,6 +6,7 @@ pub mod AddedStands
 pub mod Beginnings
 pub mod Begun
 pub mod BegunBounds
+pub mod Bursts
 pub mod Constants
 pub mod Directories
 pub mod Elections

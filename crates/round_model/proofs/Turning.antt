@@ -1,5 +1,5 @@
 -- The next step of a core in serial play, part by part.
-use Rattle.std.proofs.Common.{◌≡◌, ℕ, ◌+◌, ◌==◌, ◌<◌, ◌≤◌, Bool, true, false, cond, List, [], ◌∷◌, ◌++◌, length, slice_index, get_or, All, Option, Some, None, Contains, IsSomeAnd, IfSome, IsNone, IsTrue, IsFalse, option_map, option_to_list, refl, sym, ap, ap₂, subst, ◌∙◌, arith}
+use Rattle.std.proofs.Common.{◌≡◌, ℕ, ◌<◌, true, false, cond, List, [], ◌∷◌, length, Option, Some, None, Contains, IsSomeAnd, IfSome, is_some, IsNone, option_map, option_to_list, refl, sym, ap, ap₂, subst, ◌∙◌, arith}
 use Rattle.std.proofs.lemmas.Grind.{get_or_default_zero}
 use Rattle.policy_tree.specs.Meaning.{Meaning, PlaceTree, here, least}
 use Rattle.round_model.specs.declared.attempts.Attempt.{Attempt}
@@ -10,7 +10,11 @@ use Rattle.round_model.specs.declared.entry.Entry.TheVariants as entry
 use Rattle.round_model.specs.declared.past.Past.{Past}
 use Rattle.round_model.specs.declared.plan.Plan.{Plan}
 use Rattle.round_model.specs.declared.plan.Planned.{Planned}
+use Rattle.sched_base.specs.declared.task.Task.{Task}
 use Rattle.round_model.specs.declared.state.Blocked.{Blocked}
+use Rattle.round_model.specs.declared.state.ModelCore.{ModelCore}
+use Rattle.round_model.specs.declared.unit.Unit.{Unit as WorkUnit}
+use Rattle.round_model.specs.declared.unit.Unit.TheVariants as unit
 use Rattle.round_model.specs.declared.turns.NextStep.{NextStep}
 use Rattle.round_model.specs.declared.turns.NextStep.TheVariants as next
 use Rattle.round_model.specs.After.{after, round_of}
@@ -21,12 +25,16 @@ use Rattle.round_model.specs.Legal.{LegalInRound, LegalNext, rounds_begun}
 use Rattle.round_model.specs.Outcomes.{ReadIn, entry_of_attempt, values_at}
 use Rattle.round_model.specs.Past.{StandsFor}
 use Rattle.round_model.specs.Progress.{HasLetIn, OwesAttempt, OwesUnit}
-use Rattle.round_model.specs.Reads.{IsReadOf, ReadsFit, round_start}
-use Rattle.round_model.specs.Rows.{LegalEnter, LegalWake, PlacementReads, Row}
+use Rattle.round_model.specs.Reads.{ReadsFit, round_start}
+use Rattle.round_model.specs.Rows.{PlacementReads}
 use Rattle.round_model.specs.Scenes.{Scene, entering_next, has_attempted, has_worked, own_entries, scene_of, waking_next}
-use Rattle.round_model.specs.Serial.{SerialState, attempt_step, enter_step, late_step, step_of, wake_step, with_entry, with_placed, with_work}
-use Rattle.round_model.specs.Turns.{HasWoken, IsLateStepOf, IsStepOf, MayAdd, placement_by, step_of_dids, with_step}
+use Rattle.round_model.specs.Serial.{attempt_step, enter_step, late_step, step_of, wake_step, with_entry, with_placed, with_work}
+use Rattle.round_model.specs.Turns.{IsLateStepOf, IsStepOf, MayAdd, placement_by, step_of_dids, with_step}
+use Rattle.round_model.specs.Bursts.{HasBurst, HaveBursts}
+use Rattle.round_model.specs.Fits.{Fits}
+use Rattle.round_model.specs.Units.{IsUnit, dids_of_unit}
 use Rattle.round_model.specs.Work.{worked}
+use Rattle.round_model.proofs.Bursts.{elects_burst, have_bursts}
 use Rattle.round_model.proofs.Judging.{attempt_legal, enter_legal, some_blocked, some_named, wake_legal, work_legal}
 
 -- reads that lie in the rows of a past are such as its history allows
@@ -111,16 +119,16 @@ module _ (p : Meaning) (plan : Plan) (h : List Entry) (a : ℕ) where
   unfolding scene_of
   late_over look attempted looks is_look =
       ap (λ b. cond b (record { history = h; looks = looks })
-          (cond (has_worked (own_entries h a)) (attempt_step p plan (record { history = h; looks = looks }) (scene_of p plan h a) a (looks a))
-          (with_work (record { history = h; looks = looks }) a (worked p plan (round_of h) (after p plan h a)).dids))) attempted
+      (cond (has_worked (own_entries h a)) (attempt_step p plan (record { history = h; looks = looks }) (scene_of p plan h a) a (looks a))
+      (with_work (record { history = h; looks = looks }) a (worked p plan (round_of h) (after p plan h a)).dids))) attempted
 
   pub late_work : (look : Option (List ℕ)) → has_attempted (own_entries h a) ≡ false → has_worked (own_entries h a) ≡ false
       → IsLateStepOf p plan h a look (step_of_dids a (worked p plan (round_of h) (after p plan h a)).dids)
   unfolding scene_of
   late_work look attempted first looks is_look =
       ap₂ (λ b c. cond b (record { history = h; looks = looks })
-          (cond c (attempt_step p plan (record { history = h; looks = looks }) (scene_of p plan h a) a (looks a))
-          (with_work (record { history = h; looks = looks }) a (worked p plan (round_of h) (after p plan h a)).dids))) attempted first
+      (cond c (attempt_step p plan (record { history = h; looks = looks }) (scene_of p plan h a) a (looks a))
+      (with_work (record { history = h; looks = looks }) a (worked p plan (round_of h) (after p plan h a)).dids))) attempted first
       ∙ same (worked p plan (round_of h) (after p plan h a)).dids
     where
       same : (dids : List Did) → with_work (record { history = h; looks = looks }) a dids
@@ -133,8 +141,8 @@ module _ (p : Meaning) (plan : Plan) (h : List Entry) (a : ℕ) where
   unfolding scene_of
   late_attempt looks look attempted has is_look =
       ap₂ (λ b c. cond b (record { history = h; looks = looks })
-          (cond c (attempt_step p plan (record { history = h; looks = looks }) (scene_of p plan h a) a (looks a))
-          (with_work (record { history = h; looks = looks }) a (worked p plan (round_of h) (after p plan h a)).dids))) attempted has
+      (cond c (attempt_step p plan (record { history = h; looks = looks }) (scene_of p plan h a) a (looks a))
+      (with_work (record { history = h; looks = looks }) a (worked p plan (round_of h) (after p plan h a)).dids))) attempted has
       ∙ ap (attempt_step p plan (record { history = h; looks = looks }) (scene_of p plan h a) a) is_look
 
   pub late_look : has_attempted (own_entries h a) ≡ false → has_worked (own_entries h a) ≡ true → IsLateStepOf p plan h a None next.Looks
@@ -204,3 +212,14 @@ none_waking (Some b) is = absurd (cc)
 pub is_none : {X : Type 0} (found : Option X) → found ≡ None → IsNone found
 is_none None is = refl
 is_none (Some x) is = absurd (cc)
+
+-- a task that stands at a core after a history has a burst, and so the core's unit has something to say
+pub never_stuck : (p : Meaning) (plan : Plan) (round : ℕ) (h : List Entry) (a : ℕ) (core : ModelCore) (u : WorkUnit) (told : Option Did) → Fits p plan → core ≡ after p plan h a
+    → IsUnit p plan round core u → option_to_list told ≡ dids_of_unit u → told ≡ None → ⊥
+never_stuck p plan round h a core unit.Idle told fits same is tells none = let no_words = ap option_to_list none in absurd (cc)
+never_stuck p plan round h a core unit.Stuck told fits same is tells none =
+    let have = subst (HaveBursts plan) (sym same) (have_bursts p plan h a fits) in
+    let has = subst (λ (t : Option Task). IfSome t (HasBurst plan)) is.runs (elects_burst p plan core have) in
+    let lacks = ap is_some is.lacks in absurd (cc)
+never_stuck p plan round h a core (unit.Met place t put wake) told fits same is tells none = let no_words = ap option_to_list none in absurd (cc)
+never_stuck p plan round h a core (unit.Over place id) told fits same is tells none = let no_words = ap option_to_list none in absurd (cc)

@@ -61,7 +61,8 @@ module _ (p : Meaning) (plan : Plan) (round : ℕ) (core : ModelCore) (place : O
   worked_on = ap (run_over p plan round (elected p core)) runs.runs
 
   pub unit_stuck : burst_of plan t ≡ None → IsUnit p plan round core unit.Stuck
-  unit_stuck none = ap (λ (w : Worked). w.dids) (worked_on ∙ ap (after_unit p round (elected p core) t) none)
+  unit_stuck none =
+      record { dids = ap (λ (w : Worked). w.dids) (worked_on ∙ ap (after_unit p round (elected p core) t) none); task = t; runs = runs.runs; lacks = none }
 
   -- the task as the unit leaves it, before it meets anything
   abbrev pub ran : Burst → Task
@@ -150,7 +151,7 @@ queued_tasks p core each = behind core.current each
 pub unit_dids : (p : Meaning) (plan : Plan) (round : ℕ) (core : ModelCore) (u : WorkUnit) → IsUnit p plan round core u
     → (worked p plan round core).dids ≡ dids_of_unit u
 unit_dids p plan round core unit.Idle is = ap (λ (w : Worked). w.dids) is
-unit_dids p plan round core unit.Stuck is = is
+unit_dids p plan round core unit.Stuck is = is.dids
 unit_dids p plan round core (unit.Met place t put wake) is = ap (λ (w : Worked). w.dids) is.0
 unit_dids p plan round core (unit.Over place id) is = ap (λ (w : Worked). w.dids) is.0
 
@@ -164,7 +165,7 @@ admitted_once p fresh t core outcome one = ap (fold (with_outcome 0) core) one
 pub unit_core : (p : Meaning) (plan : Plan) (round : ℕ) (core : ModelCore) (u : WorkUnit) (did : Did) → IsUnit p plan round core u
     → IsOutcomeOfWork p plan round core did → core_after_work p plan round core ≡ core_after_unit core u
 unit_core p plan round core unit.Idle did is told = ap (λ (w : Worked). w.core) is
-unit_core p plan round core unit.Stuck did is told = absurd (nothing_told did (subst (λ (dids : List Did). Contains dids did) is told))
+unit_core p plan round core unit.Stuck did is told = absurd (nothing_told did (subst (λ (dids : List Did). Contains dids did) is.dids told))
   where
     nothing_told : (d : Did) → Contains [] d → ⊥
     nothing_told d (k, inside, is_it) = omega arith

@@ -1,5 +1,5 @@
 -- The next step of a core in serial play, as it is computed.
-use Rattle.std.specs.Prelude.{◌≡◌, ℕ, ◌==◌, cond, List, [], ◌∷◌, Option, Some, None, IsNone}
+use Rattle.std.specs.Prelude.{◌≡◌, ℕ, ◌==◌, cond, List, [], ◌∷◌, Option, Some, IsNone}
 use Rattle.policy_tree.specs.Meaning.{Meaning, PlaceTree, here, least}
 use Rattle.round_model.specs.declared.entry.Did.{Did}
 use Rattle.round_model.specs.declared.entry.Entry.{Entry}

@@ -18,7 +18,7 @@ use Rattle.round_model.specs.declared.unit.Meeting.TheVariants as meeting
 use Rattle.round_model.specs.declared.unit.Unit.{Unit as WorkUnit}
 use Rattle.round_model.specs.declared.unit.Unit.TheVariants as unit
 use Rattle.round_model.specs.Moves.{with_task}
-use Rattle.round_model.specs.Programs.{Meeting, blocking, ending_now, tick, yielding}
+use Rattle.round_model.specs.Programs.{Meeting, blocking, burst_of, ending_now, tick, yielding}
 use Rattle.round_model.specs.Work.{Worked, before, did_of, elected, met, worked}
 
 -- the task can be compared by the keys of an order
@@ -76,10 +76,17 @@ dids_of_unit (unit.Over place id) = did.Ended id ∷ []
 abbrev pub left_by : ModelCore → WorkUnit → Worked
 left_by core u = record { core = core_after_unit core u; dids = dids_of_unit u }
 
--- the unit is the one that the core runs in that round. Of a task without a burst it says nothing
+-- the task that is to run has no burst in the plan, and nothing is said of it
+pub record IsStuck (p : Meaning) (plan : Plan) (round : ℕ) (core : ModelCore) : Type 0 where
+  pub dids : (worked p plan round core).dids ≡ []
+  pub task : Task
+  pub runs : (elected p core).current ≡ Some task
+  pub lacks : burst_of plan task ≡ None
+
+-- the unit is the one that the core runs in that round
 abbrev pub IsUnit : Meaning → Plan → ℕ → ModelCore → WorkUnit → Type 0
 IsUnit p plan round core unit.Idle = worked p plan round core ≡ left_by core unit.Idle
-IsUnit p plan round core unit.Stuck = (worked p plan round core).dids ≡ []
+IsUnit p plan round core unit.Stuck = IsStuck p plan round core
 IsUnit p plan round core (unit.Met place t put wake) =
     (worked p plan round core ≡ left_by core (unit.Met place t put wake)) × HasTask place core × IsTask p t
 IsUnit p plan round core (unit.Over place id) =

@@ -1,5 +1,6 @@
 //! Laws of the model, each a function without parameters whose contract is the law.
 
+ghost use Rattle.round_model.specs.Bursts.{BurstsLaw};
 ghost use Rattle.round_model.specs.Laws.{ActingLaw, ConstantsLaw, EnteringLaw, LegalGrows, OneMoreLaw, OpeningLaw, PrefixLaw, UntouchedLaw};
 
 /// The state after a longer history is what its last entry makes of the state before it.
@@ -40,4 +41,9 @@ pub fn law_acting()
 /// In a legal history a thread enters by its planned core in its planned round.
 pub fn law_entering()
     ensures { EnteringLaw }
+{}
+
+/// Each thread that stands at a core has a burst to run next.
+pub fn law_bursts()
+    ensures { BurstsLaw }
 {}

@@ -1,8 +1,9 @@
 //! What a core does next in its turn, as serial play has it.
 
-ghost use Rattle.std.specs.Prelude.{◌≡◌, ◌<◌, IfSome, Some};
+ghost use Rattle.std.specs.Prelude.{◌≡◌, ◌≢◌, ◌<◌, IfSome, IsTrue, Some};
 ghost use Rattle.policy_tree.specs.Meaning.{meaning_of};
 ghost use Rattle.policy_eval.specs.Obligations.{MeetsHandlerObligations};
+ghost use Rattle.round_model.specs.declared.turns.NextStep.TheVariants as next;
 ghost use Rattle.round_model.specs.After.{after, round_of};
 ghost use Rattle.round_model.specs.Attempts.{attempt_of};
 ghost use Rattle.round_model.specs.Choices.{target_of};
@@ -10,6 +11,7 @@ ghost use Rattle.round_model.specs.Fits.{Fits};
 ghost use Rattle.round_model.specs.Legal.{LegalNext, rounds_begun};
 ghost use Rattle.round_model.specs.Outcomes.{ReadIn, values_at};
 ghost use Rattle.round_model.specs.Past.{IsPastOf, OfEach};
+ghost use Rattle.round_model.specs.Scenes.{has_attempted, own_entries};
 ghost use Rattle.round_model.specs.Progress.{HasLetIn, OwesAttempt};
 ghost use Rattle.round_model.specs.Work.{worked};
 ghost use Rattle.round_model.specs.Turns.{HasWoken, IsLateStepOf, IsStepOf, MayAdd, placement_by, step_of_dids};
@@ -56,6 +58,8 @@ pub fn next_step(
         IsStepOf (meaning_of policy.now) plan.now history core fresh.now look result) }
     ensures legal { OfEach (meaning_of policy.now) plan.now past.now (λ history.
         MayAdd (meaning_of policy.now) plan.now history result) }
+    ensures over { OfEach (meaning_of policy.now) plan.now past.now (λ history.
+        result ≡ next.Over → IsTrue (has_attempted (own_entries history core))) }
 {
     if let Some(thread) = arriving(past, core) {
         let (at, reads) = place(policy, plan, past, core, fresh);
@@ -113,6 +117,8 @@ fn late_step(
     ensures legal { OfEach (meaning_of policy.now) plan.now past.now (λ history.
         HasLetIn plan.now history core → HasWoken (meaning_of policy.now) plan.now history core →
         MayAdd (meaning_of policy.now) plan.now history result) }
+    ensures over { OfEach (meaning_of policy.now) plan.now past.now (λ history.
+        result ≡ next.Over → IsTrue (has_attempted (own_entries history core))) }
 {
     let turn = past.turns.get(core);
     if turn.attempted {
@@ -133,8 +139,9 @@ fn work_step(policy: &Policy, plan: &Plan, past: &Past, core: CoreId) -> NextSte
     requires handlers { MeetsHandlerObligations (meaning_of policy.now) }
     requires past { IsPastOf (meaning_of policy.now) plan.now past.now }
     requires core { core < plan.now.cores }
-    ensures { OfEach (meaning_of policy.now) plan.now past.now (λ history.
-        result ≡ step_of_dids core (worked (meaning_of policy.now) plan.now (round_of history) (after (meaning_of policy.now) plan.now history core)).dids) }
+    ensures step { OfEach (meaning_of policy.now) plan.now past.now (λ history. result ≡ step_of_dids core
+        (worked (meaning_of policy.now) plan.now (round_of history) (after (meaning_of policy.now) plan.now history core)).dids) }
+    ensures runs { OfEach (meaning_of policy.now) plan.now past.now (λ history. result ≢ next.Over) }
 {
     let state = past.state.get(core);
     match unit_of(policy, plan, &past.directory, state, past.rounds).did() {

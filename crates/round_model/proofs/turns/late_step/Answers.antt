@@ -1,11 +1,9 @@
-use Rattle.std.proofs.Common.{◌≡◌, ◌<◌, ◌∙◌, Bool, ℕ, List, Option, Some, None, ap, refl, sym, subst}
+use Rattle.std.proofs.Common.{◌<◌, ◌∙◌, ℕ, List, Option, ap, refl, sym, subst}
 use Rattle.policy_tree.specs.Meaning.{meaning_of}
 use Rattle.round_model.specs.declared.past.Turn.{Turn}
-use Rattle.round_model.specs.declared.turns.NextStep.{NextStep}
 use Rattle.round_model.specs.declared.turns.NextStep.TheVariants as next
 use Rattle.round_model.specs.After.{after, round_of}
-use Rattle.round_model.specs.Scenes.{has_attempted, has_worked, own_entries}
-use Rattle.round_model.specs.Turns.{IsLateStepOf, MayAdd, step_of_dids}
+use Rattle.round_model.specs.Turns.{IsLateStepOf, MayAdd}
 use Rattle.round_model.specs.Work.{worked}
 use Rattle.round_model.proofs.Pasts.{turn_at}
 use Rattle.round_model.proofs.Turning.{late_entry, late_look, late_over, late_work, work_may}
@@ -21,14 +19,14 @@ pub returns-then-not-turn-clause-step : goal.returns-then-not-turn-clause-step
 returns-then-not-turn-clause-step c history stands =
     let p = meaning_of c.args.policy.now in let plan = c.args.plan.now in
     let same = turn_at p plan c.args.past.now history stands c.args.core c.get-turn.result.now c.requires.core c.get-turn.ensures.item in
-    subst (IsLateStepOf p plan history c.args.core c.args.look) (sym (c.work_step.ensures history stands))
+    subst (IsLateStepOf p plan history c.args.core c.args.look) (sym (c.work_step.ensures.step history stands))
     (late_work p plan history c.args.core c.args.look (sym (ap (λ (t : Turn). t.attempted) same) ∙ c.if-turn.false) (sym (ap (λ (t : Turn). t.worked) same) ∙ c.if-not-turn.true))
 
 pub returns-then-not-turn-clause-legal : goal.returns-then-not-turn-clause-legal
 returns-then-not-turn-clause-legal c history stands entered woken =
     let p = meaning_of c.args.policy.now in let plan = c.args.plan.now in
     let same = turn_at p plan c.args.past.now history stands c.args.core c.get-turn.result.now c.requires.core c.get-turn.ensures.item in
-    subst (MayAdd p plan history) (sym (c.work_step.ensures history stands))
+    subst (MayAdd p plan history) (sym (c.work_step.ensures.step history stands))
     (work_may p plan history c.args.core (worked p plan (round_of history) (after p plan history c.args.core)).dids refl (subst (λ (n : ℕ). 0 < n) stands.rounds c.requires.begun) c.requires.core entered
     (record { woken = woken; first = sym (ap (λ (t : Turn). t.worked) same) ∙ c.if-not-turn.true }))
 
@@ -53,3 +51,12 @@ returns-in-Some-clause-legal c history stands entered woken =
     let same = turn_at p plan c.args.past.now history stands c.args.core c.get-turn.result.now c.requires.core c.get-turn.ensures.item in
     c.attempt_entry.ensures.legal history stands (subst (λ (n : ℕ). 0 < n) stands.rounds c.requires.begun)
     (record { worked = sym (ap (λ (t : Turn). t.worked) same) ∙ c.if-not-turn.false; first = sym (ap (λ (t : Turn). t.attempted) same) ∙ c.if-turn.false })
+
+pub returns-then-turn-clause-over : goal.returns-then-turn-clause-over
+returns-then-turn-clause-over c history stands =
+    let p = meaning_of c.args.policy.now in let plan = c.args.plan.now in
+    let same = turn_at p plan c.args.past.now history stands c.args.core c.get-turn.result.now c.requires.core c.get-turn.ensures.item in
+    λ over. sym (ap (λ (t : Turn). t.attempted) same) ∙ c.if-turn.true
+
+pub returns-then-not-turn-clause-over : goal.returns-then-not-turn-clause-over
+returns-then-not-turn-clause-over c history stands = λ over. absurd (c.work_step.ensures.runs history stands over)

@@ -1,4 +1,4 @@
-use Rattle.std.proofs.Common.{◌≡◌, ◌<◌, ◌∙◌, ℕ, List, Option, Some, None, ap, refl, sym, subst, option_map}
+use Rattle.std.proofs.Common.{◌<◌, ◌∙◌, ℕ, sym, subst}
 use Rattle.policy_tree.specs.Meaning.{meaning_of}
 use Rattle.round_model.specs.After.{after, round_of}
 use Rattle.round_model.specs.Scenes.{entering_next, own_entries, waking_next}
