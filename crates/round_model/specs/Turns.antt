@@ -8,6 +8,7 @@ use Rattle.round_model.specs.declared.plan.Plan.{Plan}
 use Rattle.round_model.specs.declared.turns.NextStep.{NextStep}
 use Rattle.round_model.specs.declared.turns.NextStep.TheVariants as next
 use Rattle.round_model.specs.After.{after, round_of}
+use Rattle.round_model.specs.Entries.{acting_core}
 use Rattle.round_model.specs.FreshReads.{fresh_reads}
 use Rattle.round_model.specs.Legal.{LegalNext}
 use Rattle.round_model.specs.Scenes.{scene_of, waking_next}
@@ -43,6 +44,12 @@ abbrev pub IsLateStepOf : Meaning → Plan → List Entry → ℕ → Option (Li
 IsLateStepOf p plan history a look step = (looks : ℕ → Option (List ℕ)) → looks a ≡ look →
     late_step p plan (record { history = history; looks = looks }) (scene_of p plan history a) a
     ≡ with_step (record { history = history; looks = looks }) a (fresh_reads plan history (scene_of p plan history a)) step
+
+-- what the step adds is an entry of the core
+abbrev pub ActsBy : ℕ → NextStep → Type 0
+ActsBy a (next.Adds e) = acting_core e ≡ Some a
+ActsBy a next.Looks = Unit {0}
+ActsBy a next.Over = Unit {0}
 
 -- what the step adds is legal
 abbrev pub MayAdd : Meaning → Plan → List Entry → NextStep → Type 0

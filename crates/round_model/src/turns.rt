@@ -1,12 +1,13 @@
 //! What a core does next in its turn, as serial play has it.
 
-ghost use Rattle.std.specs.Prelude.{◌≡◌, ◌≢◌, ◌<◌, IfSome, IsTrue, Some};
+ghost use Rattle.std.specs.Prelude.{◌≡◌, ◌≢◌, ◌<◌, IfSome, IsFalse, IsNone, IsTrue, Some};
 ghost use Rattle.policy_tree.specs.Meaning.{meaning_of};
 ghost use Rattle.policy_eval.specs.Obligations.{MeetsHandlerObligations};
 ghost use Rattle.round_model.specs.declared.turns.NextStep.TheVariants as next;
 ghost use Rattle.round_model.specs.After.{after, round_of};
 ghost use Rattle.round_model.specs.Attempts.{attempt_of};
 ghost use Rattle.round_model.specs.Choices.{target_of};
+ghost use Rattle.round_model.specs.Entries.{acting_core};
 ghost use Rattle.round_model.specs.Fits.{Fits};
 ghost use Rattle.round_model.specs.Legal.{LegalNext, rounds_begun};
 ghost use Rattle.round_model.specs.Outcomes.{ReadIn, values_at};
@@ -14,7 +15,7 @@ ghost use Rattle.round_model.specs.Past.{IsPastOf, OfEach};
 ghost use Rattle.round_model.specs.Scenes.{has_attempted, own_entries};
 ghost use Rattle.round_model.specs.Progress.{HasLetIn, OwesAttempt};
 ghost use Rattle.round_model.specs.Work.{worked};
-ghost use Rattle.round_model.specs.Turns.{HasWoken, IsLateStepOf, IsStepOf, MayAdd, placement_by, step_of_dids};
+ghost use Rattle.round_model.specs.Turns.{ActsBy, HasWoken, IsLateStepOf, IsStepOf, MayAdd, placement_by, step_of_dids};
 
 use crate::attempts::Attempt;
 use crate::entry::Entry;
@@ -58,6 +59,9 @@ pub fn next_step(
         IsStepOf (meaning_of policy.now) plan.now history core fresh.now look result) }
     ensures legal { OfEach (meaning_of policy.now) plan.now past.now (λ history.
         MayAdd (meaning_of policy.now) plan.now history result) }
+    ensures acts { ActsBy core result }
+    ensures looks { OfEach (meaning_of policy.now) plan.now past.now (λ history.
+        result ≡ next.Looks → IsNone look × IsFalse (has_attempted (own_entries history core))) }
     ensures over { OfEach (meaning_of policy.now) plan.now past.now (λ history.
         result ≡ next.Over → IsTrue (has_attempted (own_entries history core))) }
 {
@@ -117,6 +121,9 @@ fn late_step(
     ensures legal { OfEach (meaning_of policy.now) plan.now past.now (λ history.
         HasLetIn plan.now history core → HasWoken (meaning_of policy.now) plan.now history core →
         MayAdd (meaning_of policy.now) plan.now history result) }
+    ensures acts { ActsBy core result }
+    ensures looks { OfEach (meaning_of policy.now) plan.now past.now (λ history.
+        result ≡ next.Looks → IsNone look × IsFalse (has_attempted (own_entries history core))) }
     ensures over { OfEach (meaning_of policy.now) plan.now past.now (λ history.
         result ≡ next.Over → IsTrue (has_attempted (own_entries history core))) }
 {
@@ -141,6 +148,8 @@ fn work_step(policy: &Policy, plan: &Plan, past: &Past, core: CoreId) -> NextSte
     requires core { core < plan.now.cores }
     ensures step { OfEach (meaning_of policy.now) plan.now past.now (λ history. result ≡ step_of_dids core
         (worked (meaning_of policy.now) plan.now (round_of history) (after (meaning_of policy.now) plan.now history core)).dids) }
+    ensures acts { ActsBy core result }
+    ensures looks { result ≢ next.Looks }
     ensures runs { OfEach (meaning_of policy.now) plan.now past.now (λ history. result ≢ next.Over) }
 {
     let state = past.state.get(core);
@@ -156,6 +165,7 @@ fn attempt_entry(policy: &Policy, plan: &Plan, past: &Past, core: CoreId, reads:
     requires past { IsPastOf (meaning_of policy.now) plan.now past.now }
     requires core { core < plan.now.cores }
     requires read { ReadIn plan.now past.now reads }
+    ensures acts { acting_core result ≡ Some core }
     ensures attempt { OfEach (meaning_of policy.now) plan.now past.now (λ history. result ≡ attempt_of (meaning_of policy.now)
         plan.now (after (meaning_of policy.now) plan.now history) (values_at (meaning_of policy.now) plan.now history reads) core reads) }
     ensures legal { OfEach (meaning_of policy.now) plan.now past.now (λ history. 0 < rounds_begun history →

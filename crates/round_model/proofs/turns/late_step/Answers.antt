@@ -6,7 +6,7 @@ use Rattle.round_model.specs.After.{after, round_of}
 use Rattle.round_model.specs.Turns.{IsLateStepOf, MayAdd}
 use Rattle.round_model.specs.Work.{worked}
 use Rattle.round_model.proofs.Pasts.{turn_at}
-use Rattle.round_model.proofs.Turning.{late_entry, late_look, late_over, late_work, work_may}
+use Rattle.round_model.proofs.Turning.{is_none, late_entry, late_look, late_over, late_work, work_may}
 use Rattle.round_model.proofs.turns.late_step.Goals as goal
 
 pub returns-then-turn-clause-step : goal.returns-then-turn-clause-step
@@ -60,3 +60,8 @@ returns-then-turn-clause-over c history stands =
 
 pub returns-then-not-turn-clause-over : goal.returns-then-not-turn-clause-over
 returns-then-not-turn-clause-over c history stands = λ over. absurd (c.work_step.ensures.runs history stands over)
+
+pub returns-in-None-clause-looks : goal.returns-in-None-clause-looks
+returns-in-None-clause-looks c history stands = λ looks.
+    let same = turn_at (meaning_of c.args.policy.now) c.args.plan.now c.args.past.now history stands c.args.core c.get-turn.result.now c.requires.core c.get-turn.ensures.item in
+    (is_none c.args.look c.in-None.is, sym (ap (λ (t : Turn). t.attempted) same) ∙ c.if-turn.false)
