@@ -7,13 +7,14 @@ pub mod Beginnings
 pub mod Begun
 pub mod BegunBounds
 pub mod Constants
+pub mod Counting
 pub mod Directories
 pub mod Elections
 pub mod Entering
 pub mod Finding
-pub mod Sightings
 pub mod Free
 pub mod Grows
+pub mod Histories
 pub mod Judging
 pub mod Keeping
 pub mod Longer
@@ -21,9 +22,11 @@ pub mod Moved
 pub mod Openings
 pub mod Outcomes
 pub mod Pasts
+pub mod Sightings
 pub mod Spreads
 pub mod States
 pub mod Stillness
 pub mod There
+pub mod Totals
 pub mod Units
 pub mod Walks

@@ -1,6 +1,7 @@
 pub mod After
 pub mod Attempts
 pub mod Bounds
+pub mod BoundsLaws
 pub mod Choices
 pub mod Cores
 pub mod Entries

@@ -1,5 +1,6 @@
 //! Laws of the model, each a function without parameters whose contract is the law.
 
+ghost use Rattle.round_model.specs.BoundsLaws.{BoundsLaw, OpenRoundLaw};
 ghost use Rattle.round_model.specs.Laws.{ActingLaw, ConstantsLaw, EnteringLaw, LegalGrows, OneMoreLaw, OpeningLaw, PrefixLaw, UntouchedLaw};
 
 /// The state after a longer history is what its last entry makes of the state before it.
@@ -40,4 +41,14 @@ pub fn law_acting()
 /// In a legal history a thread enters by its planned core in its planned round.
 pub fn law_entering()
     ensures { EnteringLaw }
+{}
+
+/// In a legal history the number of the open round is how many rounds have begun.
+pub fn law_open_round()
+    ensures { OpenRoundLaw }
+{}
+
+/// After a legal history numbers lie in their ranges, and threads stand once at most and come from the plan alone.
+pub fn law_bounds()
+    ensures { BoundsLaw }
 {}

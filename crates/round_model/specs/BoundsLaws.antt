@@ -1,0 +1,55 @@
+-- What bounds the threads and the numbers of every state that a legal history leaves.
+use Rattle.std.specs.Prelude.{◌≡◌, ℕ, ◌+◌, ◌≤◌, ◌==◌, nat_lt, Bool, ◌&&◌, ◌||◌, List, count_by, length, map, sum}
+use Rattle.sched_base.specs.declared.task.Task.{Task}
+use Rattle.policy_tree.specs.Meaning.{Meaning}
+use Rattle.policy_eval.specs.Obligations.{MeetsHandlerObligations}
+use Rattle.round_model.specs.declared.entry.Entry.{Entry}
+use Rattle.round_model.specs.declared.plan.Plan.{Plan}
+use Rattle.round_model.specs.declared.plan.Planned.{Planned}
+use Rattle.round_model.specs.declared.state.Blocked.{Blocked}
+use Rattle.round_model.specs.declared.state.ModelCore.{ModelCore}
+use Rattle.round_model.specs.After.{after, round_of}
+use Rattle.round_model.specs.Bounds.{IsInBounds, standing_total}
+use Rattle.round_model.specs.Cores.{Cores, core_numbers, tasks_of}
+use Rattle.round_model.specs.Fits.{Fits}
+use Rattle.round_model.specs.Legal.{Legal, rounds_begun}
+use Rattle.round_model.specs.Scenes.{is_entering, own_entries}
+
+-- in a legal history the number of the open round is how many rounds have begun
+abbrev pub OpenRoundLaw : Type 0
+OpenRoundLaw = (p : Meaning) (plan : Plan) (history : List Entry) → Legal p plan history
+    → round_of history ≡ rounds_begun history
+
+-- whether the thread has yet to enter: in a later round, or in the open one by its core
+abbrev pub is_awaited : List Entry → Planned → Bool
+is_awaited history t =
+    nat_lt (round_of history) t.round || is_entering (round_of history) t.core (own_entries history t.core) t
+
+-- how many threads of those numbers stand at a core, blocked ones counted
+abbrev pub named_count : (ℕ → Bool) → ModelCore → ℕ
+named_count named core =
+    count_by (λ (t : Task). named t.id) (tasks_of core) + count_by (λ (b : Blocked). named b.task.id) core.blocked
+
+-- how many stand at the cores of a plan
+abbrev pub named_total : (ℕ → Bool) → Plan → Cores → ℕ
+named_total named plan m = sum (map (λ c. named_count named (m c)) (core_numbers plan))
+
+-- what holds after a legal history: numbers lie in their ranges, and threads come from the plan alone
+pub record IsBounded (p : Meaning) (plan : Plan) (history : List Entry) : Type 0 where
+  -- each core is in bounds, and no more threads stand than the plan has
+  pub bounds : IsInBounds p plan (length plan.threads) (after p plan history)
+  -- together with those that have yet to enter they are no more than the plan has
+  pub room : standing_total plan (after p plan history) + count_by (is_awaited history) plan.threads
+      ≤ length plan.threads
+  -- the same of the threads of any numbers
+  pub named : (named : ℕ → Bool) → named_total named plan (after p plan history)
+      + count_by (λ (t : Planned). named t.id && is_awaited history t) plan.threads
+      ≤ count_by (λ (t : Planned). named t.id) plan.threads
+  -- so a thread stands once at most, and nowhere as long as it has yet to enter
+  pub once : (id : ℕ) → named_total (λ n. n == id) plan (after p plan history)
+      + count_by (λ (t : Planned). (t.id == id) && is_awaited history t) plan.threads ≤ 1
+
+-- so it is after every legal history
+abbrev pub BoundsLaw : Type 0
+BoundsLaw = (p : Meaning) (plan : Plan) (history : List Entry) → Fits p plan → MeetsHandlerObligations p
+    → Legal p plan history → IsBounded p plan history
