@@ -9,6 +9,10 @@ use Rattle.round_model.specs.Moves.{without_first}
 use Rattle.round_model.proofs.BegunBounds.{counted}
 use Rattle.round_model.proofs.Keeping.{All-append, All-one}
 
+fewer_here : (a b : Bool) → (a ≡ true → b ≡ true) → counted a ≤ counted b
+fewer_here true b implies = let is = ap counted (implies refl) in omega arith
+fewer_here false b implies = omega arith
+
 module _ {X : Type 0} where
   count_by-cons : (f : X → Bool) (x : X) (xs : List X) → count_by f (x ∷ xs) ≡ counted (f x) + count_by f xs
   count_by-cons f x xs = sum_by-cons (λ y. counted (f y)) x xs
@@ -20,10 +24,6 @@ module _ {X : Type 0} where
       let rest = count_same f g xs (λ k d inside. same (suc k) d (omega arith)) in
       let here = ap counted (same 0 x (omega arith)) in
       omega (arith, count_by-cons f x xs, count_by-cons g x xs)
-
-  fewer_here : (a b : Bool) → (a ≡ true → b ≡ true) → counted a ≤ counted b
-  fewer_here true b implies = let is = ap counted (implies refl) in omega arith
-  fewer_here false b implies = omega arith
 
   -- a test that passes less often
   pub count_fewer : (f g : X → Bool) (xs : List X) → ((x : X) → g x ≡ true → f x ≡ true) → count_by g xs ≤ count_by f xs
@@ -60,10 +60,10 @@ module _ {X : Type 0} where
       ] found
 
   -- the best of a list and the others are the items of the list
-  pub record Split (P : X → Type 0) (g : X → Bool) (xs : List X) (best : X × List X) : Type 0 where
-    pub best : All P xs → P best.0
-    pub others : All P xs → All P best.1
-    pub count : counted (g best.0) + count_by g best.1 ≡ count_by g xs
+  pub record Split (P : X → Type 0) (g : X → Bool) (xs : List X) (parts : X × List X) : Type 0 where
+    pub best : All P xs → P parts.0
+    pub others : All P xs → All P parts.1
+    pub count : counted (g parts.0) + count_by g parts.1 ≡ count_by g xs
 
   pub best_split : (P : X → Type 0) (g : X → Bool) (before : X → X → Bool) (xs : List X) → IfSome (best_and_rest before xs) (Split P g xs)
   best_split P g before [] = tt

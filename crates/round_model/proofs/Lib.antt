@@ -3,9 +3,11 @@ pub mod AddedArrivals
 pub mod AddedBounds
 pub mod AddedRows
 pub mod AddedStands
+pub mod Awaited
 pub mod Beginnings
 pub mod Begun
 pub mod BegunBounds
+pub mod Bounded
 pub mod Constants
 pub mod Counting
 pub mod Directories
@@ -13,6 +15,7 @@ pub mod Elections
 pub mod Entering
 pub mod Finding
 pub mod Free
+pub mod Gaining
 pub mod Grows
 pub mod Histories
 pub mod Judging
@@ -24,6 +27,7 @@ pub mod Outcomes
 pub mod Pasts
 pub mod Sightings
 pub mod Spreads
+pub mod Standing
 pub mod States
 pub mod Stillness
 pub mod There

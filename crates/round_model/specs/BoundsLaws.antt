@@ -25,7 +25,7 @@ abbrev pub is_awaited : List Entry → Planned → Bool
 is_awaited history t =
     nat_lt (round_of history) t.round || is_entering (round_of history) t.core (own_entries history t.core) t
 
--- how many threads of those numbers stand at a core, blocked ones counted
+-- how many threads stand at a core whose numbers are named, blocked ones counted
 abbrev pub named_count : (ℕ → Bool) → ModelCore → ℕ
 named_count named core =
     count_by (λ (t : Task). named t.id) (tasks_of core) + count_by (λ (b : Blocked). named b.task.id) core.blocked
@@ -41,8 +41,8 @@ pub record IsBounded (p : Meaning) (plan : Plan) (history : List Entry) : Type 0
   -- together with those that have yet to enter they are no more than the plan has
   pub room : standing_total plan (after p plan history) + count_by (is_awaited history) plan.threads
       ≤ length plan.threads
-  -- the same of the threads of any numbers
-  pub named : (named : ℕ → Bool) → named_total named plan (after p plan history)
+  -- the same of those threads alone whose numbers are named
+  pub of_names : (named : ℕ → Bool) → named_total named plan (after p plan history)
       + count_by (λ (t : Planned). named t.id && is_awaited history t) plan.threads
       ≤ count_by (λ (t : Planned). named t.id) plan.threads
   -- so a thread stands once at most, and nowhere as long as it has yet to enter
