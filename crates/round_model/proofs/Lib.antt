@@ -8,6 +8,7 @@ pub mod Beginnings
 pub mod Begun
 pub mod BegunBounds
 pub mod Bounded
+pub mod Changed
 pub mod Constants
 pub mod Counting
 pub mod Directories
@@ -24,7 +25,10 @@ pub mod Longer
 pub mod Moved
 pub mod Openings
 pub mod Outcomes
+pub mod OwedBounds
+pub mod Owing
 pub mod Pasts
+pub mod Paying
 pub mod Sightings
 pub mod Spreads
 pub mod Standing
@@ -33,4 +37,5 @@ pub mod Stillness
 pub mod There
 pub mod Totals
 pub mod Units
+pub mod Waking
 pub mod Walks

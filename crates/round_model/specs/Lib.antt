@@ -19,6 +19,7 @@ pub mod Notes
 pub mod OnePlace
 pub mod Outcomes
 pub mod Owed
+pub mod OwedLaws
 pub mod Past
 pub mod Phases
 pub mod Programs
