@@ -1,5 +1,5 @@
 -- The threads that have yet to enter: a legal entry leaves no more of them, and one fewer where one enters.
-use Rattle.std.proofs.Common.{◌≡◌, ℕ, ◌+◌, ◌==◌, ◌<◌, ◌≤◌, ◌⊎◌, inl, inr, ⊎_elim, nat_lt, ◌||◌, ◌&&◌, not, Bool, true, false, eqb, List, [], ◌∷◌, ◌++◌, find, count_by, Option, Some, None, IsSomeAnd, refl, sym, ap, ap₂, subst, ◌∙◌, arith}
+use Rattle.std.proofs.Common.{◌≡◌, ℕ, ◌+◌, ◌≤◌, ◌⊎◌, inl, inr, ⊎_elim, nat_lt, ◌||◌, ◌&&◌, not, Bool, true, false, eqb, List, [], ◌∷◌, ◌++◌, find, count_by, Option, Some, None, IsSomeAnd, refl, sym, ap, ap₂, ◌∙◌, arith}
 use Rattle.std.proofs.lemmas.Bool.Decides.{nat_tests}
 use Rattle.policy_tree.specs.Meaning.{Meaning}
 use Rattle.round_model.specs.declared.entry.Entry.{Entry}
@@ -21,7 +21,7 @@ use Rattle.round_model.proofs.Entering.{entering_parts}
 use Rattle.round_model.proofs.Finding.{find-passes}
 use Rattle.round_model.proofs.Gaining.{named_comes}
 use Rattle.round_model.proofs.Histories.{open_round}
-use Rattle.round_model.proofs.Longer.{own_none, round_of_more}
+use Rattle.round_model.proofs.Longer.{round_of_more}
 
 -- those of some numbers that have yet to enter
 abbrev pub awaited_name : (ℕ → Bool) → List Entry → Planned → Bool

@@ -1,19 +1,17 @@
 -- Every state that a legal history leaves is bounded.
-use Rattle.std.proofs.Common.{◌≡◌, ◌≢◌, ℕ, suc, ◌+◌, ◌==◌, ◌<◌, ◌≤◌, ◌&&◌, eqb, Bool, true, false, cond, List, [], ◌∷◌, ◌++◌, length, map, sum, sum_by, count_by, get_or, option_to_list, All, refl, sym, ap, subst, ◌∙◌, arith}
+use Rattle.std.proofs.Common.{◌≡◌, ◌≢◌, ℕ, suc, ◌+◌, ◌==◌, ◌<◌, ◌≤◌, ◌&&◌, eqb, Bool, true, false, List, [], ◌∷◌, ◌++◌, length, map, sum_by, count_by, get_or, All, refl, sym, ap, subst, ◌∙◌, arith}
 use Rattle.std.specs.Prelude.{AllPairs}
 use Rattle.std.proofs.lemmas.Bool.Decides.{nat_tests}
 use Rattle.std.proofs.lemmas.List.Sums.{sum_by-cons, sum_by-le-sum_by}
-use Rattle.sched_base.specs.declared.task.Task.{Task}
 use Rattle.policy_tree.specs.Meaning.{Meaning}
 use Rattle.policy_eval.specs.Obligations.{MeetsHandlerObligations}
 use Rattle.round_model.specs.declared.entry.Entry.{Entry}
 use Rattle.round_model.specs.declared.plan.Plan.{Plan}
 use Rattle.round_model.specs.declared.plan.Planned.{Planned}
-use Rattle.round_model.specs.declared.state.Blocked.{Blocked}
 use Rattle.round_model.specs.declared.state.ModelCore.{ModelCore}
-use Rattle.round_model.specs.After.{after, after_from, moved, round_of}
+use Rattle.round_model.specs.After.{after, after_from, round_of}
 use Rattle.round_model.specs.Bounds.{standing_count, standing_total}
-use Rattle.round_model.specs.BoundsLaws.{BoundsLaw, IsBounded, is_awaited, named_count, named_total}
+use Rattle.round_model.specs.BoundsLaws.{BoundsLaw, is_awaited, named_count, named_total}
 use Rattle.round_model.specs.Cores.{Cores, core_numbers, opening_state, tasks_of}
 use Rattle.round_model.specs.Fits.{Fits}
 use Rattle.round_model.specs.Kept.{Holds}

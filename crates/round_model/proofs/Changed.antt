@@ -1,5 +1,5 @@
 -- The blocked threads of each core after an entry, and that none of them falls due by it.
-use Rattle.std.proofs.Common.{◌≡◌, ℕ, zero, suc, ◌+◌, ◌==◌, ◌<◌, ◌≤◌, ◌||◌, eqb, nat_le, Bool, true, false, cond, List, [], ◌∷◌, ◌++◌, length, get_or, find, count_by, All, Contains, Option, Some, None, refl, sym, ap, ◌∙◌, subst, arith}
+use Rattle.std.proofs.Common.{◌≡◌, ℕ, zero, suc, ◌==◌, ◌<◌, ◌≤◌, ◌||◌, eqb, nat_le, Bool, true, false, cond, List, [], ◌∷◌, ◌++◌, get_or, count_by, All, Contains, Option, Some, None, refl, sym, ap, ◌∙◌, subst, arith}
 use Rattle.std.proofs.lemmas.Bool.Decides.{nat_tests}
 use Rattle.std.proofs.lemmas.List.Sums.{sum_by-append, sum_by-cons}
 use Rattle.sched_base.specs.declared.task.Task.{Task}
@@ -16,7 +16,7 @@ use Rattle.round_model.specs.Cores.{Cores}
 use Rattle.round_model.specs.Entries.{touches}
 use Rattle.round_model.specs.Fits.{Fits}
 use Rattle.round_model.specs.Moves.{admitted, blocked_of, handed, is_blocked_task, queued_of, received, released, without_first}
-use Rattle.round_model.specs.OwedLaws.{MakesNoneDue, NoneFallsDueLaw}
+use Rattle.round_model.specs.OwedLaws.{NoneFallsDueLaw}
 use Rattle.round_model.specs.Programs.{entering_task, planned_of}
 use Rattle.round_model.specs.Scenes.{is_due_blocked}
 use Rattle.round_model.proofs.BegunBounds.{counted}

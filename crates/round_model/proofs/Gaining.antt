@@ -1,6 +1,6 @@
 -- What the cores of a plan have after an entry: numbers in their ranges, and no more threads of any numbers than before
 -- and the one that enters.
-use Rattle.std.proofs.Common.{◌≡◌, ℕ, ◌+◌, ◌<◌, ◌≤◌, eqb, Bool, true, false, cond, List, [], ◌∷◌, All, IfSome, Option, Some, None, refl, sym, ap, ◌∙◌, subst, arith}
+use Rattle.std.proofs.Common.{◌≡◌, ℕ, ◌+◌, ◌<◌, ◌≤◌, Bool, true, false, List, [], ◌∷◌, IfSome, Option, Some, None, refl, sym, subst, arith}
 use Rattle.std.proofs.lemmas.Bool.Decides.{nat_tests}
 use Rattle.sched_base.specs.declared.task.Task.{Task}
 use Rattle.policy_tree.specs.declared.typed.Event.TheVariants as event

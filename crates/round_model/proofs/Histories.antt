@@ -1,5 +1,5 @@
 -- Induction over legal histories, and the number of the open round.
-use Rattle.std.proofs.Common.{◌≡◌, ℕ, List, [], ◌∷◌, ◌++◌, length, take, refl, sym, ap, ◌∙◌, subst, arith, take_all}
+use Rattle.std.proofs.Common.{◌≡◌, List, [], ◌∷◌, ◌++◌, length, take, refl, sym, ◌∙◌, subst, arith, take_all}
 use Rattle.std.proofs.lemmas.List.{append-nil, append_assoc, take-append-le}
 use mathlib.Core.Option.{some}
 use lib.ListN.{get_elem?}

@@ -1,14 +1,12 @@
 -- No more is owed than an entry for each thread and two for each core.
-use Rattle.std.proofs.Common.{◌≡◌, ℕ, zero, suc, ◌+◌, ◌*◌, ◌==◌, ◌<◌, ◌≤◌, ◌||◌, ◌&&◌, eqb, Bool, true, false, cond, List, [], ◌∷◌, length, map, sum, sum_by, count_by, nat_lt, refl, sym, ap, ◌∙◌, arith}
+use Rattle.std.proofs.Common.{◌≡◌, ℕ, zero, suc, ◌+◌, ◌*◌, ◌<◌, ◌≤◌, ◌||◌, eqb, Bool, true, false, cond, List, [], ◌∷◌, length, sum_by, count_by, nat_lt, refl, ap, arith}
 use Rattle.std.specs.List.{range_with_len}
-use Rattle.std.proofs.lemmas.Bool.Decides.{nat_tests}
 use Rattle.std.proofs.lemmas.List.FromFn.{length-range_with_len}
 use Rattle.std.proofs.lemmas.List.Sums.{count_by-le-length, sum-map, sum_by-cons, sum_by-le-sum_by}
 use Rattle.policy_tree.specs.Meaning.{Meaning}
 use Rattle.round_model.specs.declared.entry.Entry.{Entry}
 use Rattle.round_model.specs.declared.plan.Plan.{Plan}
 use Rattle.round_model.specs.declared.plan.Planned.{Planned}
-use Rattle.round_model.specs.declared.state.ModelCore.{ModelCore}
 use Rattle.round_model.specs.After.{after, round_of}
 use Rattle.round_model.specs.Bounds.{standing_count}
 use Rattle.round_model.specs.BoundsLaws.{is_awaited}
@@ -110,6 +108,12 @@ owed_bound p plan h fits handlers legal =
     let room = (bounds_law p plan h fits handlers legal).room in
     let entering = all_awaited h plan.cores plan.threads in
     let each = sum_by-le-sum_by (owed p plan h) (λ c. count_by (lets h c) plan.threads + (standing_count (m c) + 2)) numbers (owed_at_most p plan h) in
-    omega (arith, sum-map (owed p plan h) numbers, sum-map (λ c. standing_count (m c)) numbers,
-    sum_of_both (λ c. count_by (lets h c) plan.threads) (λ c. standing_count (m c) + 2) numbers, sum_of_both (λ c. standing_count (m c)) (λ c. 2) numbers,
-    sum_of_same 2 numbers, length-range_with_len 0 plan.cores)
+    omega (
+      arith,
+      sum-map (owed p plan h) numbers,
+      sum-map (λ c. standing_count (m c)) numbers,
+      sum_of_both (λ c. count_by (lets h c) plan.threads) (λ c. standing_count (m c) + 2) numbers,
+      sum_of_both (λ c. standing_count (m c)) (λ c. 2) numbers,
+      sum_of_same 2 numbers,
+      length-range_with_len 0 plan.cores,
+    )

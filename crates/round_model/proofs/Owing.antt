@@ -1,40 +1,26 @@
 -- What is owed, by its parts, and that an entry leaves what other cores owe.
-use Rattle.std.proofs.Common.{◌≡◌, ◌≢◌, ℕ, suc, ◌+◌, ◌==◌, ◌<◌, ◌≤◌, ◌⊎◌, inl, inr, ⊎_elim, ◌||◌, ◌&&◌, not, eqb, Bool, true, false, cond, List, [], ◌∷◌, ◌++◌, filter, find, get_or, count_by, All, IsTrue, Option, Some, None, IsNone, IsSomeAnd, refl, sym, ap, ap₂, ◌∙◌, subst, arith}
+use Rattle.std.proofs.Common.{◌≡◌, ◌≢◌, ℕ, ◌+◌, ◌<◌, ◌≤◌, ◌⊎◌, inl, inr, ◌||◌, ◌&&◌, not, eqb, Bool, true, false, cond, List, [], ◌∷◌, ◌++◌, find, count_by, Some, IsNone, refl, sym, ap, ap₂, ◌∙◌, arith}
 use Rattle.std.proofs.lemmas.Bool.Decides.{nat_tests}
 use Rattle.std.proofs.lemmas.List.{append-nil}
 use Rattle.std.proofs.lemmas.List.Sums.{sum_by-cons}
 use Rattle.policy_tree.specs.Meaning.{Meaning}
-use Rattle.policy_eval.specs.Obligations.{MeetsHandlerObligations}
-use Rattle.round_model.specs.declared.entry.Did.{Did}
 use Rattle.round_model.specs.declared.entry.Entry.{Entry}
 use Rattle.round_model.specs.declared.entry.Entry.TheVariants as entry
 use Rattle.round_model.specs.declared.plan.Plan.{Plan}
-use Rattle.round_model.specs.declared.plan.Planned.{Planned}
 use Rattle.round_model.specs.declared.state.Blocked.{Blocked}
-use Rattle.round_model.specs.declared.state.ModelCore.{ModelCore}
 use Rattle.round_model.specs.After.{after, moved, round_of}
-use Rattle.round_model.specs.BoundsLaws.{named_count}
 use Rattle.round_model.specs.Cores.{Cores}
-use Rattle.round_model.specs.Entries.{acting_core, acts, lets_in}
+use Rattle.round_model.specs.Entries.{acting_core, acts}
 use Rattle.round_model.specs.Fits.{Fits}
-use Rattle.round_model.specs.Kinds.{is_attempt, is_round, is_work}
-use Rattle.round_model.specs.Legal.{Legal, LegalNext, rounds_begun}
-use Rattle.round_model.specs.Moves.{blocked_of, is_blocked_task, without_first}
+use Rattle.round_model.specs.Kinds.{is_round}
+use Rattle.round_model.specs.Legal.{LegalNext, rounds_begun}
 use Rattle.round_model.specs.Owed.{owed}
-use Rattle.round_model.specs.OwedLaws.{IsPaid, OwedLaw}
-use Rattle.round_model.specs.Rows.{Row}
-use Rattle.round_model.specs.Scenes.{entering_next, has_attempted, has_worked, is_due_blocked, is_entering, own_entries, scene_of, waking_next}
+use Rattle.round_model.specs.Scenes.{has_attempted, has_worked, is_due_blocked, is_entering, own_entries, scene_of}
 use Rattle.round_model.proofs.Added.{acts_is, no_round, round_stays}
-use Rattle.round_model.proofs.AddedArrivals.{entering_more}
 use Rattle.round_model.proofs.BegunBounds.{counted}
-use Rattle.round_model.proofs.Bounded.{stays}
-use Rattle.round_model.proofs.Changed.{enter_leaves, fail_leaves, none_falls_due, pass_leaves, steal_leaves, wake_others, wake_own, work_others}
-use Rattle.round_model.proofs.Counting.{count_left, count_same, count_without}
-use Rattle.round_model.proofs.Finding.{find-passes}
+use Rattle.round_model.proofs.Changed.{enter_leaves, fail_leaves, pass_leaves, steal_leaves, wake_others, work_others}
 use Rattle.round_model.proofs.Grows.{one_more}
-use Rattle.round_model.proofs.Histories.{legal_induction}
-use Rattle.round_model.proofs.Longer.{begun_more, done_more, own_more, own_none, round_of_more}
-use Rattle.round_model.proofs.Totals.{total_has}
+use Rattle.round_model.proofs.Longer.{begun_more, own_more, round_of_more}
 
 -- what is owed, by its parts
 abbrev pub sum_owed : (entering due : ℕ) → (worked attempted : Bool) → ℕ

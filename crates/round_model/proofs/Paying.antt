@@ -1,5 +1,5 @@
 -- A legal entry of a core is one of those that it owes.
-use Rattle.std.proofs.Common.{◌≡◌, ◌≢◌, ℕ, ◌+◌, ◌==◌, ◌<◌, ◌≤◌, ⊎_elim, ◌⊎◌, ◌||◌, ◌&&◌, not, eqb, nat_le, Bool, true, false, cond, List, [], ◌∷◌, ◌++◌, find, get_or, count_by, IsTrue, Option, Some, None, IsNone, IsSomeAnd, refl, sym, ap, ap₂, ◌∙◌, subst, arith}
+use Rattle.std.proofs.Common.{◌≡◌, ℕ, ◌+◌, ◌==◌, ◌<◌, ◌≤◌, ⊎_elim, ◌||◌, ◌&&◌, not, eqb, Bool, true, false, List, [], ◌∷◌, ◌++◌, find, get_or, count_by, Option, Some, None, IsSomeAnd, refl, sym, ap, ap₂, ◌∙◌, subst, arith}
 use Rattle.std.specs.List.{list_any}
 use Rattle.std.proofs.lemmas.Bool.Decides.{nat_tests}
 use Rattle.policy_tree.specs.Meaning.{Meaning}
@@ -16,15 +16,13 @@ use Rattle.round_model.specs.Cores.{Cores}
 use Rattle.round_model.specs.Entries.{acting_core, acts, lets_in}
 use Rattle.round_model.specs.Fits.{Fits}
 use Rattle.round_model.specs.Kinds.{is_attempt, is_round, is_work}
-use Rattle.round_model.specs.Legal.{Legal, LegalNext, rounds_begun}
+use Rattle.round_model.specs.Legal.{Legal, LegalNext}
 use Rattle.round_model.specs.Moves.{blocked_of, is_blocked_task, without_first}
-use Rattle.round_model.specs.Owed.{owed}
-use Rattle.round_model.specs.OwedLaws.{IsPaid, OwedLaw}
-use Rattle.round_model.specs.Rows.{LegalAttempt, Row}
+use Rattle.round_model.specs.OwedLaws.{OwedLaw}
+use Rattle.round_model.specs.Rows.{Row}
 use Rattle.round_model.specs.Scenes.{entering_next, has_attempted, has_worked, is_due_blocked, is_entering, own_entries, scene_of, waking_next}
-use Rattle.round_model.proofs.Added.{acts_is, no_round, round_stays}
+use Rattle.round_model.proofs.Added.{acts_is, no_round}
 use Rattle.round_model.proofs.AddedArrivals.{entering_more}
-use Rattle.round_model.proofs.Begun.{round_of_none}
 use Rattle.round_model.proofs.BegunBounds.{counted}
 use Rattle.round_model.proofs.Bounded.{bounds_law}
 use Rattle.round_model.proofs.Changed.{enter_leaves, none_falls_due, wake_own}
@@ -32,7 +30,7 @@ use Rattle.round_model.proofs.Counting.{count_left, count_same, count_without}
 use Rattle.round_model.proofs.Finding.{find-passes}
 use Rattle.round_model.proofs.Grows.{one_more}
 use Rattle.round_model.proofs.Histories.{legal_induction}
-use Rattle.round_model.proofs.Longer.{begun_more, done_more, own_more, own_none, round_of_more}
+use Rattle.round_model.proofs.Longer.{done_more, own_more, own_none, round_of_more}
 use Rattle.round_model.proofs.Owing.{found_by_both, none_by, none_found, not_none, or_cases, others_owe, owed_is, round_open, same_sum, some_counted, still_open, sum_owed}
 use Rattle.round_model.proofs.Totals.{total_has, total_is}
 

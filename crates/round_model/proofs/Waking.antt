@@ -1,7 +1,6 @@
 -- What an entry makes of a core's blocked threads: it leaves them, takes one out, or adds some that wake in a later round.
-use Rattle.std.proofs.Common.{◌≡◌, ◌≢◌, ℕ, zero, suc, ◌+◌, ◌==◌, ◌<◌, ◌≤◌, ◌||◌, ℤ, eqb, Bool, true, false, cond, List, [], ◌∷◌, ◌++◌, filter, fold, map, slice_get, All, IfSome, Option, Some, None, option_and_then, refl, sym, ap, ◌∙◌, subst, arith}
+use Rattle.std.proofs.Common.{◌≡◌, ℕ, zero, suc, ◌+◌, ◌<◌, ◌≤◌, ℤ, Bool, true, false, cond, List, [], ◌∷◌, ◌++◌, filter, fold, map, slice_get, All, IfSome, Option, Some, None, option_and_then, refl, sym, ap, ◌∙◌, subst, arith}
 use Rattle.std.specs.List.{AllByRecursion}
-use Rattle.std.proofs.lemmas.Bool.Decides.{nat_tests}
 use Rattle.std.proofs.lemmas.List.{append-nil, append_assoc}
 use Rattle.sched_base.specs.declared.task.Task.{Task}
 use Rattle.policy_tree.specs.declared.typed.Event.{Event}
@@ -14,8 +13,6 @@ use Rattle.policy_eval.specs.Orders.{best_and_rest}
 use Rattle.policy_eval.specs.Resolved.{IsResolved, IsResolvedCase}
 use Rattle.policy_eval.specs.Sites.{AllowsPut}
 use Rattle.policy_eval.specs.Values.{holds}
-use Rattle.round_model.specs.declared.entry.Entry.{Entry}
-use Rattle.round_model.specs.declared.entry.Entry.TheVariants as entry
 use Rattle.round_model.specs.declared.plan.Burst.{Burst}
 use Rattle.round_model.specs.declared.plan.Ending.{Ending}
 use Rattle.round_model.specs.declared.plan.Ending.TheVariants as ending
@@ -23,15 +20,12 @@ use Rattle.round_model.specs.declared.plan.Plan.{Plan}
 use Rattle.round_model.specs.declared.plan.Planned.{Planned}
 use Rattle.round_model.specs.declared.state.Blocked.{Blocked}
 use Rattle.round_model.specs.declared.state.ModelCore.{ModelCore}
-use Rattle.round_model.specs.After.{effect, entered, moved, stolen, woken}
-use Rattle.round_model.specs.Cores.{Cores}
-use Rattle.round_model.specs.Entries.{acting_core, touches}
 use Rattle.round_model.specs.Fits.{Fits, IsLast, IsMiddle, IsProgram, ThreadFits}
-use Rattle.round_model.specs.Moves.{admitted, blocked_of, core_after_event, handed, is_blocked_task, queued_of, received, released, with_outcome, with_task, without_first}
+use Rattle.round_model.specs.Moves.{admitted, core_after_event, is_blocked_task, with_outcome, with_task, without_first}
 use Rattle.round_model.specs.Programs.{Meeting, blocking, burst_of, ending_now, meeting_of, place_after, planned_of, tick, yielding}
 use Rattle.round_model.specs.Work.{after_meeting, after_unit, before, core_after_work, elected, elected_over, run_over, with_current, worked}
 use Rattle.round_model.proofs.Directories.{is_thread}
-use Rattle.round_model.proofs.Finding.{find-All, find-passes}
+use Rattle.round_model.proofs.Finding.{find-All}
 use Rattle.round_model.proofs.Keeping.{All-append, All-one}
 use Rattle.round_model.proofs.Units.{blocking_ends}
 

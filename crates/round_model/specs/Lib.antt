@@ -33,6 +33,7 @@ pub mod Spread
 pub mod Steps
 pub mod StillRounds
 pub mod Stretches
+pub mod UnitSteps
 pub mod Units
 pub mod Updates
 pub mod Work
