@@ -1,5 +1,5 @@
 -- Every state that a legal history leaves is bounded.
-use Rattle.std.proofs.Common.{◌≡◌, ◌≢◌, ℕ, suc, ◌+◌, ◌==◌, ◌<◌, ◌≤◌, ◌&&◌, eqb, Bool, true, false, List, [], ◌∷◌, ◌++◌, length, map, sum_by, count_by, get_or, All, refl, sym, ap, subst, ◌∙◌, arith}
+use Rattle.std.proofs.Common.{◌≡◌, ◌≢◌, ℕ, suc, ◌+◌, ◌==◌, ◌<◌, ◌≤◌, eqb, Bool, true, false, List, [], ◌∷◌, ◌++◌, length, map, sum_by, count_by, get_or, All, refl, sym, ap, subst, ◌∙◌, arith}
 use Rattle.std.specs.Prelude.{AllPairs}
 use Rattle.std.proofs.lemmas.Bool.Decides.{nat_tests}
 use Rattle.std.proofs.lemmas.List.Sums.{sum_by-cons, sum_by-le-sum_by}
@@ -11,45 +11,41 @@ use Rattle.round_model.specs.declared.plan.Planned.{Planned}
 use Rattle.round_model.specs.declared.state.ModelCore.{ModelCore}
 use Rattle.round_model.specs.After.{after, after_from, round_of}
 use Rattle.round_model.specs.Bounds.{standing_count, standing_total}
-use Rattle.round_model.specs.BoundsLaws.{BoundsLaw, is_awaited, named_count, named_total}
+use Rattle.round_model.specs.BoundsLaws.{BoundsLaw, has_entered, is_awaited, named_count, named_total}
 use Rattle.round_model.specs.Cores.{Cores, core_numbers, opening_state, tasks_of}
 use Rattle.round_model.specs.Fits.{Fits}
 use Rattle.round_model.specs.Kept.{Holds}
 use Rattle.round_model.specs.Legal.{Legal, LegalNext}
+use Rattle.round_model.specs.Moves.{is_blocked_task, is_task}
+use Rattle.round_model.specs.Phases.{blocked_places_of, places_of}
 use Rattle.round_model.proofs.AddedBounds.{holds_bounds}
-use Rattle.round_model.proofs.Awaited.{awaited_falls, awaited_name}
+use Rattle.round_model.proofs.Arrived.{entered_grows, entered_name, entered_or_awaited}
+use Rattle.round_model.proofs.Awaited.{fresh}
 use Rattle.round_model.proofs.BegunBounds.{counted}
-use Rattle.round_model.proofs.Counting.{count_fewer}
 use Rattle.round_model.proofs.Gaining.{AllGain, moved_gains, named_comes}
 use Rattle.round_model.proofs.Grows.{one_more}
 use Rattle.round_model.proofs.Histories.{legal_induction}
 use Rattle.round_model.proofs.Keeping.{bounds_hold}
 use Rattle.round_model.proofs.Openings.{opening_core}
 use Rattle.round_model.proofs.There.{are_there}
-use Rattle.round_model.proofs.Totals.{total, total_has, total_is}
+use Rattle.round_model.proofs.Totals.{sum_of_both, total, total_has, total_is, total_two}
 
--- what holds after each entry: the numbers are in range, and those that stand and those that are awaited come from the plan
+-- what holds after each entry: the numbers are in range, and no more threads stand than have entered
 pub record Stays (p : Meaning) (plan : Plan) (named : ℕ → Bool) (h : List Entry) : Type 0 where
   pub holds : (c : ℕ) → c < plan.cores → Holds p (after p plan h c)
-  pub count : total (named_count named) plan.cores (after p plan h) + count_by (awaited_name named h) plan.threads ≤ count_by (λ (t : Planned). named t.id) plan.threads
+  pub count : total (named_count named) plan.cores (after p plan h) ≤ count_by (entered_name named h) plan.threads
 
 nobody_named : (named : ℕ → Bool) (plan : Plan) (cores : List ℕ) → sum_by (named_count named) (map (opening_state plan) cores) ≡ 0
 unfolding opening_state
 nobody_named named plan [] = refl
 nobody_named named plan (c ∷ cores) = omega (arith, sum_by-cons (named_count named) (opening_state plan c) (map (opening_state plan) cores), nobody_named named plan cores)
 
-left_of : (a b : Bool) → (a && b) ≡ true → a ≡ true
-left_of true b is = refl
-left_of false b is = is
-
 module _ (p : Meaning) (plan : Plan) (fits : Fits p plan) (handlers : MeetsHandlerObligations p) (named : ℕ → Bool) where
   stays_opening : Stays p plan named []
   unfolding after_from
   stays_opening = record {
     holds = λ c there. bounds_hold p (opening_state plan c) (opening_core p plan fits c there);
-    count =
-        let fewer = count_fewer (λ (t : Planned). named t.id) (awaited_name named []) plan.threads (λ t. left_of (named t.id) (is_awaited [] t)) in
-        omega (arith, nobody_named named plan (core_numbers plan));
+    count = omega (arith, nobody_named named plan (core_numbers plan));
   }
 
   stays_more : (h : List Entry) (e : Entry) → Legal p plan h → LegalNext p plan h e → Stays p plan named h → Stays p plan named (h ++ e ∷ [])
@@ -58,11 +54,15 @@ module _ (p : Meaning) (plan : Plan) (fits : Fits p plan) (handlers : MeetsHandl
       let here = subst (AllGain p named plan.cores (named_comes named e) (after p plan h)) (sym (one_more p plan h e)) gain in
       record {
         holds = here.holds;
-        count = let one = here.count in let two = stays.count in let three = awaited_falls named plan p h e so_far legal in omega arith;
+        count = let one = here.count in let two = stays.count in let three = entered_grows named p plan fits h so_far e legal in omega arith;
       }
 
   pub stays : (h : List Entry) → Legal p plan h → Stays p plan named h
   stays h legal = legal_induction p plan (Stays p plan named) stays_opening stays_more h legal
+
+nobody_at : (plan : Plan) (c : ℕ) → standing_count (opening_state plan c) ≡ 0
+unfolding opening_state
+nobody_at plan c = refl
 
 -- every number
 count_all : {X : Type 0} (xs : List X) → count_by (λ x. true) xs ≡ length xs
@@ -106,22 +106,42 @@ named_once id (t ∷ threads) distinct =
           omega arith
     ] refl
 
+-- the places of one number
+places_are : (plan : Plan) (m : Cores) (id : ℕ) → places_of plan m id + blocked_places_of plan m id ≡ named_total (λ n. n == id) plan m
+places_are plan m id =
+    let named : ℕ → Bool = λ n. n == id in
+    let tasks : ModelCore → ℕ = λ core. count_by (is_task id) (tasks_of core) in
+    let blocked : ModelCore → ℕ = λ core. count_by (is_blocked_task id) core.blocked in
+    omega (arith, total_is tasks plan.cores m, total_is blocked plan.cores m, total_is (named_count named) plan.cores m, sum_of_both tasks blocked (map m (core_numbers plan)))
+
 pub bounds_law : BoundsLaw
 bounds_law p plan h fits handlers legal =
     let every = stays p plan fits handlers (λ id. true) h legal in
     let m = after p plan h in
+    let new = fresh p plan fits h legal in
+    let standing = total_standing plan m in
+    let of_names : (named : ℕ → Bool) → named_total named plan m ≤ count_by (entered_name named h) plan.threads =
+    λ named. let count = (stays p plan fits handlers named h legal).count in omega (arith, total_is (named_count named) plan.cores m) in
+    let entered : standing_total plan m ≤ count_by (has_entered h) plan.threads = let count = every.count in omega arith in
     let room : standing_total plan m + count_by (is_awaited h) plan.threads ≤ length plan.threads =
-    let count = every.count in omega (arith, total_standing plan m, count_all plan.threads) in
-    let named : (name : ℕ → Bool) → named_total name plan m + count_by (λ (t : Planned). name t.id && is_awaited h t) plan.threads ≤ count_by (λ (t : Planned). name t.id) plan.threads =
-    λ name. let count = (stays p plan fits handlers name h legal).count in omega (arith, total_is (named_count name) plan.cores m) in
+    let both = entered_or_awaited (λ id. true) h plan.threads new in omega (arith, count_all plan.threads) in
     record {
       bounds = record {
         total = omega arith;
         each = λ c there.
             let few = total_has (named_count (λ id. true)) plan.cores m c there in
-            holds_bounds p (m c) (every.holds c there) (omega (arith, standing_named (m c), total_standing plan m, fits.few_threads));
+            holds_bounds p (m c) (every.holds c there) (omega (arith, standing_named (m c), fits.few_threads));
       };
+      two_cores = λ a b first second apart.
+          let few = total_two standing_count plan.cores m a b (opening_state plan a) (nobody_at plan a) first second apart in
+          omega (arith, total_is standing_count plan.cores m);
+      entered = entered;
+      of_names = of_names;
+      fresh = new;
       room = room;
-      of_names = named;
-      once = λ id. let count = named (λ n. n == id) in omega (arith, named_once id plan.threads fits.distinct);
+      once = λ id.
+          let named : ℕ → Bool = λ n. n == id in
+          let count = of_names named in
+          let both = entered_or_awaited named h plan.threads new in
+          omega (arith, places_are plan m id, named_once id plan.threads fits.distinct);
     }

@@ -59,7 +59,7 @@ entering_parts round a own t test =
     let first = and_true (eqb t.core a) (eqb t.round round) parts.0 in
     (grind (arith, nat_tests), grind (arith, nat_tests))
 
-as_planned : (plan : Plan) (round by thread : ℕ) (own : List Entry) (next : Option Planned) → find (is_entering round by own) plan.threads ≡ next
+pub as_planned : (plan : Plan) (round by thread : ℕ) (own : List Entry) (next : Option Planned) → find (is_entering round by own) plan.threads ≡ next
     → IsSomeAnd next (λ (t : Planned). t.id ≡ thread) → EntersAsPlanned plan round thread by
 unfolding Found
 as_planned plan round by thread own None is next = absurd next

@@ -3,6 +3,7 @@ pub mod AddedArrivals
 pub mod AddedBounds
 pub mod AddedRows
 pub mod AddedStands
+pub mod Arrived
 pub mod Awaited
 pub mod Beginnings
 pub mod Begun

@@ -19,11 +19,7 @@ use Rattle.round_model.proofs.BegunBounds.{counted}
 use Rattle.round_model.proofs.Bounded.{bounds_law}
 use Rattle.round_model.proofs.Entering.{entering_parts}
 use Rattle.round_model.proofs.Owing.{sum_owed}
-
--- sums of sums
-sum_of_both : {X : Type 0} (f g : X → ℕ) (xs : List X) → sum_by (λ x. f x + g x) xs ≡ sum_by f xs + sum_by g xs
-sum_of_both f g [] = refl
-sum_of_both f g (x ∷ xs) = omega (arith, sum_by-cons (λ y. f y + g y) x xs, sum_by-cons f x xs, sum_by-cons g x xs, sum_of_both f g xs)
+use Rattle.round_model.proofs.Totals.{sum_of_both}
 
 sum_of_same : {X : Type 0} (n : ℕ) (xs : List X) → sum_by (λ x. n) xs ≡ length xs * n
 sum_of_same n [] = omega arith

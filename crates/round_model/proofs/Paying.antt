@@ -10,8 +10,8 @@ use Rattle.round_model.specs.declared.entry.Entry.TheVariants as entry
 use Rattle.round_model.specs.declared.plan.Plan.{Plan}
 use Rattle.round_model.specs.declared.plan.Planned.{Planned}
 use Rattle.round_model.specs.declared.state.Blocked.{Blocked}
+use Rattle.round_model.specs.declared.state.ModelCore.{ModelCore}
 use Rattle.round_model.specs.After.{after, moved, round_after, round_of}
-use Rattle.round_model.specs.BoundsLaws.{named_count}
 use Rattle.round_model.specs.Cores.{Cores}
 use Rattle.round_model.specs.Entries.{acting_core, acts, lets_in}
 use Rattle.round_model.specs.Fits.{Fits}
@@ -170,7 +170,6 @@ module _ (p : Meaning) (plan : Plan) (fits : Fits p plan) where
     wakes thread by at reads (Some b) is next there =
         let e = entry.Wake thread by at reads in
         let blocked = (after p plan h by).blocked in
-        let named : ℕ → Bool = λ n. n == thread in
         let m = after p plan h in
         let due : is_due_blocked (round_of h) b ≡ true = find-passes (is_due_blocked (round_of h)) blocked b is in
         let some = some_counted (is_due_blocked (round_of h)) (is_due_blocked (round_of h)) blocked b is due in
@@ -178,8 +177,9 @@ module _ (p : Meaning) (plan : Plan) (fits : Fits p plan) where
         let own : is_blocked_task thread b ≡ true = let id : b.task.id ≡ thread = next in grind (arith, nat_tests) in
         let once : count_by (is_blocked_task thread) blocked ≤ 1 =
         let bound = (bounds_law p plan h fits handlers so_far).once thread in
-        let here = total_has (named_count named) plan.cores m by there in
-        omega (arith, total_is (named_count named) plan.cores m) in
+        let blocked_here : ModelCore → ℕ = λ core. count_by (is_blocked_task thread) core.blocked in
+        let here = total_has blocked_here plan.cores m by there in
+        omega (arith, total_is blocked_here plan.cores m) in
         let first : blocked_of thread (m by) ≡ Some b = found_by_both (is_due_blocked (round_of h)) (is_blocked_task thread) blocked b is own once in
         let left = due_by e by (without_first (is_blocked_task b.task.id) blocked) refl (wake_own p plan fits (round_of h) m thread by at reads b first) in
         let less = count_without (is_due_blocked (round_of h)) (is_blocked_task b.task.id) blocked b (subst (λ (id : ℕ). blocked_of id (m by) ≡ Some b) (sym next) first) in

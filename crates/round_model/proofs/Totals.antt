@@ -1,12 +1,18 @@
 -- Sums over the cores of a plan.
-use Rattle.std.proofs.Common.{◌≡◌, ℕ, ◌+◌, ◌<◌, ◌≤◌, List, [], ◌∷◌, map, sum, sum_by, get_or, refl, sym, ap, ◌∙◌, arith}
+use Rattle.std.proofs.Common.{◌≢◌, eqb, false, cond, ◌≡◌, ℕ, ◌+◌, ◌<◌, ◌≤◌, List, [], ◌∷◌, map, sum, sum_by, get_or, refl, sym, ap, ◌∙◌, arith}
 use Rattle.std.specs.List.{range_with_len}
+use Rattle.std.proofs.lemmas.Bool.Decides.{nat_tests}
 use Rattle.std.proofs.lemmas.List.FromFn.{get_or-map-range_with_len}
 use Rattle.std.proofs.lemmas.List.Sums.{get_or-le-sum_by, sum-map, sum_by-cons, sum_by-set}
 use Rattle.round_model.specs.declared.state.ModelCore.{ModelCore}
 use Rattle.round_model.specs.Cores.{Cores, listed}
 use Rattle.round_model.specs.Updates.{updated}
 use Rattle.round_model.proofs.States.{listed_length, listed_same, listed_updated}
+
+-- sums of sums
+pub sum_of_both : {X : Type 0} (f g : X → ℕ) (xs : List X) → sum_by (λ x. f x + g x) xs ≡ sum_by f xs + sum_by g xs
+sum_of_both f g [] = refl
+sum_of_both f g (x ∷ xs) = omega (arith, sum_by-cons (λ y. f y + g y) x xs, sum_by-cons f x xs, sum_by-cons g x xs, sum_of_both f g xs)
 
 -- the sum over the first n cores
 abbrev pub total : (ModelCore → ℕ) → ℕ → Cores → ℕ
@@ -36,4 +42,13 @@ pub total_has : (f : ModelCore → ℕ) (n : ℕ) (m : Cores) (c : ℕ) → c < 
 total_has f n m c there =
     let here : f (get_or (listed n m) c (m c)) ≡ f (m c) = ap f (get_or-map-range_with_len m 0 n c c (m c) there (omega arith)) in
     let bound = get_or-le-sum_by f (listed n m) c (m c) (omega (arith, listed_length n m)) in
+    omega arith
+
+-- nor is what stands at two of them, where something else stands for nothing
+pub total_two : (f : ModelCore → ℕ) (n : ℕ) (m : Cores) (a b : ℕ) (empty : ModelCore) → f empty ≡ 0 → a < n → b < n → a ≢ b → f (m a) + f (m b) ≤ total f n m
+total_two f n m a b empty none first second apart =
+    let rest = total_updated f n m a empty first in
+    let other : eqb a b ≡ false = grind (arith, nat_tests) in
+    let here : f (updated m a empty b) ≡ f (m b) = ap (λ x. f (cond x empty (m b))) other in
+    let bound = total_has f n (updated m a empty) b second in
     omega arith

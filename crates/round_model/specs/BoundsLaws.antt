@@ -1,5 +1,6 @@
 -- What bounds the threads and the numbers of every state that a legal history leaves.
-use Rattle.std.specs.Prelude.{◌≡◌, ℕ, ◌+◌, ◌≤◌, ◌==◌, nat_lt, Bool, ◌&&◌, ◌||◌, List, count_by, length, map, sum}
+use Rattle.std.specs.Prelude.{◌≡◌, ◌≢◌, ℕ, ◌+◌, ◌<◌, ◌≤◌, ◌==◌, nat_lt, Bool, ◌&&◌, ◌||◌, List, All, count_by, length, map, sum, IsFalse, IsTrue}
+use Rattle.std.specs.List.{list_any}
 use Rattle.sched_base.specs.declared.task.Task.{Task}
 use Rattle.policy_tree.specs.Meaning.{Meaning}
 use Rattle.policy_eval.specs.Obligations.{MeetsHandlerObligations}
@@ -9,10 +10,12 @@ use Rattle.round_model.specs.declared.plan.Planned.{Planned}
 use Rattle.round_model.specs.declared.state.Blocked.{Blocked}
 use Rattle.round_model.specs.declared.state.ModelCore.{ModelCore}
 use Rattle.round_model.specs.After.{after, round_of}
-use Rattle.round_model.specs.Bounds.{IsInBounds, standing_total}
+use Rattle.round_model.specs.Bounds.{IsInBounds, standing_count, standing_total}
 use Rattle.round_model.specs.Cores.{Cores, core_numbers, tasks_of}
+use Rattle.round_model.specs.Entries.{lets_in}
 use Rattle.round_model.specs.Fits.{Fits}
 use Rattle.round_model.specs.Legal.{Legal, rounds_begun}
+use Rattle.round_model.specs.Phases.{blocked_places_of, places_of}
 use Rattle.round_model.specs.Scenes.{is_entering, own_entries}
 
 -- in a legal history the number of the open round is how many rounds have begun
@@ -34,19 +37,29 @@ named_count named core =
 abbrev pub named_total : (ℕ → Bool) → Plan → Cores → ℕ
 named_total named plan m = sum (map (λ c. named_count named (m c)) (core_numbers plan))
 
--- what holds after a legal history: numbers lie in their ranges, and threads come from the plan alone
+-- whether the thread has entered
+abbrev pub has_entered : List Entry → Planned → Bool
+has_entered history t = list_any (lets_in t.id) history
+
+-- what holds after a legal history: numbers lie in their ranges, and who stands has entered, once
 pub record IsBounded (p : Meaning) (plan : Plan) (history : List Entry) : Type 0 where
   -- each core is in bounds, and no more threads stand than the plan has
   pub bounds : IsInBounds p plan (length plan.threads) (after p plan history)
-  -- together with those that have yet to enter they are no more than the plan has
-  pub room : standing_total plan (after p plan history) + count_by (is_awaited history) plan.threads
-      ≤ length plan.threads
+  -- and so it is of what two cores hold together
+  pub two_cores : (a b : ℕ) → a < plan.cores → b < plan.cores → a ≢ b →
+      let m = after p plan history in standing_count (m a) + standing_count (m b) ≤ length plan.threads
+  -- no more threads stand than have entered
+  pub entered : standing_total plan (after p plan history) ≤ count_by (has_entered history) plan.threads
   -- the same of those threads alone whose numbers are named
   pub of_names : (named : ℕ → Bool) → named_total named plan (after p plan history)
-      + count_by (λ (t : Planned). named t.id && is_awaited history t) plan.threads
-      ≤ count_by (λ (t : Planned). named t.id) plan.threads
-  -- so a thread stands once at most, and nowhere as long as it has yet to enter
-  pub once : (id : ℕ) → named_total (λ n. n == id) plan (after p plan history)
+      ≤ count_by (λ (t : Planned). named t.id && has_entered history t) plan.threads
+  -- who has yet to enter hasn't entered
+  pub fresh : All (λ (t : Planned). IsTrue (is_awaited history t) → IsFalse (has_entered history t)) plan.threads
+  -- so those that stand and those that have yet to enter are together no more than the plan has
+  pub room : standing_total plan (after p plan history) + count_by (is_awaited history) plan.threads
+      ≤ length plan.threads
+  -- and a thread stands or is blocked in one place at most, and nowhere as long as it has yet to enter
+  pub once : (id : ℕ) → let m = after p plan history in places_of plan m id + blocked_places_of plan m id
       + count_by (λ (t : Planned). (t.id == id) && is_awaited history t) plan.threads ≤ 1
 
 -- so it is after every legal history
