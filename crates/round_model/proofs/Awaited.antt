@@ -23,7 +23,8 @@ use Rattle.round_model.proofs.Entering.{as_planned, entering_parts}
 use Rattle.round_model.proofs.Histories.{legal_induction, open_round}
 use Rattle.round_model.proofs.Longer.{round_of_more}
 
-or_cases : (a b : Bool) → (a || b) ≡ true → (a ≡ true) ⊎ (b ≡ true)
+-- one side of a true alternative holds
+pub or_cases : (a b : Bool) → (a || b) ≡ true → (a ≡ true) ⊎ (b ≡ true)
 or_cases true b is = inl refl
 or_cases false b is = inr is
 

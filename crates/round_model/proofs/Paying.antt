@@ -23,6 +23,7 @@ use Rattle.round_model.specs.Rows.{Row}
 use Rattle.round_model.specs.Scenes.{entering_next, has_attempted, has_worked, is_due_blocked, is_entering, own_entries, scene_of, waking_next}
 use Rattle.round_model.proofs.Added.{acts_is, no_round}
 use Rattle.round_model.proofs.AddedArrivals.{entering_more}
+use Rattle.round_model.proofs.Awaited.{or_cases}
 use Rattle.round_model.proofs.BegunBounds.{counted}
 use Rattle.round_model.proofs.Bounded.{bounds_law}
 use Rattle.round_model.proofs.Changed.{enter_leaves, none_falls_due, wake_own}
@@ -31,7 +32,7 @@ use Rattle.round_model.proofs.Finding.{find-passes}
 use Rattle.round_model.proofs.Grows.{one_more}
 use Rattle.round_model.proofs.Histories.{legal_induction}
 use Rattle.round_model.proofs.Longer.{done_more, own_more, own_none, round_of_more}
-use Rattle.round_model.proofs.Owing.{found_by_both, none_by, none_found, not_none, or_cases, others_owe, owed_is, round_open, same_sum, some_counted, still_open, sum_owed}
+use Rattle.round_model.proofs.Owing.{found_by_both, none_by, none_found, not_none, others_owe, owed_is, round_open, same_sum, some_counted, still_open, sum_owed}
 use Rattle.round_model.proofs.Totals.{total_has, total_is}
 
 -- whether a core has done something, with an entry more
