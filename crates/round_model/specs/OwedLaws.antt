@@ -35,8 +35,8 @@ abbrev pub NoneFallsDueLaw : Type 0
 NoneFallsDueLaw = (p : Meaning) (plan : Plan) (history : List Entry) (e : Entry) → Fits p plan
     → MakesNoneDue p plan history e
 
--- never more is owed than each thread's entry or wake, and a unit and an attempt of each core. As a round begins, what
--- is owed is all that the round will have
+-- never more is owed, as a round begins or later, than an entry for each thread of the plan, and a unit and an attempt
+-- for each core
 abbrev pub OwedBoundLaw : Type 0
 OwedBoundLaw = (p : Meaning) (plan : Plan) (history : List Entry) → Fits p plan → MeetsHandlerObligations p
     → Legal p plan history → owed_total p plan history ≤ length plan.threads + 2 * plan.cores
