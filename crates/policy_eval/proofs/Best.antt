@@ -6,7 +6,7 @@ use Rattle.std.specs.Ordering.{MatchOrdering, int_cmp, is_lt, ordering_then}
 use Rattle.std.proofs.lemmas.Int.{ints}
 use Rattle.std.specs.Cmp.{int_ranks}
 use Rattle.policy_tree.specs.Meaning.{KeyTree}
-use Rattle.policy_eval.specs.Laws.{BestAndRestLaw, BestLaw, IsBest}
+use Rattle.policy_eval.specs.Laws.{BestAndRestLaw, BestLaw, IsBest, IsBestAndRest, RestLaw}
 use Rattle.policy_eval.specs.Orders.{best_and_rest, best_of, better_and_rest, better_of, keys_order, precedes}
 use Rattle.policy_eval.specs.Values.{Assignment, value_of}
 
@@ -164,3 +164,38 @@ best_law keys [] best is = absurd (cc)
 best_law keys (x ∷ xs) best is =
     let same : better_of (precedes keys) x (best_of (precedes keys) xs) ≡ best = cc in
     subst (IsBest keys (x ∷ xs)) same (front_best keys x xs (best_of (precedes keys) xs) refl (λ y found. best_law keys xs y found))
+
+-- the item in front, and the others behind it
+module _ (keys : List KeyTree) (x : Assignment) (xs : List Assignment) where
+  later_rest : (y : Assignment) (others : List Assignment) → IsBestAndRest keys xs y others → precedes keys y x ≡ true → IsBestAndRest keys (x ∷ xs) y (x ∷ others)
+  unfolding later_best
+  later_rest y others is test = record { first = later_best keys x xs y is.first test; rest = ap (λ (list : List Assignment). x ∷ list) is.rest }
+
+  head_rest : (y : Assignment) (others : List Assignment) → IsBestAndRest keys xs y others → precedes keys y x ≡ false → IsBestAndRest keys (x ∷ xs) x xs
+  unfolding head_best
+  head_rest y others is test = record { first = head_best keys x xs y is.first test; rest = refl }
+
+alone_rest : (keys : List KeyTree) (x : Assignment) → IsBestAndRest keys (x ∷ []) x []
+unfolding alone_best
+alone_rest keys x = record { first = alone_best keys x; rest = refl }
+
+front_rest : (keys : List KeyTree) (x : Assignment) (xs : List Assignment) (found : Option (Assignment × List Assignment)) → best_and_rest (precedes keys) xs ≡ found
+    → ((y : Assignment) (others : List Assignment) → found ≡ Some (y, others) → IsBestAndRest keys xs y others)
+    → let pair : Assignment × List Assignment = better_and_rest (precedes keys) x xs found in IsBestAndRest keys (x ∷ xs) pair.0 pair.1
+front_rest keys x [] None is others = alone_rest keys x
+front_rest keys x [] (Some later) is others = absurd (cc)
+front_rest keys x (z ∷ zs) None is others = absurd (cc)
+front_rest keys x (z ∷ zs) (Some later) is others =
+    elim (precedes keys later.0 x) as (λ b. precedes keys later.0 x ≡ b
+    → let pair : Assignment × List Assignment = cond b (later.0, x ∷ later.1) (x, z ∷ zs) in IsBestAndRest keys (x ∷ z ∷ zs) pair.0 pair.1) [
+      | true ↦ λ test. later_rest keys x (z ∷ zs) later.0 later.1 (others later.0 later.1 refl) test
+      | false ↦ λ test. head_rest keys x (z ∷ zs) later.0 later.1 (others later.0 later.1 refl) test
+    ] refl
+
+pub rest_law : RestLaw
+rest_law keys [] best others is = absurd (cc)
+rest_law keys (x ∷ xs) best others is =
+    let pair : Assignment × List Assignment = better_and_rest (precedes keys) x xs (best_and_rest (precedes keys) xs) in
+    let same : pair ≡ (best, others) = cc in
+    subst (λ (found : Assignment × List Assignment). IsBestAndRest keys (x ∷ xs) found.0 found.1) same
+    (front_rest keys x xs (best_and_rest (precedes keys) xs) refl (λ y rest found. rest_law keys xs y rest found))

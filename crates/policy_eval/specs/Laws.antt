@@ -1,5 +1,5 @@
 -- What the definitions are meant to give.
-use Rattle.std.specs.Prelude.{◌≡◌, ℕ, ◌<◌, List, length, Some, option_map, slice_index_or, IsFalse, IsTrue}
+use Rattle.std.specs.Prelude.{◌≡◌, ℕ, ◌<◌, List, length, remove, Some, option_map, slice_index_or, IsFalse, IsTrue}
 use Rattle.policy_tree.specs.Meaning.{KeyTree, Meaning}
 use Rattle.policy_eval.specs.Obligations.{MeetsBalanceObligations, MeetsHandlerObligations, MeetsObligations}
 use Rattle.policy_eval.specs.Orders.{best_and_rest, best_of, precedes}
@@ -23,6 +23,16 @@ pub record IsBest (keys : List KeyTree) (xs : List Assignment) (best : Assignmen
 abbrev pub BestLaw : Type 0
 BestLaw = (keys : List KeyTree) (xs : List Assignment) (best : Assignment) →
     best_of (precedes keys) xs ≡ Some best → IsBest keys xs best
+
+-- the first is the best, and the others are the list without the place where it stands
+pub record IsBestAndRest (keys : List KeyTree) (xs : List Assignment) (best : Assignment) (others : List Assignment) : Type 0 where
+  pub first : IsBest keys xs best
+  pub rest : others ≡ remove xs first.at
+
+-- so it is of the pair that a list has
+abbrev pub RestLaw : Type 0
+RestLaw = (keys : List KeyTree) (xs : List Assignment) (best : Assignment) (others : List Assignment) →
+    best_and_rest (precedes keys) xs ≡ Some (best, others) → IsBestAndRest keys xs best others
 
 -- a policy meets its statements exactly where it meets what it owes for balance and for its handlers
 pub record ObligationParts : Type 0 where

@@ -1,6 +1,6 @@
 //! Laws of the definitions, each a function without parameters whose contract is the law.
 
-ghost use Rattle.policy_eval.specs.Laws.{BestAndRestLaw, BestLaw, ObligationParts};
+ghost use Rattle.policy_eval.specs.Laws.{BestAndRestLaw, BestLaw, ObligationParts, RestLaw};
 
 /// The best of a list by the keys: none comes before it, and it comes before each earlier one.
 pub fn law_best()
@@ -10,6 +10,11 @@ pub fn law_best()
 /// What `best_and_rest` gives first is the best of the list.
 pub fn law_best_and_rest()
     ensures { BestAndRestLaw }
+{}
+
+/// What `best_and_rest` gives beside the best is the list without the place where the best stands.
+pub fn law_rest()
+    ensures { RestLaw }
 {}
 
 /// The statements of a policy are what it owes for balance and what it owes for its handlers.

@@ -87,7 +87,7 @@ module _ (p : Meaning) (plan : Plan) (old new : Past) (h : List Entry) (e : Entr
     added.rounds ∙ (stands.round ∙ (sym (round_stays e by (round_of h) acting) ∙ sym (round_of_more h e))),
   )
 
-or_nothing : (b : Bool) → (b || false) ≡ b
+pub or_nothing : (b : Bool) → (b || false) ≡ b
 or_nothing true = refl
 or_nothing false = refl
 

@@ -82,7 +82,7 @@ others_left test thread (t ∷ threads) distinct next =
     and_true false = refl
 
 -- who has yet to enter, with one entry more
-entering_more : (h : List Entry) (e : Entry) (a : ℕ) (t : Planned) → is_round e ≡ false
+pub entering_more : (h : List Entry) (e : Entry) (a : ℕ) (t : Planned) → is_round e ≡ false
     → is_entering (round_of h) a (own_entries (h ++ e ∷ []) a) t ≡ (is_entering (round_of h) a (own_entries h a) t && not (acts a e && lets_in t.id e))
 entering_more h e a t inner =
     ap (λ (own : List Entry). is_entering (round_of h) a own t) (own_more h e a inner)

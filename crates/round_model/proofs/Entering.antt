@@ -53,13 +53,13 @@ and_true : (a b : Bool) → (a && b) ≡ true → (a ≡ true) × (b ≡ true)
 and_true true b e = (refl, e)
 and_true false b e = absurd (cc)
 
-entering_parts : (round a : ℕ) (own : List Entry) (t : Planned) → is_entering round a own t ≡ true → (t.core ≡ a) × (t.round ≡ round)
+pub entering_parts : (round a : ℕ) (own : List Entry) (t : Planned) → is_entering round a own t ≡ true → (t.core ≡ a) × (t.round ≡ round)
 entering_parts round a own t test =
     let parts = and_true (eqb t.core a && eqb t.round round) (not (list_any (lets_in t.id) own)) test in
     let first = and_true (eqb t.core a) (eqb t.round round) parts.0 in
     (grind (arith, nat_tests), grind (arith, nat_tests))
 
-as_planned : (plan : Plan) (round by thread : ℕ) (own : List Entry) (next : Option Planned) → find (is_entering round by own) plan.threads ≡ next
+pub as_planned : (plan : Plan) (round by thread : ℕ) (own : List Entry) (next : Option Planned) → find (is_entering round by own) plan.threads ≡ next
     → IsSomeAnd next (λ (t : Planned). t.id ≡ thread) → EntersAsPlanned plan round thread by
 unfolding Found
 as_planned plan round by thread own None is next = absurd next

@@ -1,6 +1,7 @@
 pub mod After
 pub mod Attempts
 pub mod Bounds
+pub mod BoundsLaws
 pub mod Bursts
 pub mod Choices
 pub mod Cores
@@ -19,6 +20,7 @@ pub mod Notes
 pub mod OnePlace
 pub mod Outcomes
 pub mod Owed
+pub mod OwedLaws
 pub mod Past
 pub mod Phases
 pub mod Programs
@@ -33,6 +35,7 @@ pub mod Steps
 pub mod StillRounds
 pub mod Stretches
 pub mod Turns
+pub mod UnitSteps
 pub mod Units
 pub mod Updates
 pub mod Work

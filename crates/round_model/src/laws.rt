@@ -1,7 +1,9 @@
 //! Laws of the model, each a function without parameters whose contract is the law.
 
 ghost use Rattle.round_model.specs.Bursts.{BurstsLaw};
+ghost use Rattle.round_model.specs.BoundsLaws.{BoundsLaw, OpenRoundLaw};
 ghost use Rattle.round_model.specs.Laws.{ActingLaw, ConstantsLaw, EnteringLaw, LegalGrows, OneMoreLaw, OpeningLaw, PrefixLaw, UntouchedLaw};
+ghost use Rattle.round_model.specs.OwedLaws.{NoneFallsDueLaw, OwedBoundLaw, OwedLaw};
 
 /// The state after a longer history is what its last entry makes of the state before it.
 pub fn law_one_more()
@@ -46,4 +48,29 @@ pub fn law_entering()
 /// Each thread that stands at a core has a burst to run next.
 pub fn law_bursts()
     ensures { BurstsLaw }
+{}
+
+/// In a legal history the number of the open round is how many rounds have begun.
+pub fn law_open_round()
+    ensures { OpenRoundLaw }
+{}
+
+/// After a legal history numbers lie in their ranges, and threads stand once at most and come from the plan alone.
+pub fn law_bounds()
+    ensures { BoundsLaw }
+{}
+
+/// A legal entry of a core is one of those that it owed, and leaves what the others owe.
+pub fn law_owed()
+    ensures { OwedLaw }
+{}
+
+/// No entry makes a thread due in its round.
+pub fn law_none_falls_due()
+    ensures { NoneFallsDueLaw }
+{}
+
+/// No more is ever owed than an entry for each thread and two for each core.
+pub fn law_owed_bound()
+    ensures { OwedBoundLaw }
 {}
