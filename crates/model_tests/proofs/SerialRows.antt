@@ -11,7 +11,8 @@ use Rattle.round_model.specs.Legal.{is_complete, is_due}
 use Rattle.round_model.specs.Moves.{core_after_event, handed, received, released}
 use Rattle.round_model.specs.Scenes.{entering_next, scene_of, waking_next}
 use Rattle.round_model.specs.Work.{worked}
-use Rattle.round_model.specs.Serial.{step_of, with_round}
+use Rattle.round_model.specs.Serial.{step_of}
+use Rattle.round_model.specs.SerialRounds.{with_round}
 use Rattle.round_model.specs.Spread.{spread}
 use Rattle.model_tests.specs.SerialRows.{EightThreadsSpread, FairBlocksAndWakes, OneCoreTwoUnits, StaleReadFails, TwoCoresOneSteal}
 

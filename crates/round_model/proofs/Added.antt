@@ -24,7 +24,8 @@ use Rattle.round_model.specs.Legal.{LegalNext, has_ended, rounds_begun}
 use Rattle.round_model.specs.Past.{IsPastOf, StandsFor, is_flagged, turn_of}
 use Rattle.round_model.specs.Rows.{Row}
 use Rattle.round_model.specs.Scenes.{own_entries, scene_of}
-use Rattle.round_model.specs.Steps.{IsAdded, MayBeSaid, ended_after, ended_by, turn_after}
+use Rattle.round_model.specs.Steps.{MayBeSaid}
+use Rattle.round_model.specs.Additions.{IsAdded, ended_after, ended_by, turn_after}
 use Rattle.round_model.proofs.Grows.{one_more}
 use Rattle.round_model.proofs.Keeping.{some_at}
 use Rattle.round_model.proofs.Longer.{begun_more, done_more, own_more, round_of_more}

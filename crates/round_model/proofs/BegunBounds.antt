@@ -15,7 +15,7 @@ use Rattle.round_model.specs.declared.state.CountAndLoad.{CountAndLoad}
 use Rattle.round_model.specs.Bounds.{CoreInBounds, standing_count}
 use Rattle.round_model.specs.Fits.{Fits}
 use Rattle.round_model.specs.Past.{IsPastOf, arrival_of, seen_in}
-use Rattle.round_model.specs.Steps.{IsBegun}
+use Rattle.round_model.specs.Additions.{IsBegun}
 use Rattle.round_model.specs.Lists.{Lists}
 use Rattle.round_model.proofs.Keeping.{All-append, All-one, some_at}
 

@@ -1,3 +1,4 @@
+pub mod Additions
 pub mod After
 pub mod Attempts
 pub mod Bounds
@@ -30,6 +31,7 @@ pub mod Rounds
 pub mod Rows
 pub mod Scenes
 pub mod Serial
+pub mod SerialRounds
 pub mod Spread
 pub mod Steps
 pub mod StillRounds

@@ -1,19 +1,15 @@
--- Serial play: one history of each plan, in which the cores take turns by the order lines.
-use Rattle.std.specs.Prelude.{ℕ, ◌+◌, ◌*◌, ◌==◌, cond, List, [], ◌∷◌, ◌++◌, length, fold, replicate, find, flat_map, Option, Some, None}
-use Rattle.std.specs.List.{range_with_len}
+-- The steps of serial play, a core at a time.
+use Rattle.std.specs.Prelude.{ℕ, ◌==◌, cond, List, [], ◌∷◌, ◌++◌, Option, Some, None}
 use Rattle.policy_tree.specs.Meaning.{Meaning}
 use Rattle.round_model.specs.declared.entry.Did.{Did}
 use Rattle.round_model.specs.declared.entry.Entry.{Entry}
 use Rattle.round_model.specs.declared.entry.Entry.TheVariants as entry
-use Rattle.round_model.specs.declared.plan.OrderLine.{OrderLine}
 use Rattle.round_model.specs.declared.plan.Plan.{Plan}
 use Rattle.round_model.specs.declared.plan.Planned.{Planned}
 use Rattle.round_model.specs.declared.state.Blocked.{Blocked}
 use Rattle.round_model.specs.Attempts.{attempt_of}
 use Rattle.round_model.specs.Choices.{target_of}
-use Rattle.round_model.specs.Cores.{core_numbers}
 use Rattle.round_model.specs.FreshReads.{fresh_reads, placement_reads}
-use Rattle.round_model.specs.Legal.{is_due}
 use Rattle.round_model.specs.Reads.{read_values}
 use Rattle.round_model.specs.Scenes.{Scene, entering_next, has_attempted, has_worked, scene_of, waking_next}
 use Rattle.round_model.specs.Work.{worked}
@@ -71,31 +67,3 @@ step_of p plan play a =
     let s : Scene = scene_of p plan play.history a in
     enter_step p plan play s a (placement_reads p.place plan play.history s)
     (entering_next plan s.round a s.own)
-
--- the cores of the round's order line
-abbrev pub order_of : Plan → ℕ → List ℕ
-order_of plan number = cores_of (find (λ (l : OrderLine). l.round == number) plan.orders)
-  where
-    cores_of : Option OrderLine → List ℕ
-    cores_of None = []
-    cores_of (Some line) = line.cores
-
--- each core so often that its turn is over: no turn has more steps, and a step past its end is none
-abbrev pub remaining_turns : Plan → List ℕ
-remaining_turns plan = flat_map (λ c. replicate (2 * length plan.threads + 3) c) (core_numbers plan)
-
--- the history with one round more, where one is due
-unfoldable pub with_round : Meaning → Plan → List Entry → ℕ → List Entry
-with_round p plan history number =
-    let opened : SerialState = record { history = history ++ entry.Round number ∷ []; looks = λ c. None } in
-    cond (is_due plan history)
-    (fold (step_of p plan) opened (order_of plan number ++ remaining_turns plan)).history
-    history
-
--- the history of so many rounds of serial play, or of all that come due
-abbrev pub serial_rounds : Meaning → Plan → ℕ → List Entry
-serial_rounds p plan rounds = fold (with_round p plan) [] (range_with_len 1 rounds)
-
--- the serial history of a plan
-abbrev pub serial_history : Meaning → Plan → List Entry
-serial_history p plan = serial_rounds p plan plan.rounds

@@ -11,7 +11,8 @@ ghost use Rattle.round_model.specs.Legal.{LegalNext};
 ghost use Rattle.round_model.specs.Lists.{Lists};
 ghost use Rattle.round_model.specs.Past.{IsPastOf, IsWindow, OfEach, StandsFor};
 ghost use Rattle.round_model.specs.Kept.{Holds, IsKept};
-ghost use Rattle.round_model.specs.Steps.{comes, AreThere, IsAdded, IsBegun, IsNextAfter, IsNoted, MayBeSaid};
+ghost use Rattle.round_model.specs.Steps.{comes, AreThere, IsNextAfter, MayBeSaid};
+ghost use Rattle.round_model.specs.Additions.{IsAdded, IsBegun, IsNoted};
 ghost use Rattle.round_model.specs.Outcomes.{IsCountable};
 ghost use Rattle.round_model.specs.Units.{IsSmallCore};
 
