@@ -1,0 +1,237 @@
+-- What a step of a core makes of a play.
+use Rattle.std.proofs.Common.{◌≡◌, ◌≢◌, ℕ, zero, suc, ◌+◌, ◌<◌, ◌≤◌, ◌||◌, ◌&&◌, ltb, eqb, max, Bool, true, false, cond, List, [], ◌∷◌, ◌++◌, map, length, get_or, set, slice_index, get_or-set_same, get_or-set_other, Option, Some, None, IsFalse, IsTrue, IsNone, refl, sym, ap, ap₂, subst, ◌∙◌, arith}
+use Rattle.std.specs.List.{range_with_len}
+use Rattle.std.specs.Option.{is_some}
+use Rattle.std.specs.Prelude.{sum}
+use Rattle.std.proofs.Math.ListN.{length-set}
+use Rattle.std.proofs.lemmas.Bool.Decides.{nat_tests}
+use Rattle.std.proofs.lemmas.List.{length-append}
+use Rattle.std.proofs.lemmas.List.FromFn.{fill_by_all, get_or-map-range_with_len, length-map-range_with_len, map-range_with_len_more}
+use Rattle.std.proofs.lemmas.List.Sums.{fold_push}
+use Rattle.sched_base.specs.declared.limits.TheConstants.{MAX_CORES, MAX_ENTRIES}
+use Rattle.policy_tree.specs.Meaning.{Meaning}
+use Rattle.policy_eval.specs.Obligations.{MeetsHandlerObligations}
+use Rattle.round_model.specs.declared.entry.Entry.{Entry}
+use Rattle.round_model.specs.declared.past.Past.{Past}
+use Rattle.round_model.specs.declared.plan.Plan.{Plan}
+use Rattle.round_model.specs.declared.turns.NextStep.{NextStep}
+use Rattle.round_model.specs.declared.turns.NextStep.TheVariants as next
+use Rattle.round_model.specs.Cores.{core_numbers}
+use Rattle.round_model.specs.Entries.{acting_core, acts, touches}
+use Rattle.round_model.specs.FreshReads.{fresh_reads, touched_from}
+use Rattle.round_model.specs.Fits.{Fits}
+use Rattle.round_model.specs.Kinds.{is_attempt, is_round}
+use Rattle.round_model.specs.Legal.{Legal, LegalNext, rounds_begun}
+use Rattle.round_model.specs.Outcomes.{ReadIn}
+use Rattle.round_model.specs.Owed.{owed, owed_total}
+use Rattle.round_model.specs.Past.{StandsFor}
+use Rattle.round_model.specs.Reads.{round_start}
+use Rattle.round_model.specs.Scenes.{has_attempted, own_entries, scene_of}
+use Rattle.round_model.specs.Serial.{SerialState, step_of, with_entry}
+use Rattle.round_model.specs.Turns.{IsStepOf, with_step}
+use Rattle.round_model.proofs.Added.{no_round}
+use Rattle.round_model.proofs.Keeping.{some_at}
+use Rattle.round_model.proofs.Longer.{begun_more, done_more, own_more, start_within}
+use Rattle.round_model.proofs.Paying.{owed_law}
+use Rattle.serial_play.specs.declared.play.Play.{Play}
+use Rattle.serial_play.specs.Plays.{Advances, HasAdded, HasRoom, IsPlay, IsStateOf, fresh_of, look_of, steps_left}
+
+-- the sum over the first cores
+abbrev sum_of : (ℕ → ℕ) → ℕ → ℕ
+sum_of f n = sum (map f (range_with_len 0 n))
+
+sum_next : (f : ℕ → ℕ) (n : ℕ) → sum_of f (n + 1) ≡ sum_of f n + f n
+sum_next f n = ap sum (map-range_with_len_more f 0 n n (omega arith)) ∙ fold_push (λ (s x : ℕ). s + x) 0 (map f (range_with_len 0 n)) (f n)
+
+sum_suc : (f : ℕ → ℕ) (n : ℕ) → sum_of f (suc n) ≡ sum_of f n + f n
+sum_suc f n = let more : suc n ≡ n + 1 = omega arith in ap (sum_of f) more ∙ sum_next f n
+
+-- sums that differ in one term
+sum_before : (f g : ℕ → ℕ) (a : ℕ) → ((c : ℕ) → c ≢ a → f c ≡ g c) → (n : ℕ) → n ≤ a → sum_of f n ≡ sum_of g n
+sum_before f g a same zero few = refl
+sum_before f g a same (suc n) few =
+    let rest = sum_before f g a same n (omega arith) in
+    let apart : n ≢ a = λ e. absurd (omega (arith, e)) in
+    omega (arith, rest, same n apart, sum_suc f n, sum_suc g n)
+
+sum_one_less : (f g : ℕ → ℕ) (a : ℕ) → ((c : ℕ) → c ≢ a → f c ≡ g c) → f a + 1 ≡ g a → (n : ℕ) → a < n → sum_of f n + 1 ≡ sum_of g n
+sum_one_less f g a same less zero there = absurd (omega arith)
+sum_one_less f g a same less (suc n) there =
+    elim (eqb n a) as (λ b. eqb n a ≡ b → sum_of f (suc n) + 1 ≡ sum_of g (suc n)) [
+      true ↦ λ e. let one : n ≡ a = grind (arith, nat_tests) in
+          let here : f n + 1 ≡ g n = subst (λ (c : ℕ). f c + 1 ≡ g c) (sym one) less in
+          omega (arith, sum_before f g a same n (omega (arith, one)), here, sum_suc f n, sum_suc g n)
+    | false ↦ λ e. let apart : n ≢ a = grind (arith, nat_tests) in
+          let rest = sum_one_less f g a same less n (let other = apart in grind (arith, there, other)) in
+          omega (arith, rest, same n apart, sum_suc f n, sum_suc g n)
+    ] refl
+
+touched_within : (c k last : ℕ) (h : List Entry) → last ≤ k → touched_from c k last h ≤ k + length h
+touched_within c k last [] small = omega arith
+touched_within c k last (e ∷ es) small =
+    elim (touches c e) as (λ b. touched_from c (suc k) (cond b (suc k) last) es ≤ k + suc (length es)) [
+      true ↦ let rest = touched_within c (suc k) (suc k) es (omega arith) in omega arith
+    | false ↦ let rest = touched_within c (suc k) last es (omega arith) in omega arith
+    ]
+
+module _ (p : Meaning) (plan : Plan) (play : Play) (fits : Fits p plan) (is : IsPlay p plan play) where
+  -- what a core reads just now, as serial play has it
+  pub fresh_same : (a : ℕ) → fresh_of plan play ≡ fresh_reads plan play.history (scene_of p plan play.history a)
+  unfolding scene_of
+  fresh_same a =
+      fill_by_all (λ (c : ℕ). max (round_start play.history) (touched_from c 0 0 play.history)) (fresh_of plan play) plan.cores 0 (length-map-range_with_len (λ (c : ℕ). max play.start (slice_index play.touched c)) 0 plan.cores) (λ c there.
+      get_or-map-range_with_len (λ (k : ℕ). max play.start (slice_index play.touched k)) 0 plan.cores c c 0 there (omega arith)
+      ∙ ap₂ max is.start (is.touched c there))
+
+  -- and it lies in the round
+  pub fresh_read : ReadIn plan play.past (fresh_of plan play)
+  fresh_read =
+      let read : ℕ → ℕ = λ c. max play.start (slice_index play.touched c) in
+      let value : (c : ℕ) → c < plan.cores → slice_index (fresh_of plan play) c ≡ read c =
+          λ c there. get_or-map-range_with_len read 0 plan.cores c c 0 there (omega arith) in
+      let window = is.stands.rows.window in
+      record {
+        one_each = length-map-range_with_len read 0 plan.cores;
+        from_start = λ c there. omega (arith, value c there, is.start, is.stands.entries);
+        to_now = λ c there.
+            let touched = touched_within c 0 0 play.history (omega arith) in
+            let start = start_within play.history in
+            omega (arith, value c there, is.start, is.touched c there, is.stands.entries);
+      }
+
+-- each entry is one that was owed
+pub reserve_kept : (p : Meaning) (plan : Plan) (h : List Entry) (e : Entry) (a : ℕ) → Fits p plan → MeetsHandlerObligations p → Legal p plan h → LegalNext p plan h e → acting_core e ≡ Some a → a < plan.cores
+    → owed_total p plan (h ++ e ∷ []) + 1 ≡ owed_total p plan h
+reserve_kept p plan h e a fits handlers legal next acting there =
+    let paid = owed_law p plan h e a fits handlers legal next acting in
+    sum_one_less (owed p plan (h ++ e ∷ [])) (owed p plan h) a paid.others paid.own plan.cores there
+
+pub room_for : (p : Meaning) (plan : Plan) (h : List Entry) (e : Entry) (a : ℕ) → Fits p plan → MeetsHandlerObligations p → Legal p plan h → LegalNext p plan h e → acting_core e ≡ Some a → a < plan.cores
+    → HasRoom p plan h → length h < MAX_ENTRIES
+room_for p plan h e a fits handlers legal next acting there room = omega (arith, reserve_kept p plan h e a fits handlers legal next acting there)
+
+-- who has made the attempt of the round has made it
+attempted_more : (h : List Entry) (e : Entry) (c : ℕ) → is_round e ≡ false → has_attempted (own_entries h c) ≡ true → has_attempted (own_entries (h ++ e ∷ []) c) ≡ true
+attempted_more h e c inner made =
+    ap has_attempted (own_more h e c inner) ∙ (done_more is_attempt (own_entries h c) e c ∙ ap (λ b. b || (acts c e && is_attempt e)) made)
+
+-- one where something is still to come
+abbrev to_come : Bool → ℕ
+to_come b = cond b 0 1
+
+-- no step makes the look or the attempt undone
+no_less : (look first later : Bool) → (first ≡ true → later ≡ true) → cond (look || later) 0 1 ≤ cond (look || first) 0 1
+no_less true first later keeps = omega arith
+no_less false true later keeps = let made = keeps refl in omega (arith, ap to_come made)
+no_less false false true keeps = omega arith
+no_less false false false keeps = omega arith
+
+module _ (p : Meaning) (plan : Plan) (old new : Play) (a : ℕ) (look : Option (List ℕ)) (fits : Fits p plan) (handlers : MeetsHandlerObligations p) (is : IsPlay p plan old) (there : a < plan.cores)
+    (kept : look ≡ look_of old a) where
+  -- the step of any state that the play is
+  step_is : (step : NextStep) → IsStepOf p plan old.history a (fresh_of plan old) look step → (s : SerialState) → IsStateOf plan old s
+      → step_of p plan s a ≡ with_step (record { history = old.history; looks = s.looks }) a (fresh_of plan old) step
+  step_is step is_step s at =
+      ap (λ (h : List Entry). step_of p plan (record { history = h; looks = s.looks }) a) at.history
+      ∙ is_step s.looks (fresh_same p plan old fits is a) (at.looks a there ∙ sym kept)
+
+  pub advanced_by : (e : Entry) → HasAdded p plan e old new → LegalNext p plan old.history e → acting_core e ≡ Some a
+      → IsStepOf p plan old.history a (fresh_of plan old) look (next.Adds e) → Advances p plan a old new true
+  advanced_by e added legal acting is_step =
+      let h = old.history in
+      let inner = no_round e a acting in
+      let paid = owed_law p plan h e a fits handlers is.stands.legal legal acting in
+      let kept_looks : (c : ℕ) → look_of old c ≡ look_of new c = λ c. ap (λ (looks : List (Option (List ℕ))). get_or looks c None) (sym added.looks) in
+      record {
+        play = added.play;
+        step = λ s at. subst (IsStateOf plan new) (sym (step_is (next.Adds e) is_step s at)) (record {
+          history = sym added.history;
+          looks = λ c inside. at.looks c inside ∙ kept_looks c;
+        });
+        reserve = omega (arith, reserve_kept p plan h e a fits handlers is.stands.legal legal acting there, length-append h (e ∷ []), ap length added.history, ap (owed_total p plan) added.history);
+        rounds = ap rounds_begun added.history ∙ (begun_more h e ∙ (ap (λ b. rounds_begun h + cond b 1 0) inner ∙ omega arith));
+        attempted = λ c made. ap (λ (g : List Entry). has_attempted (own_entries g c)) added.history ∙ attempted_more h e c inner made;
+        fewer = λ more.
+            let less = no_less (is_some (look_of old a)) (has_attempted (own_entries h a)) (has_attempted (own_entries (h ++ e ∷ []) a)) (attempted_more h e a inner) in
+            omega (arith, paid.own, less, ap (λ (g : List Entry). owed p plan g a) added.history,
+                ap₂ (λ (l : Option (List ℕ)) (g : List Entry). to_come (is_some l || has_attempted (own_entries g a))) (sym (kept_looks a)) added.history);
+        over = λ none. absurd (cc);
+      }
+
+-- a core looks
+module _ (p : Meaning) (plan : Plan) (old : Play) (a : ℕ) (fits : Fits p plan) (is : IsPlay p plan old) (there : a < plan.cores) (wide : plan.cores ≤ length old.looks) where
+  abbrev pub looked : Play
+  looked = record old { looks = set old.looks a (Some (fresh_of plan old)) }
+
+  own_look : look_of looked a ≡ Some (fresh_of plan old)
+  own_look = get_or-set_same old.looks a (Some (fresh_of plan old)) None (omega arith)
+
+  other_look : (c : ℕ) → c ≢ a → look_of looked c ≡ look_of old c
+  other_look c apart = get_or-set_other old.looks a c (Some (fresh_of plan old)) None apart
+
+  looked_play : IsPlay p plan looked
+  looked_play = record {
+    stands = is.stands; belongs = is.belongs; start = is.start; touched = is.touched;
+    looks = λ c reads inside found.
+        elim (eqb c a) as (λ b. eqb c a ≡ b → ReadIn plan old.past reads) [
+          true ↦ λ e. let one : c ≡ a = grind (arith, nat_tests) in
+              let both : Some (fresh_of plan old) ≡ Some reads = sym own_look ∙ (ap (look_of looked) (sym one) ∙ found) in
+              let same : fresh_of plan old ≡ reads = cc in
+              subst (ReadIn plan old.past) same (fresh_read p plan old fits is)
+        | false ↦ λ e. let apart : c ≢ a = grind (arith, nat_tests) in is.looks c reads inside (sym (other_look c apart) ∙ found)
+        ] refl;
+  }
+
+  pub advanced_look : look_of old a ≡ None → has_attempted (own_entries old.history a) ≡ false
+      → IsStepOf p plan old.history a (fresh_of plan old) None next.Looks → Advances p plan a old looked true
+  advanced_look none not_made is_step = record {
+    play = looked_play;
+    step = λ s at. subst (IsStateOf plan looked)
+        (sym (ap (λ (h : List Entry). step_of p plan (record { history = h; looks = s.looks }) a) at.history
+        ∙ is_step s.looks (fresh_same p plan old fits is a) (at.looks a there ∙ none))) (record {
+      history = refl;
+      looks = λ c inside. elim (eqb c a) as (λ b. eqb c a ≡ b → cond b (Some (fresh_of plan old)) (s.looks c) ≡ look_of looked c) [
+          true ↦ λ e. let one : c ≡ a = grind (arith, nat_tests) in sym (ap (look_of looked) one ∙ own_look)
+        | false ↦ λ e. let apart : c ≢ a = grind (arith, nat_tests) in at.looks c inside ∙ sym (other_look c apart)
+        ] refl;
+    });
+    reserve = refl;
+    rounds = refl;
+    attempted = λ c made. made;
+    fewer = λ more.
+        let before = ap₂ (λ (l : Option (List ℕ)) b. to_come (is_some l || b)) none not_made in
+        let now = ap (λ (l : Option (List ℕ)). to_come (is_some l || has_attempted (own_entries old.history a))) own_look in
+        omega (arith, before, now);
+    over = λ no_more. absurd (cc);
+  }
+
+-- the turn is over
+pub advanced_none : (p : Meaning) (plan : Plan) (old : Play) (a : ℕ) (look : Option (List ℕ)) → Fits p plan → IsPlay p plan old → a < plan.cores → look ≡ look_of old a
+    → has_attempted (own_entries old.history a) ≡ true → IsStepOf p plan old.history a (fresh_of plan old) look next.Over → Advances p plan a old old false
+advanced_none p plan old a look fits is there kept made is_step = record {
+  play = is;
+  step = λ s at. subst (IsStateOf plan old) (sym (stays s at)) (record { history = refl; looks = at.looks });
+  reserve = refl;
+  rounds = refl;
+  attempted = λ c has. has;
+  fewer = λ more. absurd (cc);
+  over = λ none. (made, λ s at. stays s at ∙ ap (λ (h : List Entry). state_of h s.looks) (sym at.history));
+}
+  where
+    state_of : List Entry → (ℕ → Option (List ℕ)) → SerialState
+    state_of h looks = record { history = h; looks = looks }
+
+    stays : (s : SerialState) → IsStateOf plan old s → step_of p plan s a ≡ state_of old.history s.looks
+    stays s at =
+        ap (λ (h : List Entry). step_of p plan (record { history = h; looks = s.looks }) a) at.history
+        ∙ is_step s.looks (fresh_same p plan old fits is a) (at.looks a there ∙ sym kept)
+
+-- a look, as it is read of the array
+pub look_read : (looks : List (Option (List ℕ))) (a : ℕ) (look : Option (List ℕ)) → a < length looks → look ≡ get_or looks a look → look ≡ get_or looks a None
+look_read looks a look inside is =
+    let both = sym (some_at looks a look inside) ∙ some_at looks a None inside in
+    let same : get_or looks a look ≡ get_or looks a None = cc in is ∙ same
+
+pub none_is : {X : Type 0} (found : Option X) → IsNone found → found ≡ None
+none_is None is = refl
+none_is (Some x) is = absurd (cc)

@@ -1,0 +1,32 @@
+use Rattle.std.proofs.Common.{◌≡◌, ◌≤◌, ◌∙◌, ◌++◌, ◌∷◌, [], ℕ, List, Some, cond, length, slice_index, ap, ap₂, sym, refl, subst, arith}
+use Rattle.policy_tree.specs.Meaning.{meaning_of}
+use Rattle.round_model.specs.declared.entry.Entry.{Entry}
+use Rattle.round_model.specs.Entries.{touches}
+use Rattle.round_model.specs.FreshReads.{touched_from}
+use Rattle.round_model.specs.Past.{StandsFor}
+use Rattle.round_model.specs.Reads.{round_start}
+use Rattle.round_model.proofs.Longer.{start_stays}
+use Rattle.serial_play.proofs.Adding.{read_stays, touched_more}
+use Rattle.serial_play.proofs.play.add.Goals as goal
+
+pub returns : goal.returns
+returns c =
+    let p = meaning_of c.args.policy.now in let plan = c.args.plan.now in let old = c.args.play.now in let e = c.args.entry in
+    let h = old.history in let played = c.requires.play in
+    let grown : c.push.new.self ≡ h ++ e ∷ [] = c.in_ok-push.ensures.ok in
+    let stands = c.in_ok-step.ensures.stands h played.stands c.requires.legal in
+    let few = c.requires.fits.few_cores in
+    record {
+      play = record {
+        stands = subst (StandsFor p plan c.step.new.past) (sym grown) stands;
+        belongs = c.in_ok-step.ensures.belongs;
+        start = played.start ∙ (sym (start_stays h e c.requires.inner) ∙ ap round_start (sym grown));
+        touched = λ core there.
+            c.touch.ensures core (omega arith)
+            ∙ (ap₂ (λ (end last : ℕ). cond (touches core e) end last) (c.len.ensures ∙ ap length grown) (played.touched core there)
+            ∙ (sym (touched_more core h e) ∙ ap (touched_from core 0 0) (sym grown)));
+        looks = λ core reads there is. read_stays p plan old.past c.step.new.past h e reads c.requires.inner played.stands stands (played.looks core reads there is);
+      };
+      history = grown;
+      looks = refl;
+    }

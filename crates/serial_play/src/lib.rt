@@ -1,0 +1,4 @@
+//! Serial play: one history of each plan, in which the cores take turns by the order lines.
+#![tactic(auto)]
+
+mod play;
