@@ -1,2 +1,3 @@
 pub mod Adding
 pub mod Stepping
+pub mod Turning

@@ -58,10 +58,10 @@ sum_one_less : (f g : ℕ → ℕ) (a : ℕ) → ((c : ℕ) → c ≢ a → f c 
 sum_one_less f g a same less zero there = absurd (omega arith)
 sum_one_less f g a same less (suc n) there =
     elim (eqb n a) as (λ b. eqb n a ≡ b → sum_of f (suc n) + 1 ≡ sum_of g (suc n)) [
-      true ↦ λ e. let one : n ≡ a = grind (arith, nat_tests) in
+      | true ↦ λ e. let one : n ≡ a = grind (arith, nat_tests) in
           let here : f n + 1 ≡ g n = subst (λ (c : ℕ). f c + 1 ≡ g c) (sym one) less in
           omega (arith, sum_before f g a same n (omega (arith, one)), here, sum_suc f n, sum_suc g n)
-    | false ↦ λ e. let apart : n ≢ a = grind (arith, nat_tests) in
+      | false ↦ λ e. let apart : n ≢ a = grind (arith, nat_tests) in
           let rest = sum_one_less f g a same less n (let other = apart in grind (arith, there, other)) in
           omega (arith, rest, same n apart, sum_suc f n, sum_suc g n)
     ] refl
@@ -70,8 +70,8 @@ touched_within : (c k last : ℕ) (h : List Entry) → last ≤ k → touched_fr
 touched_within c k last [] small = omega arith
 touched_within c k last (e ∷ es) small =
     elim (touches c e) as (λ b. touched_from c (suc k) (cond b (suc k) last) es ≤ k + suc (length es)) [
-      true ↦ let rest = touched_within c (suc k) (suc k) es (omega arith) in omega arith
-    | false ↦ let rest = touched_within c (suc k) last es (omega arith) in omega arith
+      | true ↦ let rest = touched_within c (suc k) (suc k) es (omega arith) in omega arith
+      | false ↦ let rest = touched_within c (suc k) last es (omega arith) in omega arith
     ]
 
 module _ (p : Meaning) (plan : Plan) (play : Play) (fits : Fits p plan) (is : IsPlay p plan play) where
@@ -88,7 +88,7 @@ module _ (p : Meaning) (plan : Plan) (play : Play) (fits : Fits p plan) (is : Is
   fresh_read =
       let read : ℕ → ℕ = λ c. max play.start (slice_index play.touched c) in
       let value : (c : ℕ) → c < plan.cores → slice_index (fresh_of plan play) c ≡ read c =
-          λ c there. get_or-map-range_with_len read 0 plan.cores c c 0 there (omega arith) in
+      λ c there. get_or-map-range_with_len read 0 plan.cores c c 0 there (omega arith) in
       let window = is.stands.rows.window in
       record {
         one_each = length-map-range_with_len read 0 plan.cores;
@@ -153,8 +153,13 @@ module _ (p : Meaning) (plan : Plan) (old new : Play) (a : ℕ) (look : Option (
         attempted = λ c made. ap (λ (g : List Entry). has_attempted (own_entries g c)) added.history ∙ attempted_more h e c inner made;
         fewer = λ more.
             let less = no_less (is_some (look_of old a)) (has_attempted (own_entries h a)) (has_attempted (own_entries (h ++ e ∷ []) a)) (attempted_more h e a inner) in
-            omega (arith, paid.own, less, ap (λ (g : List Entry). owed p plan g a) added.history,
-                ap₂ (λ (l : Option (List ℕ)) (g : List Entry). to_come (is_some l || has_attempted (own_entries g a))) (sym (kept_looks a)) added.history);
+            omega (
+              arith,
+              paid.own,
+              less,
+              ap (λ (g : List Entry). owed p plan g a) added.history,
+              ap₂ (λ (l : Option (List ℕ)) (g : List Entry). to_come (is_some l || has_attempted (own_entries g a))) (sym (kept_looks a)) added.history,
+            );
         over = λ none. absurd (cc);
       }
 
@@ -171,14 +176,17 @@ module _ (p : Meaning) (plan : Plan) (old : Play) (a : ℕ) (fits : Fits p plan)
 
   looked_play : IsPlay p plan looked
   looked_play = record {
-    stands = is.stands; belongs = is.belongs; start = is.start; touched = is.touched;
+    stands = is.stands;
+    belongs = is.belongs;
+    start = is.start;
+    touched = is.touched;
     looks = λ c reads inside found.
         elim (eqb c a) as (λ b. eqb c a ≡ b → ReadIn plan old.past reads) [
-          true ↦ λ e. let one : c ≡ a = grind (arith, nat_tests) in
+          | true ↦ λ e. let one : c ≡ a = grind (arith, nat_tests) in
               let both : Some (fresh_of plan old) ≡ Some reads = sym own_look ∙ (ap (look_of looked) (sym one) ∙ found) in
               let same : fresh_of plan old ≡ reads = cc in
               subst (ReadIn plan old.past) same (fresh_read p plan old fits is)
-        | false ↦ λ e. let apart : c ≢ a = grind (arith, nat_tests) in is.looks c reads inside (sym (other_look c apart) ∙ found)
+          | false ↦ λ e. let apart : c ≢ a = grind (arith, nat_tests) in is.looks c reads inside (sym (other_look c apart) ∙ found)
         ] refl;
   }
 
@@ -189,12 +197,12 @@ module _ (p : Meaning) (plan : Plan) (old : Play) (a : ℕ) (fits : Fits p plan)
     step = λ s at. subst (IsStateOf plan looked)
         (sym (ap (λ (h : List Entry). step_of p plan (record { history = h; looks = s.looks }) a) at.history
         ∙ is_step s.looks (fresh_same p plan old fits is a) (at.looks a there ∙ none))) (record {
-      history = refl;
-      looks = λ c inside. elim (eqb c a) as (λ b. eqb c a ≡ b → cond b (Some (fresh_of plan old)) (s.looks c) ≡ look_of looked c) [
-          true ↦ λ e. let one : c ≡ a = grind (arith, nat_tests) in sym (ap (look_of looked) one ∙ own_look)
-        | false ↦ λ e. let apart : c ≢ a = grind (arith, nat_tests) in at.looks c inside ∙ sym (other_look c apart)
-        ] refl;
-    });
+          history = refl;
+          looks = λ c inside. elim (eqb c a) as (λ b. eqb c a ≡ b → cond b (Some (fresh_of plan old)) (s.looks c) ≡ look_of looked c) [
+            | true ↦ λ e. let one : c ≡ a = grind (arith, nat_tests) in sym (ap (look_of looked) one ∙ own_look)
+            | false ↦ λ e. let apart : c ≢ a = grind (arith, nat_tests) in at.looks c inside ∙ sym (other_look c apart)
+          ] refl;
+        });
     reserve = refl;
     rounds = refl;
     attempted = λ c made. made;

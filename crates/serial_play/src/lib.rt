@@ -2,3 +2,7 @@
 #![tactic(auto)]
 
 mod play;
+mod rounds;
+mod turns;
+
+pub use crate::rounds::Played;
