@@ -10,13 +10,14 @@ use Rattle.round_model.specs.Cores.{core_numbers}
 use Rattle.round_model.specs.Serial.{SerialState, step_of}
 use Rattle.round_model.specs.Legal.{is_due}
 
+-- the cores of an order line: none where the round has no line
+abbrev pub cores_in : Option OrderLine → List ℕ
+cores_in None = []
+cores_in (Some line) = line.cores
+
 -- the cores of the round's order line
 abbrev pub order_of : Plan → ℕ → List ℕ
-order_of plan number = cores_of (find (λ (l : OrderLine). l.round == number) plan.orders)
-  where
-    cores_of : Option OrderLine → List ℕ
-    cores_of None = []
-    cores_of (Some line) = line.cores
+order_of plan number = cores_in (find (λ (l : OrderLine). l.round == number) plan.orders)
 
 -- each core so often that its turn is over: no turn has more steps, and a step past its end is none
 abbrev pub remaining_turns : Plan → List ℕ

@@ -1,3 +1,4 @@
 pub mod Adding
 pub mod Stepping
 pub mod Turning
+pub mod Playing

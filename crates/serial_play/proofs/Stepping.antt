@@ -1,22 +1,19 @@
 -- What a step of a core makes of a play.
-use Rattle.std.proofs.Common.{◌≡◌, ◌≢◌, ℕ, zero, suc, ◌+◌, ◌<◌, ◌≤◌, ◌||◌, ◌&&◌, ltb, eqb, max, Bool, true, false, cond, List, [], ◌∷◌, ◌++◌, map, length, get_or, set, slice_index, get_or-set_same, get_or-set_other, Option, Some, None, IsFalse, IsTrue, IsNone, refl, sym, ap, ap₂, subst, ◌∙◌, arith}
+use Rattle.std.proofs.Common.{◌≡◌, ◌≢◌, ℕ, zero, suc, ◌+◌, ◌<◌, ◌≤◌, ◌||◌, ◌&&◌, eqb, max, Bool, true, false, cond, List, [], ◌∷◌, ◌++◌, map, length, get_or, set, slice_index, get_or-set_same, get_or-set_other, Option, Some, None, IsNone, refl, sym, ap, ap₂, subst, ◌∙◌, arith}
 use Rattle.std.specs.List.{range_with_len}
 use Rattle.std.specs.Option.{is_some}
 use Rattle.std.specs.Prelude.{sum}
-use Rattle.std.proofs.Math.ListN.{length-set}
 use Rattle.std.proofs.lemmas.Bool.Decides.{nat_tests}
 use Rattle.std.proofs.lemmas.List.{length-append}
 use Rattle.std.proofs.lemmas.List.FromFn.{fill_by_all, get_or-map-range_with_len, length-map-range_with_len, map-range_with_len_more}
 use Rattle.std.proofs.lemmas.List.Sums.{fold_push}
-use Rattle.sched_base.specs.declared.limits.TheConstants.{MAX_CORES, MAX_ENTRIES}
+use Rattle.sched_base.specs.declared.limits.TheConstants.{MAX_ENTRIES}
 use Rattle.policy_tree.specs.Meaning.{Meaning}
 use Rattle.policy_eval.specs.Obligations.{MeetsHandlerObligations}
 use Rattle.round_model.specs.declared.entry.Entry.{Entry}
-use Rattle.round_model.specs.declared.past.Past.{Past}
 use Rattle.round_model.specs.declared.plan.Plan.{Plan}
 use Rattle.round_model.specs.declared.turns.NextStep.{NextStep}
 use Rattle.round_model.specs.declared.turns.NextStep.TheVariants as next
-use Rattle.round_model.specs.Cores.{core_numbers}
 use Rattle.round_model.specs.Entries.{acting_core, acts, touches}
 use Rattle.round_model.specs.FreshReads.{fresh_reads, touched_from}
 use Rattle.round_model.specs.Fits.{Fits}
@@ -24,17 +21,16 @@ use Rattle.round_model.specs.Kinds.{is_attempt, is_round}
 use Rattle.round_model.specs.Legal.{Legal, LegalNext, rounds_begun}
 use Rattle.round_model.specs.Outcomes.{ReadIn}
 use Rattle.round_model.specs.Owed.{owed, owed_total}
-use Rattle.round_model.specs.Past.{StandsFor}
 use Rattle.round_model.specs.Reads.{round_start}
 use Rattle.round_model.specs.Scenes.{has_attempted, own_entries, scene_of}
-use Rattle.round_model.specs.Serial.{SerialState, step_of, with_entry}
+use Rattle.round_model.specs.Serial.{SerialState, step_of}
 use Rattle.round_model.specs.Turns.{IsStepOf, with_step}
 use Rattle.round_model.proofs.Added.{no_round}
 use Rattle.round_model.proofs.Keeping.{some_at}
 use Rattle.round_model.proofs.Longer.{begun_more, done_more, own_more, start_within}
 use Rattle.round_model.proofs.Paying.{owed_law}
 use Rattle.serial_play.specs.declared.play.Play.{Play}
-use Rattle.serial_play.specs.Plays.{Advances, HasAdded, HasRoom, IsPlay, IsStateOf, fresh_of, look_of, steps_left}
+use Rattle.serial_play.specs.Plays.{Advances, HasAdded, HasRoom, IsPlay, IsStateOf, fresh_of, look_of}
 
 -- the sum over the first cores
 abbrev sum_of : (ℕ → ℕ) → ℕ → ℕ

@@ -1,19 +1,16 @@
 -- Steps of several cores, one after the other.
-use Rattle.std.proofs.Common.{◌≡◌, ℕ, zero, suc, ◌+◌, ◌*◌, ◌-◌, ◌<◌, ◌≤◌, ◌||◌, ◌==◌, eqb, Bool, true, false, cond, List, [], ◌∷◌, ◌++◌, fold, length, replicate, count_by, sum_by, get_or, Option, Some, None, IsFalse, IsTrue, refl, sym, ap, ap₂, subst, ◌∙◌, arith}
+use Rattle.std.proofs.Common.{◌≡◌, ℕ, zero, suc, ◌+◌, ◌*◌, ◌-◌, ◌<◌, ◌≤◌, ◌||◌, ◌==◌, eqb, Bool, true, false, cond, List, [], ◌∷◌, ◌++◌, fold, length, replicate, count_by, get_or, IsTrue, refl, sym, ap, subst, ◌∙◌, arith}
 use Rattle.std.specs.Option.{is_some}
 use Rattle.std.proofs.lemmas.Bool.Decides.{nat_tests}
-use Rattle.std.proofs.lemmas.List.FromFn.{get_or-map-range_with_len, length-map-range_with_len}
+use Rattle.std.proofs.lemmas.List.FromFn.{get_or-map-range_with_len}
 use Rattle.std.proofs.lemmas.List.Sums.{count_by-le-length, fold-append, fold_push, get_or-le-sum_by}
 use Rattle.policy_tree.specs.Meaning.{Meaning}
-use Rattle.round_model.specs.declared.entry.Entry.{Entry}
 use Rattle.round_model.specs.declared.plan.Plan.{Plan}
-use Rattle.round_model.specs.declared.plan.Planned.{Planned}
-use Rattle.round_model.specs.declared.state.Blocked.{Blocked}
 use Rattle.round_model.specs.declared.state.ModelCore.{ModelCore}
 use Rattle.round_model.specs.After.{after, round_of}
 use Rattle.round_model.specs.Bounds.{standing_count}
 use Rattle.round_model.specs.Legal.{rounds_begun}
-use Rattle.round_model.specs.Owed.{owed, owed_in}
+use Rattle.round_model.specs.Owed.{owed}
 use Rattle.round_model.specs.Scenes.{has_attempted, has_worked, is_due_blocked, is_entering, own_entries, scene_of}
 use Rattle.round_model.specs.Serial.{SerialState, step_of}
 use Rattle.serial_play.specs.declared.play.Play.{Play}
@@ -93,8 +90,8 @@ module _ (p : Meaning) (plan : Plan) (play : Play) (a : ℕ) (is : IsPlay p plan
   left_few =
       let few = owed_few in
       elim (is_some (look_of play a) || has_attempted (own_entries play.history a)) as (λ b. owed p plan play.history a + cond b 0 1 ≤ 2 * length plan.threads + 3) [
-        true ↦ omega arith
-      | false ↦ omega arith
+        | true ↦ omega arith
+        | false ↦ omega arith
       ]
 
   -- where none is left, the attempt is made
@@ -118,7 +115,7 @@ ended_early p plan a at old mid new inside moves advances =
     let rest = most_steps plan - (at + 1) in
     let one = moved_on p plan (replicate at a) a false old mid new moves advances in
     let all : (replicate at a ++ a ∷ []) ++ replicate rest a ≡ replicate (most_steps plan) a =
-        ap (λ (front : List ℕ). front ++ replicate rest a) (sym (replicate_more at a)) ∙ (sym (replicate_both (at + 1) rest a) ∙ ap (λ (n : ℕ). replicate n a) (omega arith)) in
+    ap (λ (front : List ℕ). front ++ replicate rest a) (sym (replicate_more at a)) ∙ (sym (replicate_both (at + 1) rest a) ∙ ap (λ (n : ℕ). replicate n a) (omega arith)) in
     record {
       moves = subst (λ (cores : List ℕ). Moves p plan cores old new) all (moved_both p plan (replicate at a ++ a ∷ []) (replicate rest a) old new new one (moved_rest p plan new a rest advances.play over.1));
       made = over.0;

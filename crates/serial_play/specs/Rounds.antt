@@ -1,17 +1,18 @@
 -- Rounds of serial play.
-use Rattle.std.specs.Prelude.{◌≡◌, ℕ, ◌+◌, ◌*◌, ◌<◌, List, fold, length, replicate, IsTrue}
+use Rattle.std.specs.Prelude.{◌≡◌, ℕ, ◌+◌, ◌*◌, ◌<◌, ◌≤◌, List, [], ◌∷◌, ◌++◌, fold, length, replicate, IsTrue, None}
 use Rattle.policy_tree.specs.Meaning.{Meaning}
 use Rattle.round_model.specs.declared.entry.Entry.{Entry}
+use Rattle.round_model.specs.declared.entry.Entry.TheVariants as entry
 use Rattle.round_model.specs.declared.plan.Plan.{Plan}
 use Rattle.round_model.specs.Legal.{IsComplete, IsDue, Whole, rounds_begun}
 use Rattle.round_model.specs.Owed.{owed_total}
 use Rattle.round_model.specs.Scenes.{has_attempted, own_entries}
 use Rattle.round_model.specs.Serial.{SerialState, step_of}
-use Rattle.round_model.specs.SerialRounds.{serial_history, serial_rounds, with_round}
+use Rattle.round_model.specs.SerialRounds.{remaining_turns, serial_history, serial_rounds, with_round}
 use Rattle.serial_play.specs.declared.play.Play.{Play}
 use Rattle.serial_play.specs.declared.rounds.Played.{Played}
 use Rattle.serial_play.specs.declared.rounds.Played.TheVariants as played
-use Rattle.serial_play.specs.Plays.{IsPlay, IsStateOf}
+use Rattle.serial_play.specs.Plays.{IsPlay, IsStateOf, look_of}
 
 -- the cores took a step each in that order, or had none left
 pub record Moves (p : Meaning) (plan : Plan) (cores : List ℕ) (old new : Play) : Type 0 where
@@ -29,6 +30,21 @@ most_steps plan = 2 * length plan.threads + 3
 pub record EndsTurn (p : Meaning) (plan : Plan) (a : ℕ) (old new : Play) : Type 0 where
   pub moves : Moves p plan (replicate (most_steps plan) a) old new
   pub made : IsTrue (has_attempted (own_entries new.history a))
+
+-- each core did
+pub record EndsTurns (p : Meaning) (plan : Plan) (old new : Play) : Type 0 where
+  pub moves : Moves p plan (remaining_turns plan) old new
+  pub made : (c : ℕ) → c < plan.cores → IsTrue (has_attempted (own_entries new.history c))
+
+-- the round of that number began
+pub record Begins (p : Meaning) (plan : Plan) (number : ℕ) (old new : Play) : Type 0 where
+  pub play : IsPlay p plan new
+  pub history : new.history ≡ old.history ++ entry.Round number ∷ []
+  pub looks : (c : ℕ) → c < plan.cores → look_of new c ≡ None
+
+-- all that a round may add fits the plan's limit
+abbrev pub FitsRound : Plan → List Entry → Type 0
+FitsRound plan history = length history + 1 + 2 * plan.cores + length plan.threads ≤ plan.limit
 
 -- the round of that number was played
 pub record PlaysRound (p : Meaning) (plan : Plan) (number : ℕ) (old new : Play) : Type 0 where

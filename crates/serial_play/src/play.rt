@@ -7,6 +7,7 @@ ghost use Rattle.round_model.specs.Entries.{touches};
 ghost use Rattle.round_model.specs.Fits.{Fits};
 ghost use Rattle.round_model.specs.Kinds.{is_round};
 ghost use Rattle.round_model.specs.Legal.{LegalNext};
+ghost use Rattle.round_model.specs.Past.{IsPastOf, StandsFor};
 ghost use Rattle.serial_play.specs.Plays.{Advances, HasAdded, HasRoom, IsPlay, fresh_of};
 
 use policy_tree::Policy;
@@ -53,6 +54,30 @@ fn touch(touched: &mut [Pos; MAX_CORES], entry: &Entry, end: Pos)
     }
 }
 
+/// Adds an entry that is legal next to a history, and to what is kept of it.
+pub(crate) fn append(
+    alloc: Global,
+    policy: &Policy,
+    plan: &Plan,
+    past: &mut Past,
+    history: &mut History,
+    entry: &Entry,
+) -> Result<(), ModelMemory>
+    requires fits { Fits (meaning_of policy.now) plan.now }
+    requires handlers { MeetsHandlerObligations (meaning_of policy.now) }
+    requires stands { StandsFor (meaning_of policy.now) plan.now past.old history.old }
+    requires belongs { IsPastOf (meaning_of policy.now) plan.now past.old }
+    requires legal { LegalNext (meaning_of policy.now) plan.now history.old entry.now }
+    requires room { length history.old < MAX_ENTRIES }
+    ensures stands { OnOk result (StandsFor (meaning_of policy.now) plan.now past.new (history.old ++ entry.now ∷ [])) }
+    ensures belongs { OnOk result (IsPastOf (meaning_of policy.now) plan.now past.new) }
+    ensures history { OnOk result (history.new ≡ history.old ++ entry.now ∷ []) }
+{
+    step(alloc, policy, plan, past, *entry)?;
+    history.push(*entry)?;
+    Ok(())
+}
+
 /// Adds an entry of a core that is legal next.
 fn add(
     alloc: Global,
@@ -69,8 +94,14 @@ fn add(
     requires room { length play.old.history < MAX_ENTRIES }
     ensures { OnOk result (HasAdded (meaning_of policy.now) plan.now entry play.old play.new) }
 {
-    step(alloc, policy, plan, &mut play.past, entry)?;
-    play.history.push(entry)?;
+    append(
+        alloc,
+        policy,
+        plan,
+        &mut play.past,
+        &mut play.history,
+        &entry,
+    )?;
     touch(&mut play.touched, &entry, play.history.len());
     Ok(())
 }

@@ -1,6 +1,5 @@
-use Rattle.std.proofs.Common.{◌≡◌, ◌≤◌, ◌∙◌, ◌++◌, ◌∷◌, [], ℕ, List, Some, cond, length, slice_index, ap, ap₂, sym, refl, subst, arith}
+use Rattle.std.proofs.Common.{◌≡◌, ◌∙◌, ◌++◌, ◌∷◌, [], ℕ, cond, length, ap, ap₂, sym, refl, subst, arith}
 use Rattle.policy_tree.specs.Meaning.{meaning_of}
-use Rattle.round_model.specs.declared.entry.Entry.{Entry}
 use Rattle.round_model.specs.Entries.{touches}
 use Rattle.round_model.specs.FreshReads.{touched_from}
 use Rattle.round_model.specs.Past.{StandsFor}
@@ -13,19 +12,19 @@ pub returns : goal.returns
 returns c =
     let p = meaning_of c.args.policy.now in let plan = c.args.plan.now in let old = c.args.play.now in let e = c.args.entry in
     let h = old.history in let played = c.requires.play in
-    let grown : c.push.new.self ≡ h ++ e ∷ [] = c.in_ok-push.ensures.ok in
-    let stands = c.in_ok-step.ensures.stands h played.stands c.requires.legal in
+    let grown : c.append.new.history ≡ h ++ e ∷ [] = c.in_ok-append.ensures.history in
+    let stands = c.in_ok-append.ensures.stands in
     let few = c.requires.fits.few_cores in
     record {
       play = record {
-        stands = subst (StandsFor p plan c.step.new.past) (sym grown) stands;
-        belongs = c.in_ok-step.ensures.belongs;
+        stands = subst (StandsFor p plan c.append.new.past) (sym grown) stands;
+        belongs = c.in_ok-append.ensures.belongs;
         start = played.start ∙ (sym (start_stays h e c.requires.inner) ∙ ap round_start (sym grown));
         touched = λ core there.
             c.touch.ensures core (omega arith)
             ∙ (ap₂ (λ (end last : ℕ). cond (touches core e) end last) (c.len.ensures ∙ ap length grown) (played.touched core there)
             ∙ (sym (touched_more core h e) ∙ ap (touched_from core 0 0) (sym grown)));
-        looks = λ core reads there is. read_stays p plan old.past c.step.new.past h e reads c.requires.inner played.stands stands (played.looks core reads there is);
+        looks = λ core reads there is. read_stays p plan old.past c.append.new.past h e reads c.requires.inner played.stands stands (played.looks core reads there is);
       };
       history = grown;
       looks = refl;

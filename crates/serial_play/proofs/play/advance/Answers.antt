@@ -1,4 +1,4 @@
-use Rattle.std.proofs.Common.{◌≡◌, ◌<◌, ◌≤◌, ◌∙◌, ℕ, List, Option, Some, None, true, get_or, length, set, subst, sym, arith}
+use Rattle.std.proofs.Common.{◌∙◌, ℕ, List, Option, Some, true, get_or, set, subst, sym, arith}
 use Rattle.policy_tree.specs.Meaning.{meaning_of}
 use Rattle.round_model.specs.declared.turns.NextStep.TheVariants as next
 use Rattle.round_model.specs.Outcomes.{ReadIn}

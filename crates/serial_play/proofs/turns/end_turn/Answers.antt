@@ -1,4 +1,4 @@
-use Rattle.std.proofs.Common.{◌≡◌, ◌+◌, ◌<◌, ◌≤◌, ◌∙◌, Bool, ℕ, List, false, length, replicate, ap, sym, subst, arith}
+use Rattle.std.proofs.Common.{◌≡◌, ◌<◌, Bool, ℕ, false, replicate, subst, arith}
 use Rattle.policy_tree.specs.Meaning.{meaning_of}
 use Rattle.serial_play.specs.Plays.{Advances}
 use Rattle.serial_play.specs.Rounds.{Moves, most_steps}
