@@ -103,8 +103,17 @@ text_answered policy told write_fault before after code text a may is_check writ
           ];
       lines = λ h.
           let is_own : code ≡ code_of (status_of a) = elim among [ inl e ↦ e | inr (inl e) ↦ absurd (neither_5 code h e) | inr (inr e) ↦ absurd (neither_6 code h e) ] in
-          let found = facts.lines (rw is_own at h) (whole _ _ _ _ _ _ writes (neither_5 code h) (neither_6 code h)) in
-          (found.0, found.1, (policy, text, refl, may, found.2), found.3, found.4, found.5, ((λ all. is_own ∙ found.6.0 all), (λ zero. found.6.1 (sym is_own ∙ zero))));
+          let found = facts.lines (rw is_own at h) (whole _ _ _ _ _ _ writes (neither_5 code h) (neither_6 code h)) in (
+            found.0,
+            found.1,
+            record {
+              spelled = (policy, text, refl, may, found.2);
+              reasons = found.3;
+              words = found.4;
+              written = found.5;
+              verdict = ((λ all. is_own ∙ found.6.0 all), (λ zero. found.6.1 (sym is_own ∙ zero)));
+            },
+          );
       other_form = λ other held e tells short none.
           let is_text = Held other held e tells in
           elim among [
