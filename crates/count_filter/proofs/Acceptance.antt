@@ -1,16 +1,19 @@
--- Where all obligations are said to hold, the policy meets them, and that is so at the threshold 2 alone.
-use Rattle.std.proofs.Common.{◌≡◌, ℕ, List, Bool, true, false, ◌&&◌, get_or, refl, arith}
-use Rattle.std.proofs.lemmas.List.Elements.{All-map}
-use Rattle.std.specs.Prelude.{IsTrue}
+-- Where all obligations are said to hold for right reasons, the policy is certified, and that is so at the threshold 2
+-- alone.
+use Rattle.std.proofs.Common.{◌≡◌, ℕ, List, Bool, true, false, ◌&&◌, refl, arith}
+use Rattle.linear_form.specs.System.{LinearSystem}
+use Rattle.linear_cert.specs.Right.{cert_tree}
 use Rattle.policy_tree.specs.Meaning.{Meaning}
-use Rattle.policy_eval.specs.Obligations.{IsMet, MeetsObligations}
+use Rattle.policy_eval.specs.Obligations.{MeetsObligations}
 use Rattle.policy_eval.proofs.Statements.{balance_obligations}
-use Rattle.count_filter.specs.Judged.{Judges, all_hold, holds_in, ob_names}
-use Rattle.count_filter.specs.Policies.{policy_with, statement_of}
+use Rattle.count_filter.specs.Judged.{Judges, all_hold}
+use Rattle.count_filter.specs.Policies.{policy_with}
+use Rattle.count_filter.specs.Reasons.{HasCertificate, HasReasons, IsCertified, IsReason, is_certified}
 use Rattle.count_filter.specs.declared.balance.Balance.{Balance}
-use Rattle.count_filter.specs.declared.obligations.ObName.{ObName}
 use Rattle.count_filter.specs.declared.obligations.ObName.TheVariants as name
-use Rattle.count_filter.proofs.Meanings.{names_are_statements, sentences_are_statements}
+use Rattle.count_filter.specs.declared.reasons.Reason.{Reason}
+use Rattle.count_filter.specs.declared.reasons.Reason.TheVariants.{Certified, Refuted}
+use Rattle.count_filter.proofs.Meanings as meanings
 use Rattle.count_filter.proofs.Thresholds as threshold
 
 three : (x y z : Bool) → (x && y && z) ≡ true → (x ≡ true) × (y ≡ true) × (z ≡ true)
@@ -19,39 +22,37 @@ three true true false e = absurd (let clash : ⊥ = cc in clash)
 three true false z e = absurd (let clash : ⊥ = cc in clash)
 three false y z e = absurd (let clash : ⊥ = cc in clash)
 
--- where all hold, each does
-each_holds : (balance : Balance) → all_hold balance ≡ true → (obligation : ObName) → IsTrue (holds_in balance obligation)
-each_holds balance all name.B1 = (three balance.sees balance.spares balance.narrows all).0
-each_holds balance all name.B2 = (three balance.sees balance.spares balance.narrows all).1
-each_holds balance all name.B3 = (three balance.sees balance.spares balance.narrows all).2
-each_holds balance all name.H1Enqueue = refl
-each_holds balance all name.H2Enqueue = refl
-each_holds balance all name.H1Tick = refl
-each_holds balance all name.H2Tick = refl
-each_holds balance all name.H1Yield = refl
-each_holds balance all name.H2Yield = refl
-each_holds balance all name.H1Block = refl
-each_holds balance all name.H2Block = refl
+-- a right reason why an obligation holds is a right certificate
+certificate : (system : LinearSystem) (reason : Reason) → is_certified reason ≡ true → IsReason system reason → HasCertificate system
+certificate system (Certified cert) holds right = (cert_tree cert, right)
+certificate system (Refuted point) holds solves = absurd (let clash : ⊥ = cc in clash)
 
--- a policy of which all obligations are rightly said to hold meets them
-pub all_statements : (p : Meaning) (balance : Balance) → Judges p balance → all_hold balance ≡ true → MeetsObligations p
-all_statements p balance judges all =
-    rw (names_are_statements p)
-    (All-map (IsMet p) statement_of ob_names (λ at d inside. (judges (get_or ob_names at d)).0 (each_holds balance all (get_or ob_names at d))))
+-- a policy of which all obligations are said to hold for right reasons is certified
+pub all_certified : (p : Meaning) (balance : Balance) → HasReasons p balance → all_hold balance ≡ true → IsCertified p
+all_certified p balance (word, k, is_policy, r) all =
+    let each = three (is_certified balance.sees) (is_certified balance.spares) (is_certified balance.narrows) all in (
+      word,
+      k,
+      is_policy,
+      record {
+        sees = certificate _ balance.sees each.0 r.sees;
+        spares = certificate _ balance.spares each.1 r.spares;
+        narrows = certificate _ balance.narrows each.2 r.narrows;
+      },
+    )
 
--- it meets them at the threshold 2 alone
+-- a policy meets its obligations at the threshold 2 alone
 pub only_two : (word : List ℕ) (k : ℕ) → MeetsObligations (policy_with word k) → k ≡ 2
 only_two word k met =
     let balance = balance_obligations (policy_with word k) met in
-    let low = threshold.sees_low k ((sentences_are_statements word k name.B1).1 balance.idle_sees_overloaded) in
-    let high = threshold.spares_high k ((sentences_are_statements word k name.B2).1 balance.victim_is_overloaded) in
+    let low = threshold.sees_low k ((meanings.sees word k).1 balance.idle_sees_overloaded) in
+    let high = threshold.spares_high k ((meanings.spares word k).1 balance.victim_is_overloaded) in
     omega arith
 
 -- and there all are said to hold
 pub all_at_two : (word : List ℕ) (balance : Balance) → Judges (policy_with word 2) balance → all_hold balance ≡ true
 all_at_two word balance judges =
-    let means = sentences_are_statements word 2 in
-    let sees : balance.sees ≡ true = (judges name.B1).1 ((means name.B1).0 threshold.sees_at_two) in
-    let spares : balance.spares ≡ true = (judges name.B2).1 ((means name.B2).0 threshold.spares_at_two) in
-    let narrows : balance.narrows ≡ true = (judges name.B3).1 ((means name.B3).0 threshold.narrows_at_two) in
+    let sees : is_certified balance.sees ≡ true = (judges name.B1).1 ((meanings.sees word 2).0 threshold.sees_at_two) in
+    let spares : is_certified balance.spares ≡ true = (judges name.B2).1 ((meanings.spares word 2).0 threshold.spares_at_two) in
+    let narrows : is_certified balance.narrows ≡ true = (judges name.B3).1 ((meanings.narrows word 2).0 threshold.narrows_at_two) in
     rw (sees, spares, narrows) refl

@@ -5,7 +5,7 @@ use Rattle.std.proofs.lemmas.Int.{ints}
 use Rattle.linear_form.specs.declared.form.Row.{Row}
 use Rattle.linear_form.specs.Solution.{Solves}
 use Rattle.linear_form.proofs.Points.{ranges_by_parts, rows_by_parts}
-use Rattle.count_filter.specs.Obligations.{LoadsFit}
+use Rattle.count_filter.proofs.Sentences.{LoadsFit}
 use Rattle.count_filter.specs.Systems.{system_of_cores}
 
 -- thread counts and loads as a point

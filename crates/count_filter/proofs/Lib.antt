@@ -1,9 +1,10 @@
 pub mod Acceptance
 pub mod Cores
-pub mod Handlers
 pub mod Leaves
 pub mod Meanings
 pub mod Narrows
 pub mod Sees
+pub mod Sentences
 pub mod Spares
 pub mod Thresholds
+pub mod Worth

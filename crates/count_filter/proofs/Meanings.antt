@@ -1,26 +1,21 @@
 -- Each sentence says of thread counts and loads what the policy's statement says of all that the policy may see.
-use Rattle.std.proofs.Common.{◌≡◌, ℕ, List, [], pos, map, refl, arith}
-use Rattle.std.specs.Prelude.{IsTrue, ◌↔◌}
+use Rattle.std.proofs.Common.{ℕ, List, [], pos, refl, arith}
+use Rattle.std.specs.Prelude.{◌↔◌}
 use Rattle.std.proofs.lemmas.Int.{ints}
 use Rattle.policy_tree.specs.declared.typed.Event.{Event}
 use Rattle.policy_tree.specs.declared.typed.Event.TheVariants as event
-use Rattle.policy_tree.specs.Meaning.{Meaning}
 use Rattle.policy_eval.specs.declared.env.CoreValues.{CoreValues}
 use Rattle.policy_eval.specs.Events.{holding_cases}
 use Rattle.policy_eval.specs.Fitting.{CoreFits}
 use Rattle.policy_eval.specs.Obligations.{IsMet, NoGap, NoOverlap, statements_of, idle_sees_overloaded, victim_is_overloaded, move_narrows_gap}
 use Rattle.policy_eval.specs.Ranges.{AreIn, IsIn, attribute_ranges, range}
 use Rattle.policy_eval.specs.Sights.{no_attributes, pair_values}
-use Rattle.count_filter.specs.Judged.{Judges, holds_in, ob_names}
-use Rattle.count_filter.specs.Obligations.{IdleSeesOverloaded, LoadsFit, MoveNarrowsGap, Sentence, VictimIsOverloaded}
-use Rattle.count_filter.specs.Policies.{policy_with, statement_of}
-use Rattle.count_filter.specs.declared.balance.Balance.{Balance}
-use Rattle.count_filter.specs.declared.obligations.ObName.{ObName}
-use Rattle.count_filter.specs.declared.obligations.ObName.TheVariants as name
-use Rattle.count_filter.proofs.Handlers as handlers
+use Rattle.count_filter.specs.Judged.{ob_names}
+use Rattle.count_filter.specs.Laws.{NamesAreStatements}
+use Rattle.count_filter.proofs.Sentences.{IdleSeesOverloaded, LoadsFit, MoveNarrowsGap, VictimIsOverloaded}
+use Rattle.count_filter.specs.Policies.{policy_with}
 
--- the obligations by name are a policy's statements, in their order
-pub names_are_statements : (p : Meaning) → statements_of p ≡ map statement_of ob_names
+pub names_are_statements : NamesAreStatements
 unfolding statements_of ob_names
 names_are_statements p = refl
 
@@ -50,7 +45,7 @@ module _ (word : List ℕ) (k : ℕ) where
     most = let heavy = fits.loads.heavy in omega arith;
   }
 
-  sees : IdleSeesOverloaded k ↔ IsMet (policy_with word k) idle_sees_overloaded
+  pub sees : IdleSeesOverloaded k ↔ IsMet (policy_with word k) idle_sees_overloaded
   unfolding pair_values
   sees = (
     (λ holds own victim f g idle busy.
@@ -59,7 +54,7 @@ module _ (word : List ℕ) (k : ℕ) where
         let lets = met _ _ (core_fits self self_load f) (core_fits victim victim_load g) idle busy in grind (arith, ints)),
   )
 
-  spares : VictimIsOverloaded k ↔ IsMet (policy_with word k) victim_is_overloaded
+  pub spares : VictimIsOverloaded k ↔ IsMet (policy_with word k) victim_is_overloaded
   unfolding pair_values
   spares = (
     (λ holds own victim f g lets.
@@ -68,7 +63,7 @@ module _ (word : List ℕ) (k : ℕ) where
         met _ _ (core_fits self self_load f) (core_fits victim victim_load g) (grind (arith, ints))),
   )
 
-  narrows : MoveNarrowsGap k ↔ IsMet (policy_with word k) move_narrows_gap
+  pub narrows : MoveNarrowsGap k ↔ IsMet (policy_with word k) move_narrows_gap
   unfolding pair_values
   narrows = (
     (λ holds own victim weight f g is lets others.
@@ -79,36 +74,17 @@ module _ (word : List ℕ) (k : ℕ) where
         (record { least = omega arith; greatest = omega arith }) (grind (arith, ints)) (omega arith)),
   )
 
-  one_case : (e : Event) → NoOverlap (policy_with word k) e
+  -- the default handlers have one case each, which always holds
+  pub one_case : (e : Event) → NoOverlap (policy_with word k) e
   unfolding holding_cases
   one_case event.Enqueue fresh consts t held is = omega arith
   one_case event.Tick fresh consts t held is = omega arith
   one_case event.Yield fresh consts t held is = omega arith
   one_case event.Block fresh consts t held is = omega arith
 
-  some_case : (e : Event) → NoGap (policy_with word k) e
+  pub some_case : (e : Event) → NoGap (policy_with word k) e
   unfolding holding_cases
   some_case event.Enqueue fresh consts t held is = omega arith
   some_case event.Tick fresh consts t held is = omega arith
   some_case event.Yield fresh consts t held is = omega arith
   some_case event.Block fresh consts t held is = omega arith
-
-  pub sentences_are_statements : (obligation : ObName) → Sentence obligation k ↔ IsMet (policy_with word k) (statement_of obligation)
-  sentences_are_statements name.B1 = sees
-  sentences_are_statements name.B2 = spares
-  sentences_are_statements name.B3 = narrows
-  sentences_are_statements name.H1Enqueue = ((λ _. one_case event.Enqueue), λ _. handlers.no_overlap.0 refl)
-  sentences_are_statements name.H2Enqueue = ((λ _. some_case event.Enqueue), λ _. handlers.no_gap.0 refl)
-  sentences_are_statements name.H1Tick = ((λ _. one_case event.Tick), λ _. handlers.no_overlap.0 refl)
-  sentences_are_statements name.H2Tick = ((λ _. some_case event.Tick), λ _. handlers.no_gap.0 refl)
-  sentences_are_statements name.H1Yield = ((λ _. one_case event.Yield), λ _. handlers.no_overlap.0 refl)
-  sentences_are_statements name.H2Yield = ((λ _. some_case event.Yield), λ _. handlers.no_gap.0 refl)
-  sentences_are_statements name.H1Block = ((λ _. one_case event.Block), λ _. handlers.no_overlap.0 refl)
-  sentences_are_statements name.H2Block = ((λ _. some_case event.Block), λ _. handlers.no_gap.0 refl)
-
-  -- what is judged by the sentences is judged of the policy
-  pub judged : (balance : Balance) → ((obligation : ObName) → IsTrue (holds_in balance obligation) ↔ Sentence obligation k) → Judges (policy_with word k) balance
-  judged balance says obligation =
-      let says_so = says obligation in
-      let means = sentences_are_statements obligation in
-      ((λ held. means.0 (says_so.0 held)), λ met. says_so.1 (means.1 met))

@@ -6,7 +6,7 @@ use Rattle.std.proofs.lemmas.Int.{ints}
 use Rattle.linear_form.specs.Solution.{HasNoSolution, Solves}
 use Rattle.linear_form.proofs.Points.{solves_by_parts, ranges_by_parts, rows_by_parts}
 use Rattle.linear_cert.specs.Right.{IsRight, leaf}
-use Rattle.count_filter.specs.Obligations.{LoadsFit, VictimIsOverloaded}
+use Rattle.count_filter.proofs.Sentences.{LoadsFit, VictimIsOverloaded}
 use Rattle.count_filter.specs.Systems.{spares_system}
 use Rattle.count_filter.specs.declared.decide.TheConstants.{LAST_THREAD_POINT, SPARES_LEAF}
 use Rattle.count_filter.proofs.Cores.{cores_point, fits_of_solution}

@@ -2,7 +2,7 @@
 use Rattle.std.proofs.Common.{ℕ, ◌≤◌, inl, inr, refl, arith}
 use Rattle.std.proofs.lemmas.Bool.{cases_lt}
 use Rattle.sched_base.specs.declared.limits.TheConstants.{MAX_THREADS}
-use Rattle.count_filter.specs.Obligations.{LoadsFit, IdleSeesOverloaded, VictimIsOverloaded, MoveNarrowsGap}
+use Rattle.count_filter.proofs.Sentences.{LoadsFit, IdleSeesOverloaded, VictimIsOverloaded, MoveNarrowsGap}
 
 -- so many threads of weight 1
 fits : (n : ℕ) → n ≤ MAX_THREADS → LoadsFit n n

@@ -3,6 +3,7 @@ use Rattle.std.specs.Prelude.{ℕ, ◌&&◌, ◌↔◌, List, [], ◌∷◌, Boo
 use Rattle.policy_tree.specs.Meaning.{Meaning}
 use Rattle.policy_eval.specs.Obligations.{IsMet}
 use Rattle.count_filter.specs.Policies.{statement_of}
+use Rattle.count_filter.specs.Reasons.{is_certified}
 use Rattle.count_filter.specs.declared.balance.Balance.{Balance}
 use Rattle.count_filter.specs.declared.obligations.ObName.{ObName}
 use Rattle.count_filter.specs.declared.obligations.ObName.TheVariants as name
@@ -29,9 +30,9 @@ ob_names =
 
 -- whether an obligation is said to hold
 abbrev pub holds_in : Balance → ObName → Bool
-holds_in balance name.B1 = balance.sees
-holds_in balance name.B2 = balance.spares
-holds_in balance name.B3 = balance.narrows
+holds_in balance name.B1 = is_certified balance.sees
+holds_in balance name.B2 = is_certified balance.spares
+holds_in balance name.B3 = is_certified balance.narrows
 holds_in balance name.H1Enqueue = true
 holds_in balance name.H2Enqueue = true
 holds_in balance name.H1Tick = true
@@ -48,4 +49,4 @@ Judges p balance =
 
 -- whether every obligation is said to hold
 abbrev pub all_hold : Balance → Bool
-all_hold balance = balance.sees && balance.spares && balance.narrows
+all_hold balance = is_certified balance.sees && is_certified balance.spares && is_certified balance.narrows

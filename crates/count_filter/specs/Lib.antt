@@ -1,5 +1,6 @@
-pub mod Obligations
 pub mod Judged
+pub mod Laws
 pub mod Policies
+pub mod Reasons
 pub mod Rows
 pub mod Systems

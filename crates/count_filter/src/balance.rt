@@ -1,17 +1,18 @@
-//! Which obligations hold.
+//! Which obligations hold, and why.
 
 use crate::obligations::ObName;
+use crate::reasons::Reason;
 
-/// Which of the balance obligations hold. Those of the handlers have no field, since they hold of the default
+/// Why each balance obligation holds or fails. Those of the handlers have no field, since they hold of the default
 /// handlers.
-#[derive(Clone, Copy)]
+#[derive(Drop)]
 pub struct Balance {
     /// An idle core sees every overloaded one.
-    pub sees: bool,
+    pub sees: Reason,
     /// Only overloaded cores are victims.
-    pub spares: bool,
+    pub spares: Reason,
     /// A move narrows the gap.
-    pub narrows: bool,
+    pub narrows: Reason,
 }
 
 impl Balance {
@@ -23,9 +24,9 @@ impl Balance {
         ensures { result ≡ holds_in self.now obligation }
     {
         match obligation {
-            ObName::B1 => self.sees,
-            ObName::B2 => self.spares,
-            ObName::B3 => self.narrows,
+            ObName::B1 => self.sees.is_certified(),
+            ObName::B2 => self.spares.is_certified(),
+            ObName::B3 => self.narrows.is_certified(),
             ObName::H1Enqueue
             | ObName::H2Enqueue
             | ObName::H1Tick
@@ -41,6 +42,6 @@ impl Balance {
     pub fn all_hold(&self) -> bool
         ensures { result ≡ all_hold self.now }
     {
-        self.sees && self.spares && self.narrows
+        self.sees.is_certified() && self.spares.is_certified() && self.narrows.is_certified()
     }
 }

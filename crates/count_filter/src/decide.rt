@@ -1,12 +1,13 @@
 //! Which obligations hold of a filter that asks for at least so many threads more.
 
-ghost use Rattle.std.specs.Prelude.{ℕ, List, ◌↔◌, IfOk, IsTrue};
+ghost use Rattle.std.specs.Prelude.{ℕ, List, IfOk};
 ghost use Rattle.count_filter.specs.Judged.{Judges};
-ghost use Rattle.count_filter.specs.Obligations.{IdleSeesOverloaded, MoveNarrowsGap, VictimIsOverloaded};
 ghost use Rattle.count_filter.specs.Policies.{policy_with};
+ghost use Rattle.count_filter.specs.Reasons.{AreReasons, IsReason};
+ghost use Rattle.count_filter.specs.Systems.{narrows_system, sees_system, spares_system};
 
 use crate::balance::Balance;
-use crate::reasons::{has_no_solution, leaf_of, point_of};
+use crate::reasons::{Reason, leaf_of, point_of, reason_of};
 use crate::systems::{narrows_system, sees_system, spares_system};
 use linear_cert::Mult;
 use std::alloc::{AllocError, Global};
@@ -32,10 +33,19 @@ impl From<AllocError> for JudgeMemory {
 /// Which obligations a policy meets whose loads are counts, whose filter is `victim.nr - self.nr >= threshold`, and
 /// which says no more, whatever its name. Each thread weighs 1, and the handlers are the default ones.
 ///
-/// A balance obligation is said to hold after the checker of certificates has accepted a reason why no two cores
-/// break it, and to fail after two cores that break it were put into all ranges and rows of its system.
+/// Each balance obligation is answered with what was checked: the certificate why no two cores break it, or two cores
+/// that do. That what is said so is true is the law of reasons, which rests on the soundness of the checker. The
+/// obligations of the handlers have no reason there: that the default handlers meet them is proved once, and no code
+/// looks at them.
 pub fn judge(alloc: Global, threshold: u32) -> Result<Balance, JudgeMemory>
-    ensures { IfOk result (λ balance. (name : List ℕ) → Judges (policy_with name threshold) balance) }
+    ensures reasons { IfOk result (AreReasons threshold) }
+    ensures judges { IfOk result (λ balance. (name : List ℕ) → Judges (policy_with name threshold) balance) }
+{
+    balance_of(alloc, threshold)
+}
+
+fn balance_of(alloc: Global, threshold: u32) -> Result<Balance, JudgeMemory>
+    ensures { IfOk result (AreReasons threshold) }
 {
     Ok(Balance {
         sees: idle_sees_overloaded(alloc, threshold)?,
@@ -57,13 +67,13 @@ const SEES_LEAF: [Mult; 3] = [
 // From a threshold of 3 on an idle core doesn't see two threads.
 const UNSEEN_POINT: [i64; 4] = [0, 0, 2, 2];
 
-fn idle_sees_overloaded(alloc: Global, threshold: u32) -> Result<bool, JudgeMemory>
-    ensures { IfOk result (λ holds. IsTrue holds ↔ IdleSeesOverloaded threshold) }
+fn idle_sees_overloaded(alloc: Global, threshold: u32) -> Result<Reason, JudgeMemory>
+    ensures { IfOk result (IsReason (sees_system threshold)) }
 {
     let system = sees_system(alloc, threshold)?;
     let cert = leaf_of(alloc, &SEES_LEAF)?;
     let point = point_of(alloc, &UNSEEN_POINT)?;
-    Ok(has_no_solution(&system, &cert, &point))
+    Ok(reason_of(&system, cert, point))
 }
 
 // Victim has at most one thread, the filter lets, and `self.nr` is at least 0: together `0 <= 1 - threshold`.
@@ -76,13 +86,13 @@ const SPARES_LEAF: [Mult; 3] = [
 // Up to a threshold of 1 a core with no thread takes the only thread of another.
 const LAST_THREAD_POINT: [i64; 4] = [0, 0, 1, 1];
 
-fn victim_is_overloaded(alloc: Global, threshold: u32) -> Result<bool, JudgeMemory>
-    ensures { IfOk result (λ holds. IsTrue holds ↔ VictimIsOverloaded threshold) }
+fn victim_is_overloaded(alloc: Global, threshold: u32) -> Result<Reason, JudgeMemory>
+    ensures { IfOk result (IsReason (spares_system threshold)) }
 {
     let system = spares_system(alloc, threshold)?;
     let cert = leaf_of(alloc, &SPARES_LEAF)?;
     let point = point_of(alloc, &LAST_THREAD_POINT)?;
-    Ok(has_no_solution(&system, &cert, &point))
+    Ok(reason_of(&system, cert, point))
 }
 
 // Self's load is at most its count, victim's at least, they differ by at most 1, and the filter lets: together
@@ -94,11 +104,11 @@ const NARROWS_LEAF: [Mult; 4] = [
     Mult { row: 6, by: 1 },
 ];
 
-fn move_narrows_gap(alloc: Global, threshold: u32) -> Result<bool, JudgeMemory>
-    ensures { IfOk result (λ holds. IsTrue holds ↔ MoveNarrowsGap threshold) }
+fn move_narrows_gap(alloc: Global, threshold: u32) -> Result<Reason, JudgeMemory>
+    ensures { IfOk result (IsReason (narrows_system threshold)) }
 {
     let system = narrows_system(alloc, threshold)?;
     let cert = leaf_of(alloc, &NARROWS_LEAF)?;
     let point = point_of(alloc, &LAST_THREAD_POINT)?;
-    Ok(has_no_solution(&system, &cert, &point))
+    Ok(reason_of(&system, cert, point))
 }

@@ -3,6 +3,7 @@
 
 mod balance;
 mod decide;
+mod laws;
 mod obligations;
 mod reasons;
 mod rows;
@@ -10,4 +11,6 @@ mod systems;
 
 pub use balance::Balance;
 pub use decide::{JudgeMemory, judge};
+pub use laws::{law_certified, law_names, law_reasons, law_systems};
 pub use obligations::{NAMES, OB_NAME_ROOM, ObName};
+pub use reasons::Reason;

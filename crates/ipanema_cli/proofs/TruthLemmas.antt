@@ -8,7 +8,9 @@ use Rattle.ipanema_cli.specs.CheckAnswer.{IsCheckOf, output_of, status_of}
 use Rattle.ipanema_cli.specs.Command.{Asked, check}
 use Rattle.ipanema_cli.specs.Ends.{Writes, answered, unread, no_memory, Ends}
 use Rattle.count_filter.specs.Policies.{policy_with}
-use Rattle.count_filter.proofs.Acceptance.{all_at_two, all_statements, only_two}
+use Rattle.count_filter.specs.Reasons.{HasReasons, IsCertified}
+use Rattle.count_filter.proofs.Acceptance.{all_at_two, all_certified, only_two}
+use Rattle.count_filter.proofs.Worth.{certified_policies_meet_them}
 use Rattle.policy_eval.specs.Obligations.{MeetsObligations}
 use Rattle.policy_tree.specs.Meaning.{Meaning}
 use Rattle.ipanema_cli.specs.FirstForm.{IsFirstForm, SpellsPolicy}
@@ -32,29 +34,31 @@ verdict_not_2 false e = omega arith
 
 -- the facts of a text and its answer that the promises are made of
 record Answers (text : List ℕ) (a : CheckAnswer) (before after : Option (List ℕ)) : Type 0 where
-  accepted : code_of (status_of a) ≡ 0 → (name : List ℕ) × SpellsPolicy text (policy_with name 2) × MeetsObligations (policy_with name 2)
+  accepted : code_of (status_of a) ≡ 0 → (name : List ℕ) × SpellsPolicy text (policy_with name 2) × IsCertified (policy_with name 2) × MeetsObligations (policy_with name 2)
   accepts : IsFirstForm text 2 → length text ≤ POLICY_ROOM → code_of (status_of a) ≡ 0
-  lines : OneOf (0 ∷ 1 ∷ []) (code_of (status_of a)) → Adds (output_of a) before after → (p : Meaning) × (balance : Balance) × SpellsPolicy text p × Judges p balance × Adds (output_of (answer.Judged balance)) before after × (IsTrue (all_hold balance) ↔ (code_of (status_of a) ≡ 0))
+  lines : OneOf (0 ∷ 1 ∷ []) (code_of (status_of a)) → Adds (output_of a) before after → (p : Meaning) × (balance : Balance) × SpellsPolicy text p × HasReasons p balance × Judges p balance × Adds (output_of (answer.Judged balance)) before after × (IsTrue (all_hold balance) ↔ (code_of (status_of a) ≡ 0))
   other_form : length text ≤ POLICY_ROOM → ((k : ℕ) → IsFirstForm text k → ⊥) → code_of (status_of a) ≡ 2
   not_built : code_of (status_of a) ≡ 2 → Adds (output_of a) before after → (length text ≤ POLICY_ROOM) × ((k : ℕ) → IsFirstForm text k → ⊥) × Adds (codes "policy 0 not-built\n") before after
 
 answers : (text : List ℕ) (a : CheckAnswer) (before after : Option (List ℕ)) → IsCheckOf text a → Answers text a before after
-answers text (answer.Judged balance) before after (p, short, (k, (form, is_policy)), judges) =
+answers text (answer.Judged balance) before after (p, short, (k, (form, is_policy)), reasons, judges) =
     let Judged : Meaning → Type 0 = λ q. Judges q balance in
     let judged = subst Judged is_policy judges in
     let name : List ℕ = form.head.name in
     record {
       accepted = λ e.
           let all = verdict_0 (all_hold balance) e in
-          let met = all_statements (policy_with name k) balance judged all in
+          let certified = subst IsCertified is_policy (all_certified p balance reasons all) in
+          let met = certified_policies_meet_them (policy_with name k) certified in
           let two = only_two name k met in
-          let Met : ℕ → Type 0 = λ n. MeetsObligations (policy_with name n) in
-          (name, (k, (form, ap (λ n. policy_with name n) (sym two))), subst Met two met);
+          let At : ℕ → Type 0 = λ n. IsCertified (policy_with name n) × MeetsObligations (policy_with name n) in
+          let both = subst At two (certified, met) in
+          (name, (k, (form, ap (λ n. policy_with name n) (sym two))), both.0, both.1);
       accepts = λ form_2 _.
           let same = one_threshold text k 2 form form_2 in
           let JudgedAt : ℕ → Type 0 = λ n. Judges (policy_with name n) balance in
           rw (all_at_two name balance (subst JudgedAt same judged)) refl;
-      lines = λ e added. (p, balance, (k, (form, is_policy)), judges, added, ((λ all. rw all refl), (λ zero. verdict_0 (all_hold balance) zero)));
+      lines = λ e added. (p, balance, (k, (form, is_policy)), reasons, judges, added, ((λ all. rw all refl), (λ zero. verdict_0 (all_hold balance) zero)));
       other_form = λ _ none. absurd (none k form);
       not_built = λ e _. absurd (verdict_not_2 (all_hold balance) e);
     }
@@ -89,7 +93,7 @@ text_answered policy told write_fault before after code text a may is_check writ
     record {
       accepted = λ h.
           let is_0 : code_of (status_of a) ≡ 0 = elim among [ inl e ↦ sym e ∙ h | inr (inl e) ↦ absurd (omega arith) | inr (inr e) ↦ absurd (omega arith) ] in
-          let found = facts.accepted is_0 in (found.0, (policy, text, refl, may, found.1), found.2);
+          let found = facts.accepted is_0 in (found.0, (policy, text, refl, may, found.1), found.2, found.3);
       accepts = λ other held e tells short two.
           let is_text = Held other held e tells in
           elim among [
@@ -99,8 +103,17 @@ text_answered policy told write_fault before after code text a may is_check writ
           ];
       lines = λ h.
           let is_own : code ≡ code_of (status_of a) = elim among [ inl e ↦ e | inr (inl e) ↦ absurd (neither_5 code h e) | inr (inr e) ↦ absurd (neither_6 code h e) ] in
-          let found = facts.lines (rw is_own at h) (whole _ _ _ _ _ _ writes (neither_5 code h) (neither_6 code h)) in
-          (found.0, found.1, (policy, text, refl, may, found.2), found.3, found.4, ((λ all. is_own ∙ found.5.0 all), (λ zero. found.5.1 (sym is_own ∙ zero))));
+          let found = facts.lines (rw is_own at h) (whole _ _ _ _ _ _ writes (neither_5 code h) (neither_6 code h)) in (
+            found.0,
+            found.1,
+            record {
+              spelled = (policy, text, refl, may, found.2);
+              reasons = found.3;
+              words = found.4;
+              written = found.5;
+              verdict = ((λ all. is_own ∙ found.6.0 all), (λ zero. found.6.1 (sym is_own ∙ zero)));
+            },
+          );
       other_form = λ other held e tells short none.
           let is_text = Held other held e tells in
           elim among [

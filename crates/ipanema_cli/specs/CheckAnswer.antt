@@ -4,6 +4,7 @@ use Rattle.std.specs.List.{flat_map}
 use Rattle.policy_tree.specs.Meaning.{Meaning}
 use Rattle.ipanema_cli.specs.FirstForm.{IsFirstForm, SpellsPolicy}
 use Rattle.count_filter.specs.Judged.{Judges, all_hold, holds_in, ob_names, ob_text}
+use Rattle.count_filter.specs.Reasons.{HasReasons}
 use Rattle.ipanema_cli.specs.declared.answers.TheConstants.{POLICY_ROOM}
 use Rattle.ipanema_cli.specs.declared.answers.CheckAnswer.{CheckAnswer}
 use Rattle.ipanema_cli.specs.declared.answers.CheckAnswer.TheVariants as answer
@@ -33,9 +34,9 @@ status_of (answer.Judged balance) = if all_hold balance then status.Done else st
 status_of answer.NotBuilt = status.BadText
 status_of answer.TooLong = status.TooMuch
 
--- The answer is the one that the text gets.
+-- The answer is the one that the text gets: of a policy that it spells what is said has right reasons and is true.
 abbrev pub IsCheckOf : List ℕ → CheckAnswer → Type 0
 IsCheckOf text (answer.Judged balance) =
-    (p : Meaning) × (length text ≤ POLICY_ROOM) × SpellsPolicy text p × Judges p balance
+    (p : Meaning) × (length text ≤ POLICY_ROOM) × SpellsPolicy text p × HasReasons p balance × Judges p balance
 IsCheckOf text answer.NotBuilt = (length text ≤ POLICY_ROOM) × ((threshold : ℕ) → IsFirstForm text threshold → ⊥)
 IsCheckOf text answer.TooLong = POLICY_ROOM < length text

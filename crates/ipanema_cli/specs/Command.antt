@@ -7,6 +7,11 @@ pub data Asked : Type 0 where
   -- to check the policy in this file
   check : (policy : List ℕ) → Asked
 
+-- how many files a command loads at most
+abbrev pub loads_of : Option Asked → ℕ
+loads_of None = 0
+loads_of (Some (check policy)) = 1
+
 -- a word that may name something: not empty, and no option
 abbrev pub is_plain : List ℕ → Bool
 is_plain [] = false

@@ -4,6 +4,7 @@ use Rattle.std.specs.List.{list_any}
 use Rattle.sched_io.specs.Told.{Told, MayHold, missing, holds}
 use Rattle.sched_io.specs.Written.{Adds, AddsPart, AddsPrefix}
 use Rattle.count_filter.specs.Judged.{Judges, all_hold}
+use Rattle.count_filter.specs.Reasons.{HasReasons, IsCertified}
 use Rattle.ipanema_cli.specs.CheckAnswer.{IsCheckOf, output_of}
 use Rattle.ipanema_cli.specs.Command.{Asked, check}
 use Rattle.ipanema_cli.specs.FirstForm.{IsFirstForm, SpellsPolicy}
@@ -55,14 +56,25 @@ abbrev pub AsksOf : Option Asked → (List ℕ → Told) → Meaning → Type 0
 AsksOf asked told p =
     (policy text : List ℕ) × (asked ≡ Some (check policy)) × MayHold (told policy) text × SpellsPolicy text p
 
+-- The lines that are written answer for this policy, which the command's file may spell.
+pub record AnswersFor (asked : Option Asked) (told : List ℕ → Told) (before after : Option (List ℕ)) (code : ℕ) (p : Meaning) (balance : Balance) : Type 0 where
+  pub spelled : AsksOf asked told p
+  -- behind `holds` of a balance obligation is a certificate that is right for its system, behind `fails` a point that solves it
+  pub reasons : HasReasons p balance
+  -- and so each word is true; of a handler's obligation it is by a lemma on the default handlers
+  pub words : Judges p balance
+  pub written : Adds (output_of (answer.Judged balance)) before after
+  -- the verdict is that of the lines
+  pub verdict : IsTrue (all_hold balance) ↔ (code ≡ 0)
+
 -- What `check` says is true.
 pub record IsTruthful (asked : Option Asked) (told : List ℕ → Told) (before after : Option (List ℕ)) (code : ℕ) : Type 0 where
-  -- an accepted policy has the threshold 2 and meets its obligations
-  pub accepted : code ≡ 0 → (name : List ℕ) × AsksOf asked told (policy_with name 2) × MeetsObligations (policy_with name 2)
+  -- an accepted policy has the threshold 2 and a right certificate for each system, and meets its obligations
+  pub accepted : code ≡ 0 → (name : List ℕ) × AsksOf asked told (policy_with name 2) × IsCertified (policy_with name 2) × MeetsObligations (policy_with name 2)
   -- and every policy of the first form with the threshold 2 is accepted, if the outside lets it be
   pub accepts : (policy text : List ℕ) → asked ≡ Some (check policy) → told policy ≡ holds text → length text ≤ POLICY_ROOM → IsFirstForm text 2 → OneOf (0 ∷ 4 ∷ 5 ∷ 6 ∷ []) code
-  -- each line that says that an obligation holds or fails is true, and the verdict is that of the lines
-  pub lines : OneOf (0 ∷ 1 ∷ []) code → (p : Meaning) × (balance : Balance) × AsksOf asked told p × Judges p balance × Adds (output_of (answer.Judged balance)) before after × (IsTrue (all_hold balance) ↔ (code ≡ 0))
+  -- each line that says that an obligation holds or fails has its reason and is true
+  pub lines : OneOf (0 ∷ 1 ∷ []) code → (p : Meaning) × (balance : Balance) × AnswersFor asked told before after code p balance
   -- a text of another form is refused as one that isn't read so far
   pub other_form : (policy text : List ℕ) → asked ≡ Some (check policy) → told policy ≡ holds text → length text ≤ POLICY_ROOM → ((threshold : ℕ) → IsFirstForm text threshold → ⊥) → OneOf (2 ∷ 4 ∷ 5 ∷ 6 ∷ []) code
   pub not_built : code ≡ 2 → (policy text : List ℕ) × (asked ≡ Some (check policy)) × MayHold (told policy) text × (length text ≤ POLICY_ROOM) × ((threshold : ℕ) → IsFirstForm text threshold → ⊥) × Adds (codes "policy 0 not-built\n") before after

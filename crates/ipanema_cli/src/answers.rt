@@ -16,9 +16,9 @@ use std::alloc::Global;
 pub const POLICY_ROOM: u64 = 65536;
 
 /// What `check` answers.
-#[derive(Clone, Copy)]
+#[derive(Drop)]
 pub enum CheckAnswer {
-    /// The obligations were judged.
+    /// The obligations were judged, each balance obligation for a reason that was checked.
     Judged(Balance),
     /// The text is none of those that are read so far.
     NotBuilt,

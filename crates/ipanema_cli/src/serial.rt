@@ -1,9 +1,9 @@
 //! The commands that one thread carries out.
 
-ghost use Rattle.std.specs.Prelude.{◌≡◌, ◌≢◌, Some, codes, slice_get};
+ghost use Rattle.std.specs.Prelude.{◌≡◌, ◌≢◌, ◌+◌, ◌≤◌, Some, codes, slice_get};
 ghost use Rattle.sched_io.specs.Faults.{Rose};
 ghost use Rattle.ipanema_cli.specs.CheckAnswer.{output_of, status_of};
-ghost use Rattle.ipanema_cli.specs.Command.{asked_by, words_of};
+ghost use Rattle.ipanema_cli.specs.Command.{asked_by, loads_of, words_of};
 ghost use Rattle.ipanema_cli.specs.Ends.{Checks, Ends, Writes};
 ghost use Rattle.ipanema_cli.specs.Promises.{HasCause, IsTruthful};
 ghost use Rattle.ipanema_cli.specs.declared.status.Status.TheVariants as status;
@@ -33,15 +33,17 @@ pub fn serial_command<F: Files, S: Sink>(
         (S.written out.old) (S.written out.new) result }
     ensures truthful { IsTruthful (asked_by (words_of words.now.items)) (F.told files.old)
         (S.written out.old) (S.written out.new) result }
+    ensures loads { F.loads files.new ≤ F.loads files.old + loads_of (asked_by (words_of words.now.items)) }
 {
     carry_out(alloc, words.as_slice(), files, out)
 }
 
 /// Does what the words ask for.
 fn carry_out<F: Files, S: Sink>(alloc: Global, words: &[String], files: &mut F, out: &mut S) -> u8
-    ensures { Ends (asked_by (words_of words.now)) (F.told files.old)
+    ensures ends { Ends (asked_by (words_of words.now)) (F.told files.old)
         (Rose (F.faults files.old) (F.faults files.new)) (Rose (S.faults out.old) (S.faults out.new))
         (S.written out.old) (S.written out.new) result }
+    ensures loads { F.loads files.new ≤ F.loads files.old + loads_of (asked_by (words_of words.now)) }
 {
     match request_of(words) {
         Request::Check { policy } => check(alloc, policy, files, out),
@@ -62,9 +64,10 @@ pub fn bad_words<S: Sink>(out: &mut S) -> u8
 
 /// Checks the policy in that file.
 fn check<F: Files, S: Sink>(alloc: Global, policy: &str, files: &mut F, out: &mut S) -> u8
-    ensures { Checks (F.told files.old policy.now)
+    ensures ends { Checks (F.told files.old policy.now)
         (Rose (F.faults files.old) (F.faults files.new)) (Rose (S.faults out.old) (S.faults out.new))
         (S.written out.old) (S.written out.new) result }
+    ensures once { F.loads files.new ≤ F.loads files.old + 1 }
 {
     match files.load(alloc, policy, POLICY_ROOM) {
         Ok(text) => match check_text(alloc, text.as_slice()) {

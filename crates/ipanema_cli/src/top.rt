@@ -1,8 +1,8 @@
 //! The top call: every command over files, a sink and a gate that are handed in.
 
-ghost use Rattle.std.specs.Prelude.{◌≡◌};
+ghost use Rattle.std.specs.Prelude.{◌≡◌, ◌+◌, ◌≤◌};
 ghost use Rattle.sched_io.specs.Faults.{Rose};
-ghost use Rattle.ipanema_cli.specs.Command.{asked_by, words_of};
+ghost use Rattle.ipanema_cli.specs.Command.{asked_by, loads_of, words_of};
 ghost use Rattle.ipanema_cli.specs.Ends.{Ends};
 ghost use Rattle.ipanema_cli.specs.Promises.{HasCause, IsTruthful};
 
@@ -35,6 +35,8 @@ pub fn ipanema<R: Threads + Wait + Sync, F: Files, S: Sink, G: Gate>(
     // What is said of a policy is true.
     ensures truthful { IsTruthful (asked_by (words_of words.now.items)) (F.told files.old)
         (S.written out.old) (S.written out.new) result }
+    // No file is loaded more often than the command needs.
+    ensures loads { F.loads files.new ≤ F.loads files.old + loads_of (asked_by (words_of words.now.items)) }
 {
     match words.first() {
         Some(verb) if verb.as_str() == "run" => bad_words(out),

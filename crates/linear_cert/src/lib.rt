@@ -5,7 +5,9 @@
 
 mod cert;
 mod checker;
+mod laws;
 mod rows;
 
 pub use cert::{Cert, Mult, MultList};
 pub use checker::check;
+pub use laws::law_sound;

@@ -7,6 +7,10 @@ use Rattle.sched_io.specs.declared.adapters.StdoutSink.{StdoutSink}
 abbrev pub disk_faults : {R : Type 0} → DiskFiles R → ℕ
 disk_faults files = files.faults
 
+-- how often the system was asked for a file
+abbrev pub disk_loads : {R : Type 0} → DiskFiles R → ℕ
+disk_loads files = files.loads
+
 -- how often the system failed to write
 abbrev pub stdout_faults : {R : Type 0} → StdoutSink R → ℕ
 stdout_faults sink = sink.faults

@@ -1,5 +1,5 @@
 -- The sinks in memory, as contracts see them.
-use Rattle.std.specs.Prelude.{ℕ, List, Option, ◌+◌, ◌<◌, ◌⊎◌, Contains, length}
+use Rattle.std.specs.Prelude.{◌≢◌, ℕ, List, [], Option, ◌+◌, ◌<◌, ◌⊎◌, Contains, length}
 use Rattle.sched_io.specs.declared.memory_sink.MemorySink.{MemorySink}
 use Rattle.sched_io.specs.declared.steady_sink.SteadySink.{SteadySink}
 use Rattle.sched_io.specs.InMemory.{told_unless}
@@ -16,16 +16,17 @@ room_of s = s.room
 abbrev pub failing_puts_of : MemorySink → List ℕ
 failing_puts_of s = s.failing.items
 
--- the number of the next put
+-- the number of the next put of something
 abbrev pub puts_of : MemorySink → ℕ
 puts_of s = s.puts
 
 abbrev pub put_faults_of : MemorySink → ℕ
 put_faults_of s = s.faults
 
--- the next put of this piece fails: its number was chosen, or there is no room for it
+-- the next put of this piece fails: it isn't empty, and its number was chosen or there is no room for it
 abbrev pub FailsNext : MemorySink → List ℕ → Type 0
-FailsNext s piece = Contains (failing_puts_of s) (puts_of s) ⊎ (room_of s < length (bytes_of s) + length piece)
+FailsNext s piece =
+    (piece ≢ []) × (Contains (failing_puts_of s) (puts_of s) ⊎ (room_of s < length (bytes_of s) + length piece))
 
 -- the bytes that the sink kept: the first that it was given, as far as it has room
 abbrev pub kept_by : SteadySink → List ℕ
@@ -33,6 +34,10 @@ kept_by s = s.bytes.items
 
 abbrev pub steady_room_of : SteadySink → ℕ
 steady_room_of s = s.room
+
+-- its count of faults, which never rises
+abbrev pub steady_faults_of : SteadySink → ℕ
+steady_faults_of s = 0
 
 -- what it tells: its bytes, unless some were dropped
 abbrev pub told_by_steady : SteadySink → Option (List ℕ)

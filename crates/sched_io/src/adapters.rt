@@ -1,5 +1,5 @@
 //! The real files and the real standard output. They tell nothing of what they hold, and no proof speaks of what
-//! the system does: they only count its failures.
+//! the system does: they only count its failures, and how often files are asked for.
 
 ghost use Rattle.std.specs.Prelude.{◌≡◌, ℕ, List, None, Option};
 ghost use Rattle.sched_io.specs.Told.{Told, untold};
@@ -17,16 +17,22 @@ use std::{fs, io};
 pub struct DiskFiles<'a, R> {
     rt: &'a R,
     faults: u64,
+    loads: u64,
 }
 
 impl<'a, R> DiskFiles<'a, R> {
-    ghost use Rattle.sched_io.specs.Adapters.{disk_faults};
+    ghost use Rattle.sched_io.specs.Adapters.{disk_faults, disk_loads};
 
     /// The files that this runtime reaches.
     pub fn new(rt: &'a R) -> DiskFiles<'a, R>
-        ensures { disk_faults result ≡ 0 }
+        ensures faults { disk_faults result ≡ 0 }
+        ensures loads { disk_loads result ≡ 0 }
     {
-        DiskFiles { rt, faults: 0 }
+        DiskFiles {
+            rt,
+            faults: 0,
+            loads: 0,
+        }
     }
 }
 
@@ -43,7 +49,10 @@ impl<R: SystemFiles> Files for DiskFiles<'_, R> {
 
     ghost faults = { λ files. files.faults };
 
+    ghost loads = { λ files. files.loads };
+
     fn load(&mut self, alloc: Global, name: &str, limit: u64) -> Result<Vec<u8>, LoadFault> {
+        self.loads = self.loads.saturating_add(1);
         match read_file(self.rt, alloc, name, limit) {
             Ok(bytes) if bytes.len() as u64 <= limit => Ok(bytes),
             Ok(_) => Err(LoadFault::TooLong),
@@ -82,8 +91,11 @@ impl<R: Print> Sink for StdoutSink<'_, R> {
     ghost faults = { λ sink. sink.faults };
 
     fn put(&mut self, piece: &[u8]) -> Result<u64, PutFault> {
+        if piece.is_empty() {
+            return Ok(0);
+        }
         match self.rt.write_some(piece) {
-            Ok(count) if count > 0 || piece.is_empty() => Ok(count as u64),
+            Ok(count) if count > 0 => Ok(count as u64),
             _ => {
                 self.faults = self.faults.saturating_add(1);
                 Err(PutFault::Failed)

@@ -3,6 +3,7 @@
 ghost use Rattle.std.specs.Prelude.{◌≡◌, ◌≢◌, ℕ, ◌+◌, ◌<◌, ◌≤◌, ◌⊎◌, List, Contains, IfOk, IsErrOf, MatchOption, length, min, string_bytes, vec_len};
 ghost use Rattle.sched_io.specs.Faults.{Rose};
 ghost use Rattle.sched_io.specs.InMemory.{told_among};
+ghost use Rattle.sched_io.specs.Loads.{one_more};
 ghost use Rattle.sched_io.specs.MemoryFiles.{told_by, faults_of, failing_of, loads_of};
 ghost use Rattle.sched_io.specs.Told.{IfHolds, missing, holds};
 
@@ -56,6 +57,8 @@ impl Files for MemoryFiles {
 
     ghost faults = { faults_of };
 
+    ghost loads = { loads_of };
+
     fn load(&mut self, alloc: Global, name: &str, limit: u64) -> Result<Vec<u8>, LoadFault>
         ensures bytes { IfOk result (λ bytes. IfHolds (told_by self.old name.now) (λ held. bytes.items ≡ held)) }
         ensures within { IfOk result (λ bytes. vec_len bytes ≤ limit) }
@@ -68,6 +71,7 @@ impl Files for MemoryFiles {
         ensures missing_is_no_fault { told_by self.old name.now ≡ missing → faults_of self.new ≡ faults_of self.old }
         ensures same { (other : List ℕ) → told_by self.new other ≡ told_by self.old other }
         ensures later { faults_of self.old ≤ faults_of self.new }
+        ensures counted { loads_of self.new ≡ one_more (loads_of self.old) }
 
         // Just the chosen loads fail, and those of a missing name.
         ensures chosen { Contains (failing_of self.old) (loads_of self.old) → IsErrOf result LoadFault.Failed }
@@ -75,7 +79,6 @@ impl Files for MemoryFiles {
             Contains (failing_of self.old) (loads_of self.old) ⊎ (told_by self.old name.now ≡ missing) }
         ensures steady { IsErrOf result LoadFault.Failed ⊎ (faults_of self.new ≡ faults_of self.old) }
         ensures failing { failing_of self.new ≡ failing_of self.old }
-        ensures loads { loads_of self.new ≡ min (loads_of self.old + 1) u64.MAX }
     {
         let fails = self.failing.contains(&self.loads);
         self.loads = self.loads.saturating_add(1);

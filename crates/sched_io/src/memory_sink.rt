@@ -23,8 +23,8 @@ pub struct MemorySink {
 impl MemorySink {
     ghost use Rattle.sched_io.specs.Sinks.{bytes_of, failing_puts_of, put_faults_of, puts_of, room_of};
 
-    /// An empty sink with room for so many bytes, of which the puts with the numbers in `failing` fail, the
-    /// first put having the number 0.
+    /// An empty sink with room for so many bytes, of which the puts with the numbers in `failing` fail. Puts of pieces
+    /// that aren't empty have numbers, from 0.
     pub fn new(alloc: Global, room: u64, failing: Vec<u64>) -> Result<MemorySink, IoMemory>
         ensures empty { IfOk result (λ sink. bytes_of sink ≡ []) }
         ensures room { IfOk result (λ sink. room_of sink ≡ room) }
@@ -50,7 +50,7 @@ impl MemorySink {
 }
 
 impl Sink for MemorySink {
-    ghost use Rattle.std.specs.Prelude.{◌≡◌, ◌≢◌, ◌+◌, ◌<◌, ◌≤◌, ◌↔◌, [], Some, IfOk, IsErr, OnErr, OnOk, length, min, take};
+    ghost use Rattle.std.specs.Prelude.{◌≡◌, ◌≢◌, ◌+◌, ◌<◌, ◌≤◌, ◌↔◌, [], Some, IfOk, IsErr, IsOk, OnErr, OnOk, length, min, take};
     ghost use Rattle.sched_io.specs.Faults.{Rose};
     ghost use Rattle.sched_io.specs.Sinks.{FailsNext, bytes_of, failing_puts_of, put_faults_of, puts_of, room_of};
     ghost use Rattle.sched_io.specs.Written.{Adds};
@@ -63,6 +63,8 @@ impl Sink for MemorySink {
         ensures within { IfOk result (λ count. count ≤ length piece.now) }
         ensures taken { IfOk result (λ count. Adds (take count piece.now) (Some (bytes_of self.old)) (Some (bytes_of self.new))) }
         ensures some { IfOk result (λ count. piece.now ≢ [] → 0 < count) }
+        ensures empty { piece.now ≡ [] → IsOk result }
+        ensures empty_is_no_fault { piece.now ≡ [] → put_faults_of self.new ≡ put_faults_of self.old }
         ensures failed { OnErr result (Rose (put_faults_of self.old) (put_faults_of self.new)) }
         ensures nothing { OnErr result (Adds [] (Some (bytes_of self.old)) (Some (bytes_of self.new))) }
         ensures later { put_faults_of self.old ≤ put_faults_of self.new }
@@ -71,8 +73,12 @@ impl Sink for MemorySink {
         ensures steady { OnOk result (put_faults_of self.new ≡ put_faults_of self.old) }
         ensures chosen { IsErr result ↔ FailsNext self.old piece.now }
         ensures same { (room_of self.new ≡ room_of self.old) × (failing_puts_of self.new ≡ failing_puts_of self.old) }
-        ensures puts { puts_of self.new ≡ min (puts_of self.old + 1) u64.MAX }
+        ensures puts { piece.now ≢ [] → puts_of self.new ≡ min (puts_of self.old + 1) u64.MAX }
+        ensures no_put { piece.now ≡ [] → puts_of self.new ≡ puts_of self.old }
     {
+        if piece.is_empty() {
+            return Ok(0);
+        }
         let fails = self.failing.contains(&self.puts);
         self.puts = self.puts.saturating_add(1);
         let left = self.room - self.bytes.len();

@@ -1,6 +1,6 @@
 //! Where output goes.
 
-ghost use Rattle.std.specs.Prelude.{◌≡◌, ◌≢◌, ℕ, ◌<◌, ◌≤◌, List, [], Option, IfOk, OnOk, OnErr, length, take};
+ghost use Rattle.std.specs.Prelude.{◌≡◌, ◌≢◌, ℕ, ◌<◌, ◌≤◌, List, [], Option, IfOk, IsOk, OnOk, OnErr, length, take};
 ghost use Rattle.sched_io.specs.Faults.{Rose};
 ghost use Rattle.sched_io.specs.Written.{Adds, AddsPart};
 
@@ -20,6 +20,10 @@ pub trait Sink {
         ensures taken { IfOk result (λ count. Adds (take count piece.now) (written self.old) (written self.new)) }
         // Of a piece that isn't empty something is taken, or it is a fault.
         ensures some { IfOk result (λ count. piece.now ≢ [] → 0 < count) }
+        // Of an empty piece the nothing that it holds is taken, and no fault is told.
+        ensures empty { piece.now ≡ [] → IsOk result }
+        ensures empty_is_no_fault { piece.now ≡ [] → faults self.new ≡ faults self.old }
+
         ensures failed { OnErr result (Rose (faults self.old) (faults self.new)) }
         ensures nothing { OnErr result (Adds [] (written self.old) (written self.new)) }
         ensures later { faults self.old ≤ faults self.new };

@@ -2,18 +2,23 @@
 
 ghost use Rattle.std.specs.Prelude.{◌≡◌, ◌≢◌, ℕ, ◌<◌, ◌≤◌, ◌⊎◌, List, IfOk, IsErrOf, length, vec_len};
 ghost use Rattle.sched_io.specs.Faults.{Rose};
+ghost use Rattle.sched_io.specs.Loads.{one_more};
 ghost use Rattle.sched_io.specs.Told.{Told, IfHolds, missing};
 
 use crate::faults::LoadFault;
 use std::alloc::Global;
 
-/// A source of files. It may tell of a name whether a file has it, and of a file its bytes; it counts its faults.
+/// A source of files. It may tell of a name whether a file has it, and of a file its bytes; it counts its loads and its
+/// faults.
 pub trait Files {
     /// What it tells of a name.
     ghost told: { Self → List ℕ → Told };
 
     /// How often the outside has failed.
     ghost faults: { Self → ℕ };
+
+    /// How often a file was asked for.
+    ghost loads: { Self → ℕ };
 
     /// The bytes of that file, at most `limit`.
     fn load(&mut self, alloc: Global, name: &str, limit: u64) -> Result<Vec<u8>, LoadFault>
@@ -30,5 +35,8 @@ pub trait Files {
         ensures missing_is_no_fault { told self.old name.now ≡ missing → faults self.new ≡ faults self.old }
 
         ensures same { (other : List ℕ) → told self.new other ≡ told self.old other }
-        ensures later { faults self.old ≤ faults self.new };
+        ensures later { faults self.old ≤ faults self.new }
+
+        // Each load counts, however it ends.
+        ensures counted { loads self.new ≡ one_more (loads self.old) };
 }

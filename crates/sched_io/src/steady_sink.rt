@@ -46,20 +46,22 @@ impl SteadySink {
 impl Sink for SteadySink {
     ghost use Rattle.std.specs.Prelude.{◌≡◌, ◌≢◌, ◌+◌, ◌++◌, ◌<◌, ◌≤◌, [], Some, IfOk, IsOk, OnErr, OnOk, length, take};
     ghost use Rattle.sched_io.specs.Faults.{Rose};
-    ghost use Rattle.sched_io.specs.Sinks.{kept_by, steady_room_of, told_by_steady};
+    ghost use Rattle.sched_io.specs.Sinks.{kept_by, steady_faults_of, steady_room_of, told_by_steady};
     ghost use Rattle.sched_io.specs.Written.{Adds};
 
     ghost written = { told_by_steady };
 
-    ghost faults = { λ _. 0 };
+    ghost faults = { steady_faults_of };
 
     fn put(&mut self, piece: &[u8]) -> Result<u64, PutFault>
         ensures within { IfOk result (λ count. count ≤ length piece.now) }
         ensures taken { IfOk result (λ count. Adds (take count piece.now) (told_by_steady self.old) (told_by_steady self.new)) }
         ensures some { IfOk result (λ count. piece.now ≢ [] → 0 < count) }
-        ensures failed { OnErr result (Rose 0 0) }
+        ensures empty { piece.now ≡ [] → IsOk result }
+        ensures empty_is_no_fault { piece.now ≡ [] → steady_faults_of self.new ≡ steady_faults_of self.old }
+        ensures failed { OnErr result (Rose (steady_faults_of self.old) (steady_faults_of self.new)) }
         ensures nothing { OnErr result (Adds [] (told_by_steady self.old) (told_by_steady self.new)) }
-        ensures later { 0 ≤ 0 }
+        ensures later { steady_faults_of self.old ≤ steady_faults_of self.new }
 
         ensures steady { IsOk result }
         ensures tells { length (kept_by self.old) + length piece.now ≤ steady_room_of self.old →

@@ -1,13 +1,7 @@
--- The reason is right for the system, and the system for the sentence.
-use Rattle.count_filter.proofs.Sees.{sees_reason, sees_without_solution}
+-- At each threshold the certificate or the point is right for the system.
+use Rattle.count_filter.proofs.Sees.{sees_reason}
 use Rattle.count_filter.proofs.decide.idle_sees_overloaded.Goals as goal
 
-pub has_no_solution-requires : goal.has_no_solution-requires
-has_no_solution-requires c =
+pub reason_of-requires : goal.reason_of-requires
+reason_of-requires c =
     rw (c.in_ok-system.ensures, c.in_ok-cert.ensures, c.in_ok-point.ensures) (sees_reason c.args.threshold)
-
-pub returns : goal.returns
-returns c =
-    let refuted = rw c.in_ok-system.ensures at c.has_no_solution.ensures.answer in
-    let decides = sees_without_solution c.args.threshold in
-    (λ holds. decides.0 (refuted.0 holds), λ says. refuted.1 (decides.1 says))

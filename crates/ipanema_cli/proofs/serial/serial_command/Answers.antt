@@ -4,7 +4,7 @@ use Rattle.ipanema_cli.proofs.TruthLemmas.{truths}
 use Rattle.ipanema_cli.proofs.serial.serial_command.Goals as goal
 
 pub returns-clause-causes : goal.returns-clause-causes
-returns-clause-causes g c = causes _ _ _ _ _ _ _ (rw (← c.as_slice.ensures.value) c.carry_out.ensures)
+returns-clause-causes g c = causes _ _ _ _ _ _ _ (rw (← c.as_slice.ensures.value) c.carry_out.ensures.ends)
 
 pub returns-clause-truthful : goal.returns-clause-truthful
-returns-clause-truthful g c = truths _ _ _ _ _ _ _ (rw c.as_slice.ensures.value at c.carry_out.ensures)
+returns-clause-truthful g c = truths _ _ _ _ _ _ _ (rw c.as_slice.ensures.value at c.carry_out.ensures.ends)

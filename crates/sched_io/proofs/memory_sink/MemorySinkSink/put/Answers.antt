@@ -5,9 +5,12 @@ use Rattle.sched_io.proofs.memory_sink.MemorySinkSink.put.Goals.{then-fails-via-
 
 pub returns-then-fails-clause-chosen : goal.returns-then-fails-clause-chosen
 returns-then-fails-clause-chosen c = (
-  λ _. elim c.then-fails.branch [
-    | then-fails-via-then-fails w ↦ inl (search rules)
-    | then-fails-via-else-fails+then-left-piece w ↦ inr (search rules)
-  ],
+  λ _. (
+    search rules,
+    elim c.then-fails.branch [
+      | then-fails-via-then-fails w ↦ inl (search rules)
+      | then-fails-via-else-fails+then-left-piece w ↦ inr (search rules)
+    ],
+  ),
   λ _. refl,
 )
