@@ -1,5 +1,5 @@
 -- What the reader's steps give.
-use Rattle.std.proofs.Common.{◌≡◌, ℕ, ◌≤◌, List, length, Result, Ok, Err, IfOk, IfErr, Some, None, sym, subst, arith}
+use Rattle.std.proofs.Common.{◌≡◌, ℕ, ◌≤◌, List, length, Result, Ok, Err, IfOk, IfErr, sym, arith}
 use Rattle.policy_lexer.specs.declared.token.Token.{Token}
 use Rattle.policy_lexer.specs.declared.token.TheConstants.{TEXT_LIMIT}
 use Rattle.policy_lexer.specs.declared.fault.LexFault.{LexFault}
@@ -7,7 +7,7 @@ use Rattle.policy_lexer.specs.Faults.{IsFault}
 use Rattle.policy_lexer.specs.Tokens.{SpellsTokens}
 use Rattle.policy_grammar.specs.declared.fault.ParseFault.{ParseFault}
 use Rattle.policy_grammar.specs.declared.limits.TheConstants.{POLICY_LIMITS}
-use Rattle.policy_grammar.specs.Correct.{IsParseFault, IsWithin}
+use Rattle.policy_grammar.specs.Correct.{IsParseFault}
 use Rattle.policy_grammar.specs.Lexemes.{lexeme_of, lexemes_of}
 use Rattle.policy_parser.proofs.Lexed.{map-length, tokens-few}
 use Rattle.policy_tree.specs.declared.typed.Policy.{Policy}

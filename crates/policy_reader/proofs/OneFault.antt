@@ -1,5 +1,5 @@
 -- A text has one answer: layer by layer.
-use Rattle.std.proofs.Common.{◌≡◌, ◌∙◌, ℕ, List, [], Option, Some, None, Result, Ok, Err, refl, ap, sym, subst}
+use Rattle.std.proofs.Common.{◌≡◌, ◌∙◌, ℕ, List, Some, Result, Ok, Err, refl, ap, sym, subst}
 use Rattle.policy_lexer.specs.declared.token.Token.{Token}
 use Rattle.policy_lexer.specs.declared.fault.LexFault.{LexFault}
 use Rattle.policy_lexer.specs.declared.fault.LexFault.TheVariants as lex

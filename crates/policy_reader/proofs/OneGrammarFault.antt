@@ -1,5 +1,5 @@
 -- Tokens have one fault of the grammar, and none where they have a syntax within the limits.
-use Rattle.std.proofs.Common.{◌≡◌, ◌∙◌, ◌+◌, ◌-◌, ◌<◌, ◌≤◌, ◌⊎◌, inl, inr, ℕ, List, ◌++◌, take, drop, length, Option, Some, None, refl, ap, sym, subst, arith, append_assoc}
+use Rattle.std.proofs.Common.{◌≡◌, ◌∙◌, ◌+◌, ◌-◌, ◌<◌, ◌≤◌, ◌⊎◌, inl, inr, ℕ, List, ◌++◌, take, drop, length, Some, refl, ap, sym, subst, arith, append_assoc}
 use Rattle.std.proofs.lemmas.Bool.{cases_lt}
 use Rattle.std.proofs.lemmas.List.{take-append-drop}
 use Rattle.std.proofs.Math.Seq.{take-add}
@@ -9,7 +9,6 @@ use Rattle.policy_grammar.specs.declared.limits.Limits.{Limits}
 use Rattle.policy_grammar.specs.declared.fault.ParseFault.{ParseFault}
 use Rattle.policy_grammar.specs.declared.fault.ParseFault.TheVariants.{Unexpected, Deep, Many, Memory}
 use Rattle.policy_grammar.specs.Policies.{IsPolicy}
-use Rattle.policy_grammar.specs.Breaks.{breaks_policy}
 use Rattle.policy_grammar.specs.Correct.{Begins, NotBefore, IsUnexpected, IsExcess, IsParseFault, IsWithin}
 use Rattle.policy_grammar.proofs.Places.{IsHere}
 

@@ -17,6 +17,7 @@ abbrev pub told_of : PolicyFault → Option TextFault
 told_of (Broken fault) = Some fault
 told_of Memory = None
 
+-- where the token begins, if there is one
 abbrev pub start_or : ℕ → Option Token → ℕ
 start_or end None = end
 start_or end (Some token) = token.start
@@ -25,6 +26,7 @@ start_or end (Some token) = token.start
 abbrev pub offset_of : List ℕ → List Token → ℕ → ℕ
 offset_of text tokens token = start_or (length text) (slice_get tokens token)
 
+-- a fault of tokens names its byte
 abbrev pub lex_fault : LexFault → Option TextFault
 lex_fault (lex.NotAscii at) = Some (record { kind = NotAscii; at = at })
 lex_fault (lex.BadByte at) = Some (record { kind = BadByte; at = at })
@@ -32,13 +34,14 @@ lex_fault (lex.LongName at) = Some (record { kind = LongName; at = at })
 lex_fault (lex.WideNumber at) = Some (record { kind = WideNumber; at = at })
 lex_fault lex.Memory = None
 
--- the tokens have these offsets by their numbers
+-- a fault of the grammar names a token. Which limit is passed isn't told
 abbrev pub parse_fault : (ℕ → ℕ) → ParseFault → Option TextFault
 parse_fault offset (parse.Unexpected token) = Some (record { kind = Unexpected; at = offset token })
 parse_fault offset (parse.Deep token) = Some (record { kind = Deep; at = offset token })
 parse_fault offset (parse.Many token limit) = Some (record { kind = Many; at = offset token })
 parse_fault offset parse.Memory = None
 
+-- so does a rule of names, ranges and phases
 abbrev pub type_fault : (ℕ → ℕ) → TypeFault → Option TextFault
 type_fault offset (type.Unknown token) = Some (record { kind = Unknown; at = offset token })
 type_fault offset (type.Twice token) = Some (record { kind = Twice; at = offset token })
