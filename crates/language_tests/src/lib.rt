@@ -1,11 +1,12 @@
 //! Tests of texts of policies, through the public calls of the lexer, the parser, the printer and the resolver.
 #![tactic(auto)]
 
-pub mod composed;
 mod reading_again;
 
 pub use reading_again::{Unread, read_again};
 
+#[cfg(test)]
+mod gallery;
 #[cfg(test)]
 mod printed_tests;
 #[cfg(test)]

@@ -1,0 +1,125 @@
+//! The gallery of `examples/faults`: for each word of a fault a text that has it, and the line that is printed.
+
+use policy_reader::{PolicyFault, TEXT_LIMIT, read_policy};
+use std::alloc::Global;
+use std::test::Fail;
+
+/// The line of the answer to the text.
+fn line(alloc: Global, text: &[u8]) -> Result<String, Fail> {
+    if text.len() > TEXT_LIMIT {
+        return Ok(String::from_str(alloc, "too-long policy\n")?);
+    }
+    match read_policy(alloc, text) {
+        Ok(_policy) => Ok(String::from_str(alloc, "read\n")?),
+        Err(PolicyFault::Broken(fault)) => {
+            let word = fault.kind.word();
+            Ok(format!(in alloc; "policy {} {word}\n", fault.at)?)
+        }
+        Err(PolicyFault::Memory) => Ok(String::from_str(alloc, "memory\n")?),
+    }
+}
+
+#[test]
+fn faults_of_the_gallery(rt: HostRuntime) -> Result<(), Fail> {
+    let alloc = rt.alloc();
+    let cases = [
+        ("policy caf\u{e9}\n", "policy 10 not-ascii\n"),
+        ("policy p!\n", "policy 8 bad-byte\n"),
+        (
+            "policy steal_from_the_busiest_core_first\n",
+            "policy 7 long-name\n",
+        ),
+        (
+            "policy p\nload weight 1..18446744073709551616\n",
+            "policy 24 wide-number\n",
+        ),
+        ("policy p\nload count\n", "policy 20 unexpected\n"),
+        (
+            "policy p\nload count\nfilter (((((((((((((((((((((((((((((((((\n",
+            "policy 59 deep\n",
+        ),
+        (
+            "policy p\nload count\nelect min 1, min 1, min 1, min 1, min\n",
+            "policy 54 many\n",
+        ),
+        (
+            "policy p\nload count\nfilter self.speed > 0\nchoose first\nsteal first\n",
+            "policy 32 unknown\n",
+        ),
+        (
+            "policy p\nload count\ncore a in 0..1 start 0\ncore a in 0..1 start 0\nfilter always\nchoose first\nsteal first\n",
+            "policy 48 twice\n",
+        ),
+        (
+            "policy p\nload count\nfilter self.nr * victim.nr > 0\nchoose first\nsteal first\n",
+            "policy 35 not-linear\n",
+        ),
+        (
+            "policy p\nload count\nfilter t.weight > 1\nchoose first\nsteal first\n",
+            "policy 29 not-here\n",
+        ),
+        (
+            "policy p\nload weight 0..2\nfilter always\nchoose first\nsteal first\n",
+            "policy 21 bad-range\n",
+        ),
+        (
+            "policy p\nload count\nfilter self.nr > 1099511627777\nchoose first\nsteal first\n",
+            "policy 37 big\n",
+        ),
+    ];
+    for (text, expected) in cases {
+        let line = line(alloc, text.as_bytes())?;
+        assert_eq!(rt; line.as_str(), expected, "at {text:?}");
+    }
+    Ok(())
+}
+
+#[test]
+fn policy_cut_short(rt: HostRuntime) -> Result<(), Fail> {
+    let alloc = rt.alloc();
+    let cases = [
+        ("policy cut\nload weight 1..10", "policy 28 unexpected\n"),
+        ("policy cut # and a comment\n\n", "policy 28 unexpected\n"),
+        ("", "policy 0 unexpected\n"),
+    ];
+    for (text, expected) in cases {
+        let line = line(alloc, text.as_bytes())?;
+        assert_eq!(rt; line.as_str(), expected, "at {text:?}");
+    }
+    Ok(())
+}
+
+#[test]
+fn number_too_wide(rt: HostRuntime) -> Result<(), Fail> {
+    let alloc = rt.alloc();
+    let text =
+        "policy wide\nload count\nfilter victim.nr >= 1000000000000000000000000000000000000000";
+    let line = line(alloc, text.as_bytes())?;
+    assert_eq!(rt; line.as_str(), "policy 43 wide-number\n");
+    Ok(())
+}
+
+#[test]
+fn earlier_layers_come_first(rt: HostRuntime) -> Result<(), Fail> {
+    let alloc = rt.alloc();
+    let cases = [
+        ("policy policy !", "policy 14 bad-byte\n"),
+        (
+            "policy p load weight 0..2 filter t.nr",
+            "policy 37 unexpected\n",
+        ),
+        (
+            "policy p load weight 0..2 filter t.nr < 1 choose first steal first",
+            "policy 21 bad-range\n",
+        ),
+        (
+            "policy p load count filter always choose first steal first",
+            "read\n",
+        ),
+    ];
+    for (text, expected) in cases {
+        let line = line(alloc, text.as_bytes())?;
+        assert_eq!(rt; line.as_str(), expected, "at {text:?}");
+    }
+    Ok(())
+}

@@ -1,0 +1,3 @@
+pub mod OneGrammarFault
+pub mod OneFault
+pub mod Answered

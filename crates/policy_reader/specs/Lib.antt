@@ -1,0 +1,7 @@
+pub mod Lines
+pub mod Told
+pub mod Spelled
+pub mod Faults
+pub mod Answers
+pub mod OneAnswer
+pub mod Resolved

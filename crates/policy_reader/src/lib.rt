@@ -1,0 +1,12 @@
+//! Reads a policy's text: the policy that it spells, or the one fault that it has.
+#![tactic(auto)]
+
+mod fault;
+mod laws;
+mod places;
+mod reading;
+
+pub use fault::{FaultKind, PolicyFault, TextFault};
+pub use laws::{law_one_answer, law_spells_resolved};
+pub use policy_lexer::TEXT_LIMIT;
+pub use reading::read_policy;
