@@ -40,13 +40,15 @@ nothing_asked told read_fault write_fault before after code writes =
 -- an answer with the number 10 says that the text is too long
 too_long_answer : (text : List ℕ) (a : CheckAnswer) (before after : Option (List ℕ)) → code_of (status_of a) ≡ 10 → IsCheckOf text a → Adds (output_of a) before after → (POLICY_ROOM < length text) × Adds (codes "too-long policy\n") before after
 too_long_answer text (answer.Judged balance) before after e is_check added = absurd (verdict_not_10 (all_hold balance) e)
+too_long_answer text (answer.Faulty fault) before after e is_check added = absurd (omega arith)
 too_long_answer text answer.NotBuilt before after e is_check added = absurd (omega arith)
 too_long_answer text answer.TooLong before after e is_check added = (is_check, added)
 
 -- and a text that is too long has no other
 long_text_code : (text : List ℕ) (a : CheckAnswer) → IsCheckOf text a → POLICY_ROOM < length text → code_of (status_of a) ≡ 10
 long_text_code text (answer.Judged balance) is_check long = absurd (omega (arith, is_check.1))
-long_text_code text answer.NotBuilt is_check long = absurd (omega (arith, is_check.0))
+long_text_code text (answer.Faulty fault) is_check long = absurd (omega (arith, is_check.0))
+long_text_code text answer.NotBuilt is_check long = absurd (omega (arith, is_check.1))
 long_text_code text answer.TooLong is_check long = refl
 
 -- the number of an answer is none of those of a stop

@@ -1,5 +1,5 @@
 -- From how a call ends to the truth of what it says.
-use Rattle.std.proofs.Common.{◌≡◌, ◌≢◌, ℕ, ◌≤◌, inl, inr, List, [], ◌∷◌, Option, Some, None, Bool, true, false, codes, refl, sym, ◌∙◌, ap, arith, length, if◌then◌else◌, subst}
+use Rattle.std.proofs.Common.{◌≡◌, ◌≢◌, ℕ, ◌≤◌, inl, inr, List, [], ◌∷◌, Option, Some, None, Bool, true, false, refl, sym, ◌∙◌, ap, arith, length, if◌then◌else◌, subst}
 use Rattle.std.specs.Prelude.{IsTrue, ◌↔◌}
 use Rattle.sched_io.specs.Told.{Told, MayHold, holds}
 use Rattle.sched_io.specs.Written.{Adds}
@@ -13,15 +13,18 @@ use Rattle.count_filter.proofs.Acceptance.{all_at_two, all_certified, only_two}
 use Rattle.count_filter.proofs.Worth.{certified_policies_meet_them}
 use Rattle.policy_eval.specs.Obligations.{MeetsObligations}
 use Rattle.policy_tree.specs.Meaning.{Meaning}
-use Rattle.ipanema_cli.specs.FirstForm.{IsFirstForm, SpellsPolicy}
-use Rattle.ipanema_cli.specs.Promises.{IsTruthful, OneOf}
+use Rattle.policy_reader.specs.declared.fault.TextFault.{TextFault}
+use Rattle.policy_reader.specs.Faults.{HasFault}
+use Rattle.policy_reader.specs.Spelled.{SpellsPolicy}
+use Rattle.policy_reader.proofs.OneFault.{never_both, one_policy}
+use Rattle.count_filter.specs.Form.{HasForm}
+use Rattle.ipanema_cli.specs.Promises.{IsTruthful, OneOf, Refused}
 use Rattle.ipanema_cli.specs.Status.{code_of}
 use Rattle.ipanema_cli.specs.declared.answers.TheConstants.{POLICY_ROOM}
 use Rattle.ipanema_cli.specs.declared.answers.CheckAnswer.{CheckAnswer}
 use Rattle.ipanema_cli.specs.declared.answers.CheckAnswer.TheVariants as answer
 use Rattle.count_filter.specs.declared.balance.Balance.{Balance}
 use Rattle.ipanema_cli.specs.declared.status.Status.TheVariants as status
-use Rattle.ipanema_cli.proofs.FormLemmas.{one_threshold}
 use Rattle.ipanema_cli.proofs.WritesLemmas.{code_among, whole}
 
 verdict_0 : (b : Bool) → code_of (if b then status.Done else status.Refused) ≡ 0 → b ≡ true
@@ -35,46 +38,60 @@ verdict_not_2 false e = omega arith
 -- the facts of a text and its answer that the promises are made of
 record Answers (text : List ℕ) (a : CheckAnswer) (before after : Option (List ℕ)) : Type 0 where
   accepted : code_of (status_of a) ≡ 0 → (name : List ℕ) × SpellsPolicy text (policy_with name 2) × IsCertified (policy_with name 2) × MeetsObligations (policy_with name 2)
-  accepts : IsFirstForm text 2 → length text ≤ POLICY_ROOM → code_of (status_of a) ≡ 0
+  accepts : (name : List ℕ) → SpellsPolicy text (policy_with name 2) → length text ≤ POLICY_ROOM → code_of (status_of a) ≡ 0
   lines : OneOf (0 ∷ 1 ∷ []) (code_of (status_of a)) → Adds (output_of a) before after → (p : Meaning) × (balance : Balance) × SpellsPolicy text p × HasReasons p balance × Judges p balance × Adds (output_of (answer.Judged balance)) before after × (IsTrue (all_hold balance) ↔ (code_of (status_of a) ≡ 0))
-  other_form : length text ≤ POLICY_ROOM → ((k : ℕ) → IsFirstForm text k → ⊥) → code_of (status_of a) ≡ 2
-  not_built : code_of (status_of a) ≡ 2 → Adds (output_of a) before after → (length text ≤ POLICY_ROOM) × ((k : ℕ) → IsFirstForm text k → ⊥) × Adds (codes "policy 0 not-built\n") before after
+  other_form : (p : Meaning) → length text ≤ POLICY_ROOM → SpellsPolicy text p → ((k : ℕ) → HasForm p k → ⊥) → code_of (status_of a) ≡ 2
+  faulty : (fault : TextFault) → length text ≤ POLICY_ROOM → HasFault text fault → code_of (status_of a) ≡ 2
+  refused : code_of (status_of a) ≡ 2 → Adds (output_of a) before after → (length text ≤ POLICY_ROOM) × Refused text before after
 
 answers : (text : List ℕ) (a : CheckAnswer) (before after : Option (List ℕ)) → IsCheckOf text a → Answers text a before after
-answers text (answer.Judged balance) before after (p, short, (k, (form, is_policy)), reasons, judges) =
+answers text (answer.Judged balance) before after (p, short, spells, ((own, form), reasons, judges)) =
+    let name : List ℕ = reasons.0 in
+    let k : ℕ = reasons.1 in
+    let is_policy : p ≡ policy_with name k = reasons.2 in
     let Judged : Meaning → Type 0 = λ q. Judges q balance in
-    let judged = subst Judged is_policy judges in
-    let name : List ℕ = form.head.name in
     record {
       accepted = λ e.
           let all = verdict_0 (all_hold balance) e in
           let certified = subst IsCertified is_policy (all_certified p balance reasons all) in
           let met = certified_policies_meet_them (policy_with name k) certified in
           let two = only_two name k met in
-          let At : ℕ → Type 0 = λ n. IsCertified (policy_with name n) × MeetsObligations (policy_with name n) in
-          let both = subst At two (certified, met) in
-          (name, (k, (form, ap (λ n. policy_with name n) (sym two))), both.0, both.1);
-      accepts = λ form_2 _.
-          let same = one_threshold text k 2 form form_2 in
-          let JudgedAt : ℕ → Type 0 = λ n. Judges (policy_with name n) balance in
-          rw (all_at_two name balance (subst JudgedAt same judged)) refl;
-      lines = λ e added. (p, balance, (k, (form, is_policy)), reasons, judges, added, ((λ all. rw all refl), (λ zero. verdict_0 (all_hold balance) zero)));
-      other_form = λ _ none. absurd (none k form);
-      not_built = λ e _. absurd (verdict_not_2 (all_hold balance) e);
+          let At : ℕ → Type 0 = λ n. SpellsPolicy text (policy_with name n) × IsCertified (policy_with name n) × MeetsObligations (policy_with name n) in
+          let all_three = subst At two (subst (SpellsPolicy text) is_policy spells, certified, met) in
+          (name, all_three.0, all_three.1, all_three.2);
+      accepts = λ other spells_two _.
+          let same : p ≡ policy_with other 2 = one_policy text p (policy_with other 2) spells spells_two in
+          rw (all_at_two other balance (subst Judged same judges)) refl;
+      lines = λ e added. (p, balance, spells, reasons, judges, added, ((λ all. rw all refl), (λ zero. verdict_0 (all_hold balance) zero)));
+      other_form = λ q _ spells_other none.
+          let same = one_policy text q p spells_other spells in
+          absurd (none own (subst (λ (r : Meaning). HasForm r own) (sym same) form));
+      faulty = λ fault _ has. absurd (never_both text p fault spells has);
+      refused = λ e _. absurd (verdict_not_2 (all_hold balance) e);
     }
-answers text answer.NotBuilt before after (short, none) = record {
+answers text (answer.Faulty fault) before after (short, has) = record {
   accepted = λ e. absurd (omega arith);
-  accepts = λ two _. absurd (none 2 two);
+  accepts = λ name spells _. absurd (never_both text (policy_with name 2) fault spells has);
   lines = λ e. absurd (let clash : ⊥ = cc in clash);
-  other_form = λ _ _. refl;
-  not_built = λ e added. (short, none, added);
+  other_form = λ p _ _ _. refl;
+  faulty = λ other _ _. refl;
+  refused = λ e added. (short, inl (fault, has, added));
+}
+answers text answer.NotBuilt before after (p, short, spells, none) = record {
+  accepted = λ e. absurd (omega arith);
+  accepts = λ name spells_two _. absurd (none 2 (omega arith, (name, one_policy text p (policy_with name 2) spells spells_two)));
+  lines = λ e. absurd (let clash : ⊥ = cc in clash);
+  other_form = λ q _ _ _. refl;
+  faulty = λ other _ _. refl;
+  refused = λ e added. (short, inr (p, spells, none, added));
 }
 answers text answer.TooLong before after long = record {
   accepted = λ e. absurd (omega arith);
-  accepts = λ two short. absurd (omega arith);
+  accepts = λ name spells short. absurd (omega arith);
   lines = λ e. absurd (let clash : ⊥ = cc in clash);
-  other_form = λ short none. absurd (omega arith);
-  not_built = λ e. absurd (omega arith);
+  other_form = λ p short spells none. absurd (omega arith);
+  faulty = λ fault short has. absurd (omega arith);
+  refused = λ e. absurd (omega arith);
 }
 
 neither_5 : (code : ℕ) → OneOf (0 ∷ 1 ∷ []) code → code ≢ 5
@@ -94,10 +111,10 @@ text_answered policy told write_fault before after code text a may is_check writ
       accepted = λ h.
           let is_0 : code_of (status_of a) ≡ 0 = elim among [ inl e ↦ sym e ∙ h | inr (inl e) ↦ absurd (omega arith) | inr (inr e) ↦ absurd (omega arith) ] in
           let found = facts.accepted is_0 in (found.0, (policy, text, refl, may, found.1), found.2, found.3);
-      accepts = λ other held e tells short two.
+      accepts = λ other held name e tells short two.
           let is_text = Held other held e tells in
           elim among [
-            | inl same ↦ rw (same, facts.accepts (rw is_text two) (rw is_text short)) refl
+            | inl same ↦ rw (same, facts.accepts name (rw is_text two) (rw is_text short)) refl
             | inr (inl same) ↦ rw same refl
             | inr (inr same) ↦ rw same refl
           ];
@@ -114,17 +131,24 @@ text_answered policy told write_fault before after code text a may is_check writ
               verdict = ((λ all. is_own ∙ found.6.0 all), (λ zero. found.6.1 (sym is_own ∙ zero)));
             },
           );
-      other_form = λ other held e tells short none.
+      other_form = λ other held p e tells short spells none.
           let is_text = Held other held e tells in
           elim among [
-            | inl same ↦ rw (same, facts.other_form (rw is_text short) (rw is_text none)) refl
+            | inl same ↦ rw (same, facts.other_form p (rw is_text short) (rw is_text spells) none) refl
             | inr (inl same) ↦ rw same refl
             | inr (inr same) ↦ rw same refl
           ];
-      not_built = λ h.
+      faulty = λ other held fault e tells short has.
+          let is_text = Held other held e tells in
+          elim among [
+            | inl same ↦ rw (same, facts.faulty fault (rw is_text short) (rw is_text has)) refl
+            | inr (inl same) ↦ rw same refl
+            | inr (inr same) ↦ rw same refl
+          ];
+      refused = λ h.
           let is_2 : code_of (status_of a) ≡ 2 = elim among [ inl e ↦ sym e ∙ h | inr (inl e) ↦ absurd (omega arith) | inr (inr e) ↦ absurd (omega arith) ] in
-          let found = facts.not_built is_2 (whole _ _ _ _ _ _ writes (λ e. omega arith) (λ e. omega arith)) in
-          (policy, text, refl, may, found.0, found.1, found.2);
+          let found = facts.refused is_2 (whole _ _ _ _ _ _ writes (λ e. omega arith) (λ e. omega arith)) in
+          (policy, text, refl, may, found.0, found.1);
     }
 
 pub truths : (asked : Option Asked) (told : List ℕ → Told) (read_fault write_fault : Type 0) (before after : Option (List ℕ)) (code : ℕ) → Ends asked told read_fault write_fault before after code → IsTruthful asked told before after code
@@ -132,24 +156,27 @@ truths None told read_fault write_fault before after code ends =
     let among = code_among _ _ _ _ _ _ ends in
     record {
       accepted = λ h. absurd (elim among [ inl e ↦ omega arith | inr (inl e) ↦ omega arith | inr (inr e) ↦ omega arith ]);
-      accepts = λ policy text e. absurd (let clash : ⊥ = cc in clash);
+      accepts = λ policy text name e. absurd (let clash : ⊥ = cc in clash);
       lines = λ h. absurd (elim among [ inl e ↦ (let bad = rw e at h in cc) | inr (inl e) ↦ (let bad = rw e at h in cc) | inr (inr e) ↦ (let bad = rw e at h in cc) ]);
-      other_form = λ policy text e. absurd (let clash : ⊥ = cc in clash);
-      not_built = λ h. absurd (elim among [ inl e ↦ omega arith | inr (inl e) ↦ omega arith | inr (inr e) ↦ omega arith ]);
+      other_form = λ policy text p e. absurd (let clash : ⊥ = cc in clash);
+      faulty = λ policy text fault e. absurd (let clash : ⊥ = cc in clash);
+      refused = λ h. absurd (elim among [ inl e ↦ omega arith | inr (inl e) ↦ omega arith | inr (inr e) ↦ omega arith ]);
     }
 truths (Some (check policy)) told read_fault write_fault before after code (answered text a may is_check writes) =
     text_answered policy told write_fault before after code text a may is_check writes
 truths (Some (check policy)) told read_fault write_fault before after code (unread e cause added) = record {
   accepted = λ h. absurd (omega arith);
-  accepts = λ other held same tells short two. rw e refl;
+  accepts = λ other held name same tells short two. rw e refl;
   lines = λ h. absurd (let bad = rw e at h in cc);
-  other_form = λ other held same tells short none. rw e refl;
-  not_built = λ h. absurd (omega arith);
+  other_form = λ other held p same tells short spells none. rw e refl;
+  faulty = λ other held fault same tells short has. rw e refl;
+  refused = λ h. absurd (omega arith);
 }
 truths (Some (check policy)) told read_fault write_fault before after code (no_memory e added) = record {
   accepted = λ h. absurd (omega arith);
-  accepts = λ other held same tells short two. rw e refl;
+  accepts = λ other held name same tells short two. rw e refl;
   lines = λ h. absurd (let bad = rw e at h in cc);
-  other_form = λ other held same tells short none. rw e refl;
-  not_built = λ h. absurd (omega arith);
+  other_form = λ other held p same tells short spells none. rw e refl;
+  faulty = λ other held fault same tells short has. rw e refl;
+  refused = λ h. absurd (omega arith);
 }

@@ -27,6 +27,7 @@ verdict_code false = is_1 refl
 
 pub answer_code : (a : CheckAnswer) → AnswerCode (code_of (status_of a))
 answer_code (answer.Judged balance) = verdict_code (all_hold balance)
+answer_code (answer.Faulty fault) = is_2 refl
 answer_code answer.NotBuilt = is_2 refl
 answer_code answer.TooLong = is_10 refl
 

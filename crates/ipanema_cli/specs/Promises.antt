@@ -7,7 +7,11 @@ use Rattle.count_filter.specs.Judged.{Judges, all_hold}
 use Rattle.count_filter.specs.Reasons.{HasReasons, IsCertified}
 use Rattle.ipanema_cli.specs.CheckAnswer.{IsCheckOf, output_of}
 use Rattle.ipanema_cli.specs.Command.{Asked, check}
-use Rattle.ipanema_cli.specs.FirstForm.{IsFirstForm, SpellsPolicy}
+use Rattle.policy_reader.specs.declared.fault.TextFault.{TextFault}
+use Rattle.policy_reader.specs.Faults.{HasFault}
+use Rattle.policy_reader.specs.Lines.{fault_line}
+use Rattle.policy_reader.specs.Spelled.{SpellsPolicy}
+use Rattle.count_filter.specs.Form.{HasForm}
 use Rattle.count_filter.specs.Policies.{policy_with}
 use Rattle.policy_eval.specs.Obligations.{MeetsObligations}
 use Rattle.policy_tree.specs.Meaning.{Meaning}
@@ -67,14 +71,21 @@ pub record AnswersFor (asked : Option Asked) (told : List ℕ → Told) (before 
   -- the verdict is that of the lines
   pub verdict : IsTrue (all_hold balance) ↔ (code ≡ 0)
 
+-- The text is refused with the line of its fault, or as a policy that isn't judged so far.
+abbrev pub Refused : List ℕ → Option (List ℕ) → Option (List ℕ) → Type 0
+Refused text before after =
+    ((fault : TextFault) × HasFault text fault × Adds (fault_line fault) before after)
+    ⊎ ((p : Meaning) × SpellsPolicy text p × ((threshold : ℕ) → HasForm p threshold → ⊥) × Adds (codes "policy 0 not-built\n") before after)
+
 -- What `check` says is true.
 pub record IsTruthful (asked : Option Asked) (told : List ℕ → Told) (before after : Option (List ℕ)) (code : ℕ) : Type 0 where
   -- an accepted policy has the threshold 2 and a right certificate for each system, and meets its obligations
   pub accepted : code ≡ 0 → (name : List ℕ) × AsksOf asked told (policy_with name 2) × IsCertified (policy_with name 2) × MeetsObligations (policy_with name 2)
-  -- and every policy of the first form with the threshold 2 is accepted, if the outside lets it be
-  pub accepts : (policy text : List ℕ) → asked ≡ Some (check policy) → told policy ≡ holds text → length text ≤ POLICY_ROOM → IsFirstForm text 2 → OneOf (0 ∷ 4 ∷ 5 ∷ 6 ∷ []) code
+  -- and every text of such a policy is accepted, if the outside lets it be
+  pub accepts : (policy text name : List ℕ) → asked ≡ Some (check policy) → told policy ≡ holds text → length text ≤ POLICY_ROOM → SpellsPolicy text (policy_with name 2) → OneOf (0 ∷ 4 ∷ 5 ∷ 6 ∷ []) code
   -- each line that says that an obligation holds or fails has its reason and is true
   pub lines : OneOf (0 ∷ 1 ∷ []) code → (p : Meaning) × (balance : Balance) × AnswersFor asked told before after code p balance
-  -- a text of another form is refused as one that isn't read so far
-  pub other_form : (policy text : List ℕ) → asked ≡ Some (check policy) → told policy ≡ holds text → length text ≤ POLICY_ROOM → ((threshold : ℕ) → IsFirstForm text threshold → ⊥) → OneOf (2 ∷ 4 ∷ 5 ∷ 6 ∷ []) code
-  pub not_built : code ≡ 2 → (policy text : List ℕ) × (asked ≡ Some (check policy)) × MayHold (told policy) text × (length text ≤ POLICY_ROOM) × ((threshold : ℕ) → IsFirstForm text threshold → ⊥) × Adds (codes "policy 0 not-built\n") before after
+  -- a policy of another form is refused as one that isn't judged so far, and a text that is no policy for its fault
+  pub other_form : (policy text : List ℕ) (p : Meaning) → asked ≡ Some (check policy) → told policy ≡ holds text → length text ≤ POLICY_ROOM → SpellsPolicy text p → ((threshold : ℕ) → HasForm p threshold → ⊥) → OneOf (2 ∷ 4 ∷ 5 ∷ 6 ∷ []) code
+  pub faulty : (policy text : List ℕ) (fault : TextFault) → asked ≡ Some (check policy) → told policy ≡ holds text → length text ≤ POLICY_ROOM → HasFault text fault → OneOf (2 ∷ 4 ∷ 5 ∷ 6 ∷ []) code
+  pub refused : code ≡ 2 → (policy text : List ℕ) × (asked ≡ Some (check policy)) × MayHold (told policy) text × (length text ≤ POLICY_ROOM) × Refused text before after

@@ -4,23 +4,28 @@ ghost use Rattle.std.specs.Prelude.{◌≡◌, ◌+◌, ◌≤◌, IfOk, OnOk, O
 ghost use Rattle.std.specs.List.{flat_map};
 ghost use Rattle.sched_io.specs.Faults.{Rose};
 ghost use Rattle.sched_io.specs.Written.{Adds, AddsPart};
-ghost use Rattle.ipanema_cli.specs.CheckAnswer.{IsCheckOf, line_of, output_of, status_of, verdict_line};
+ghost use Rattle.policy_reader.specs.Lines.{fault_line};
+ghost use Rattle.policy_tree.specs.Meaning.{meaning_of};
+ghost use Rattle.ipanema_cli.specs.CheckAnswer.{IsCheckOf, IsCheckOfPolicy, line_of, output_of, status_of, verdict_line};
 
-use crate::first_form::threshold_of;
 use crate::status::Status;
-use count_filter::{Balance, JudgeMemory, NAMES, ObName, judge};
+use count_filter::{Balance, JudgeMemory, NAMES, ObName, judge, threshold_of};
+use policy_reader::{PolicyFault, TEXT_LIMIT, TextFault, read_policy};
+use policy_tree::Policy;
 use sched_io::{Line, PutFault, Sink, put_all};
 use std::alloc::Global;
 
 /// The most bytes of a policy's text.
-pub const POLICY_ROOM: u64 = 65536;
+pub const POLICY_ROOM: u64 = TEXT_LIMIT as u64;
 
 /// What `check` answers.
 #[derive(Drop)]
 pub enum CheckAnswer {
     /// The obligations were judged, each balance obligation for a reason that was checked.
     Judged(Balance),
-    /// The text is none of those that are read so far.
+    /// The text is no policy: it has this fault.
+    Faulty(TextFault),
+    /// The policy is none of those that are judged so far.
     NotBuilt,
     /// The text is longer than its limit.
     TooLong,
@@ -31,7 +36,18 @@ pub fn check_text(alloc: Global, text: &[u8]) -> Result<CheckAnswer, JudgeMemory
     requires { length text.now ≤ POLICY_ROOM }
     ensures { IfOk result (IsCheckOf text.now) }
 {
-    match threshold_of(text) {
+    match read_policy(alloc, text) {
+        Ok(policy) => check_policy(alloc, &policy),
+        Err(PolicyFault::Broken(fault)) => Ok(CheckAnswer::Faulty(fault)),
+        Err(PolicyFault::Memory) => Err(JudgeMemory::Memory),
+    }
+}
+
+/// The answer to a policy.
+fn check_policy(alloc: Global, policy: &Policy) -> Result<CheckAnswer, JudgeMemory>
+    ensures { IfOk result (IsCheckOfPolicy (meaning_of policy.now)) }
+{
+    match threshold_of(policy) {
         Some(threshold) => Ok(CheckAnswer::Judged(judge(alloc, threshold)?)),
         None => Ok(CheckAnswer::NotBuilt),
     }
@@ -45,7 +61,7 @@ impl CheckAnswer {
         match self {
             CheckAnswer::Judged(balance) if balance.all_hold() => Status::Done,
             CheckAnswer::Judged(_) => Status::Refused,
-            CheckAnswer::NotBuilt => Status::BadText,
+            CheckAnswer::Faulty(_) | CheckAnswer::NotBuilt => Status::BadText,
             CheckAnswer::TooLong => Status::TooMuch,
         }
     }
@@ -58,6 +74,7 @@ impl CheckAnswer {
     {
         match self {
             CheckAnswer::Judged(balance) => put_judged(out, balance),
+            CheckAnswer::Faulty(fault) => put_all(out, line_of_fault(fault).as_bytes()),
             CheckAnswer::NotBuilt => put_all(out, b"policy 0 not-built\n"),
             CheckAnswer::TooLong => put_all(out, b"too-long policy\n"),
         }
@@ -114,5 +131,18 @@ fn answer_line(balance: &Balance, obligation: ObName) -> Line
     } else {
         line.add(b" fails\n");
     }
+    line
+}
+
+/// The line of a fault of a policy's text.
+fn line_of_fault(fault: &TextFault) -> Line
+    ensures { result ≡ fault_line fault.now }
+{
+    let mut line = Line::new();
+    line.add(b"policy ");
+    line.add_number(u64::from(fault.at));
+    line.add(b" ");
+    line.add(fault.kind.word().as_bytes());
+    line.add(b"\n");
     line
 }

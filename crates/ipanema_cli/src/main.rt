@@ -3,7 +3,8 @@
 
 mod answers;
 mod command;
-mod first_form;
+#[cfg(test)]
+mod gallery;
 mod serial;
 mod status;
 #[cfg(test)]

@@ -112,33 +112,79 @@ fn words_and_texts(rt: HostRuntime) -> Result<(), Fail> {
         );
     }
 
-    let near_misses = [
-        "",
-        "policy basic\nload count\nfilter victim.nr - self.nr >= 2\nchoose first\nsteal first",
-        "policy basic\nload count\nfilter victim.nr - self.nr >= 2\nchoose first\nsteal first\n\n",
-        "policy basic\nload count\nfilter victim.nr - self.nr >= 10000\nchoose first\nsteal first\n",
-        "policy basic\nload count\nfilter victim.nr - self.nr >= 00002\nchoose first\nsteal first\n",
-        "policy basic\nload count\nfilter victim.nr - self.nr >= \nchoose first\nsteal first\n",
-        "policy basic\nload count\nfilter victim.nr - self.nr >  2\nchoose first\nsteal first\n",
-        "policy basic\nload count\nfilter self.nr - victim.nr >= 2\nchoose first\nsteal first\n",
-        "policy steal\nload count\nfilter victim.nr - self.nr >= 2\nchoose first\nsteal first\n",
-        "policy 2fast\nload count\nfilter victim.nr - self.nr >= 2\nchoose first\nsteal first\n",
-        "policy \nload count\nfilter victim.nr - self.nr >= 2\nchoose first\nsteal first\n",
-        "policy basic \nload count\nfilter victim.nr - self.nr >= 2\nchoose first\nsteal first\n",
-        "policy abcdefghijklmnopqrstuvwxyz1234567\nload count\nfilter victim.nr - self.nr >= 2\nchoose first\nsteal first\n",
-        "policy basic\nload weight 1..2\nfilter victim.nr - self.nr >= 2\nchoose first\nsteal first\n",
-        "policy b\u{e9}sic\nload count\nfilter victim.nr - self.nr >= 2\nchoose first\nsteal first\n",
+    Ok(())
+}
+
+#[test]
+fn texts_of_other_forms(rt: HostRuntime) -> Result<(), Fail> {
+    let alloc = rt.alloc();
+    let cases = [
+        (
+            "policy basic load count filter victim.nr - self.nr >= 2 choose first steal first",
+            "accepted",
+        ),
+        (
+            "policy basic # of two cores\nload count\nfilter (victim.nr - self.nr >= 00002)\nchoose first\nsteal first\n\n",
+            "accepted",
+        ),
+        (
+            "policy basic load count place here elect first filter victim.nr - self.nr >= 2 choose first steal first",
+            "accepted",
+        ),
+        (
+            "policy basic load count filter victim.nr - self.nr >= 10000 choose first steal first",
+            "policy 0 not-built",
+        ),
+        (
+            "policy basic load count filter victim.nr - self.nr > 2 choose first steal first",
+            "policy 0 not-built",
+        ),
+        (
+            "policy basic load count filter self.nr - victim.nr >= 2 choose first steal first",
+            "policy 0 not-built",
+        ),
+        (
+            "policy basic load weight 1..2 filter victim.nr - self.nr >= 2 choose first steal first",
+            "policy 0 not-built",
+        ),
+        (
+            "policy basic load count filter victim.nr - self.nr >= choose first steal first",
+            "policy 54 unexpected",
+        ),
+        (
+            "policy basic load count filter victim.nr - self.nr >= 2 choose first steal",
+            "policy 74 unexpected",
+        ),
+        (
+            "policy steal load count filter victim.nr - self.nr >= 2 choose first steal first",
+            "policy 7 unexpected",
+        ),
+        (
+            "policy 2fast load count filter victim.nr - self.nr >= 2 choose first steal first",
+            "policy 7 unexpected",
+        ),
+        (
+            "policy load count filter victim.nr - self.nr >= 2 choose first steal first",
+            "policy 7 unexpected",
+        ),
     ];
-    for text in near_misses {
-        let (status, out) = call(&rt, alloc, &["check", "p"], text.as_bytes(), &[], &[])?;
-        assert_eq!(rt; status, 2, "at {text:?}");
-        assert_eq!(rt;
-            out.as_slice(),
-            b"policy 0 not-built\n".as_slice(),
-            "at {text:?}"
-        );
+    for (text, last) in cases {
+        let (status, out) = check(&rt, alloc, text)?;
+        let wanted = if last == "accepted" { 0 } else { 2 };
+        assert_eq!(rt; status, wanted, "at {text:?}");
+        let line = format!(in alloc; "{last}\n")?;
+        assert!(rt; out.as_slice().ends_with(line.as_bytes()), "at {text:?}");
     }
     Ok(())
+}
+
+/// `check` of a file with that text: the status, and what is written.
+pub fn check<R: Threads + Wait + Sync>(
+    rt: &R,
+    alloc: Global,
+    text: &str,
+) -> Result<(u8, Vec<u8>), Fail> {
+    call(rt, alloc, &["check", "p"], text.as_bytes(), &[], &[])
 }
 
 #[test]
@@ -168,7 +214,7 @@ fn faults_of_the_outside(rt: HostRuntime) -> Result<(), Fail> {
     let longest = vec![in alloc; b'#'; 65536]?;
     let (status, out) = call(&rt, alloc, &["check", "p"], longest.as_slice(), &[], &[])?;
     assert_eq!(rt; status, 2);
-    assert_eq!(rt; out.as_slice(), b"policy 0 not-built\n".as_slice());
+    assert_eq!(rt; out.as_slice(), b"policy 65536 unexpected\n".as_slice());
     let too_long = vec![in alloc; b'#'; 65537]?;
     let (status, out) = call(&rt, alloc, &["check", "p"], too_long.as_slice(), &[], &[])?;
     assert_eq!(rt; status, 10);

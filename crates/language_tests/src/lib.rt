@@ -6,8 +6,6 @@ mod reading_again;
 pub use reading_again::{Unread, read_again};
 
 #[cfg(test)]
-mod gallery;
-#[cfg(test)]
 mod printed_tests;
 #[cfg(test)]
 mod resolving;

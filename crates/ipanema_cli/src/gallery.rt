@@ -1,23 +1,7 @@
-//! The gallery of `examples/faults`: for each word of a fault a text that has it, and the line that is printed.
+//! The gallery of `examples/faults`, by `check`: for each word of a fault a text that has it, and the line that is written.
 
-use policy_reader::{PolicyFault, TEXT_LIMIT, read_policy};
-use std::alloc::Global;
+use crate::tests::check;
 use std::test::Fail;
-
-/// The line of the answer to the text.
-fn line(alloc: Global, text: &[u8]) -> Result<String, Fail> {
-    if text.len() > TEXT_LIMIT {
-        return Ok(String::from_str(alloc, "too-long policy\n")?);
-    }
-    match read_policy(alloc, text) {
-        Ok(_policy) => Ok(String::from_str(alloc, "read\n")?),
-        Err(PolicyFault::Broken(fault)) => {
-            let word = fault.kind.word();
-            Ok(format!(in alloc; "policy {} {word}\n", fault.at)?)
-        }
-        Err(PolicyFault::Memory) => Ok(String::from_str(alloc, "memory\n")?),
-    }
-}
 
 #[test]
 fn faults_of_the_gallery(rt: HostRuntime) -> Result<(), Fail> {
@@ -68,8 +52,9 @@ fn faults_of_the_gallery(rt: HostRuntime) -> Result<(), Fail> {
         ),
     ];
     for (text, expected) in cases {
-        let line = line(alloc, text.as_bytes())?;
-        assert_eq!(rt; line.as_str(), expected, "at {text:?}");
+        let (status, out) = check(&rt, alloc, text)?;
+        assert_eq!(rt; status, 2, "at {text:?}");
+        assert_eq!(rt; out.as_slice(), expected.as_bytes(), "at {text:?}");
     }
     Ok(())
 }
@@ -83,8 +68,9 @@ fn policy_cut_short(rt: HostRuntime) -> Result<(), Fail> {
         ("", "policy 0 unexpected\n"),
     ];
     for (text, expected) in cases {
-        let line = line(alloc, text.as_bytes())?;
-        assert_eq!(rt; line.as_str(), expected, "at {text:?}");
+        let (status, out) = check(&rt, alloc, text)?;
+        assert_eq!(rt; status, 2, "at {text:?}");
+        assert_eq!(rt; out.as_slice(), expected.as_bytes(), "at {text:?}");
     }
     Ok(())
 }
@@ -94,8 +80,9 @@ fn number_too_wide(rt: HostRuntime) -> Result<(), Fail> {
     let alloc = rt.alloc();
     let text =
         "policy wide\nload count\nfilter victim.nr >= 1000000000000000000000000000000000000000";
-    let line = line(alloc, text.as_bytes())?;
-    assert_eq!(rt; line.as_str(), "policy 43 wide-number\n");
+    let (status, out) = check(&rt, alloc, text)?;
+    assert_eq!(rt; status, 2);
+    assert_eq!(rt; out.as_slice(), b"policy 43 wide-number\n".as_slice());
     Ok(())
 }
 
@@ -114,12 +101,13 @@ fn earlier_layers_come_first(rt: HostRuntime) -> Result<(), Fail> {
         ),
         (
             "policy p load count filter always choose first steal first",
-            "read\n",
+            "policy 0 not-built\n",
         ),
     ];
     for (text, expected) in cases {
-        let line = line(alloc, text.as_bytes())?;
-        assert_eq!(rt; line.as_str(), expected, "at {text:?}");
+        let (status, out) = check(&rt, alloc, text)?;
+        assert_eq!(rt; status, 2, "at {text:?}");
+        assert_eq!(rt; out.as_slice(), expected.as_bytes(), "at {text:?}");
     }
     Ok(())
 }
