@@ -1,5 +1,6 @@
 pub mod Acceptance
 pub mod Cores
+pub mod Empty
 pub mod Leaves
 pub mod Meanings
 pub mod Narrows

@@ -1,3 +1,4 @@
+pub mod Form
 pub mod Judged
 pub mod Laws
 pub mod Policies

@@ -3,6 +3,7 @@
 
 mod balance;
 mod decide;
+mod form;
 mod laws;
 mod obligations;
 mod reasons;
@@ -11,6 +12,7 @@ mod systems;
 
 pub use balance::Balance;
 pub use decide::{JudgeMemory, judge};
+pub use form::{MAX_THRESHOLD, threshold_of};
 pub use laws::{law_certified, law_names, law_reasons, law_systems};
 pub use obligations::{NAMES, OB_NAME_ROOM, ObName};
 pub use reasons::Reason;
