@@ -10,7 +10,7 @@ use round_model::{Did, Entry};
 use sched_base::{CoreId, Reads};
 use sched_io::{LINE_ROOM, Line, NUMBER_ROOM, PutFault, Sink, put_all};
 
-/// Writes the history, a line at a time.
+/// Writes the text of the history, a line at a time.
 pub fn put_history<S: Sink>(out: &mut S, entries: &[Entry]) -> Result<(), PutFault>
     requires { All IsPrintable entries.now }
     ensures whole { OnOk result (Adds (text_of_history entries.now) (S.written out.old) (S.written out.new)) }
@@ -48,22 +48,22 @@ fn add_entry(line: &mut Line, entry: &Entry)
             by,
             at,
             reads,
-        } => add_looking(line, b"enter", &[*thread, *by, *at], reads),
+        } => add_with_reads(line, b"enter", &[*thread, *by, *at], reads),
         Entry::Wake {
             thread,
             by,
             at,
             reads,
-        } => add_looking(line, b"wake", &[*thread, *by, *at], reads),
+        } => add_with_reads(line, b"wake", &[*thread, *by, *at], reads),
         Entry::Work { by, did } => add_work(line, *by, did),
         Entry::Steal {
             by,
             from,
             thread,
             reads,
-        } => add_looking(line, b"steal", &[*by, *from, *thread], reads),
-        Entry::Fail { by, from, reads } => add_looking(line, b"fail", &[*by, *from], reads),
-        Entry::Pass { by, reads } => add_looking(line, b"pass", &[*by], reads),
+        } => add_with_reads(line, b"steal", &[*by, *from, *thread], reads),
+        Entry::Fail { by, from, reads } => add_with_reads(line, b"fail", &[*by, *from], reads),
+        Entry::Pass { by, reads } => add_with_reads(line, b"pass", &[*by], reads),
     }
 }
 
@@ -83,7 +83,8 @@ fn add_work(line: &mut Line, by: CoreId, did: &Did)
 
 /// Adds the words of a unit of work with these numbers and this last word.
 fn add_unit(line: &mut Line, numbers: &[u32], last: &[u8])
-    requires { length line.old + length (codes "work" ++ spaced numbers.now ++ last.now) + NUMBER_ROOM ≤ LINE_ROOM }
+    requires { length line.old + length (codes "work" ++ spaced numbers.now ++ last.now)
+        + NUMBER_ROOM ≤ LINE_ROOM }
     ensures { line.new ≡ line.old ++ codes "work" ++ spaced numbers.now ++ last.now }
 {
     add_numbered(line, b"work", numbers);
@@ -91,8 +92,9 @@ fn add_unit(line: &mut Line, numbers: &[u32], last: &[u8])
 }
 
 /// Adds the words of an entry with reads: its first word, its numbers, and the reads behind a colon.
-fn add_looking(line: &mut Line, first: &[u8], numbers: &[u32], reads: &Reads)
-    requires { length line.old + length (first.now ++ spaced numbers.now ++ codes " :" ++ spaced reads.now) + NUMBER_ROOM ≤ LINE_ROOM }
+fn add_with_reads(line: &mut Line, first: &[u8], numbers: &[u32], reads: &Reads)
+    requires { length line.old + length (first.now ++ spaced numbers.now ++ codes " :" ++ spaced reads.now)
+        + NUMBER_ROOM ≤ LINE_ROOM }
     ensures { line.new ≡ line.old ++ first.now ++ spaced numbers.now ++ codes " :" ++ spaced reads.now }
 {
     add_numbered(line, first, numbers);

@@ -1,6 +1,5 @@
 -- The words of an entry leave room for a number, and so for the line feed.
-use Rattle.std.proofs.Common.{List, ℕ, ◌++◌, arith, length-append, ap}
-use Rattle.sched_history.specs.Spelling.{words_of_entry}
+use Rattle.std.proofs.Common.{arith}
 use Rattle.sched_history.proofs.RoomLemmas.{length-words_of_entry}
 use Rattle.sched_history.proofs.printing.print_entry.Goals as goal
 
