@@ -24,7 +24,7 @@ pub record AreReads (reads : List ℕ) : Type 0 where
   pub few : length reads ≤ MAX_CORES
   pub positions : All IsPosition reads
 
--- the thread of a unit of work, where there is one
+-- the number of the thread of a unit of work, where there is one, is in its range
 abbrev pub NamesThread : Did → Type 0
 NamesThread did.Nothing = Unit {0}
 NamesThread (did.Kept thread) = IsThreadNumber thread
