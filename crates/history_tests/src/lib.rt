@@ -1,0 +1,7 @@
+//! Tests of the text of histories, through the public calls.
+#![tactic(auto)]
+
+#[cfg(test)]
+mod entries;
+#[cfg(test)]
+mod tests;
