@@ -121,59 +121,58 @@ fn texts_of_other_forms(rt: HostRuntime) -> Result<(), Fail> {
     let cases = [
         (
             "policy basic load count filter victim.nr - self.nr >= 2 choose first steal first",
-            "accepted",
+            "accepted\n",
         ),
         (
             "policy basic # of two cores\nload count\nfilter (victim.nr - self.nr >= 00002)\nchoose first\nsteal first\n\n",
-            "accepted",
+            "accepted\n",
         ),
         (
             "policy basic load count place here elect first filter victim.nr - self.nr >= 2 choose first steal first",
-            "accepted",
+            "accepted\n",
         ),
         (
             "policy basic load count filter victim.nr - self.nr >= 10000 choose first steal first",
-            "policy 0 not-built",
+            "policy 0 not-built\n",
         ),
         (
             "policy basic load count filter victim.nr - self.nr > 2 choose first steal first",
-            "policy 0 not-built",
+            "policy 0 not-built\n",
         ),
         (
             "policy basic load count filter self.nr - victim.nr >= 2 choose first steal first",
-            "policy 0 not-built",
+            "policy 0 not-built\n",
         ),
         (
             "policy basic load weight 1..2 filter victim.nr - self.nr >= 2 choose first steal first",
-            "policy 0 not-built",
+            "policy 0 not-built\n",
         ),
         (
             "policy basic load count filter victim.nr - self.nr >= choose first steal first",
-            "policy 54 unexpected",
+            "policy 54 unexpected\n",
         ),
         (
             "policy basic load count filter victim.nr - self.nr >= 2 choose first steal",
-            "policy 74 unexpected",
+            "policy 74 unexpected\n",
         ),
         (
             "policy steal load count filter victim.nr - self.nr >= 2 choose first steal first",
-            "policy 7 unexpected",
+            "policy 7 unexpected\n",
         ),
         (
             "policy 2fast load count filter victim.nr - self.nr >= 2 choose first steal first",
-            "policy 7 unexpected",
+            "policy 7 unexpected\n",
         ),
         (
             "policy load count filter victim.nr - self.nr >= 2 choose first steal first",
-            "policy 7 unexpected",
+            "policy 7 unexpected\n",
         ),
     ];
     for (text, last) in cases {
         let (status, out) = check(&rt, alloc, text)?;
-        let wanted = if last == "accepted" { 0 } else { 2 };
+        let wanted = if last == "accepted\n" { 0 } else { 2 };
         assert_eq!(rt; status, wanted, "at {text:?}");
-        let line = format!(in alloc; "{last}\n")?;
-        assert!(rt; out.as_slice().ends_with(line.as_bytes()), "at {text:?}");
+        assert!(rt; out.as_slice().ends_with(last.as_bytes()), "at {text:?}");
     }
     Ok(())
 }

@@ -5,6 +5,7 @@ pub mod builders;
 pub mod events;
 pub mod legal;
 pub mod plans;
+pub mod plays;
 pub mod policies;
 pub mod rounds;
 pub mod serial;

@@ -2,9 +2,11 @@
 
 use crate::builders::{basic_choice, basic_policy};
 use crate::plans::{may_come_first, no_past, two_cores};
+use crate::plays::play_of_two;
 use crate::steps::legal_length_of_two;
 use round_model::{Did, Entry, History, opening, reads_fit, round_due, round_start, spread_of};
 use sched_base::{Pos, Reads, ThreadId};
+use serial_play::Played;
 use std::test::Fail;
 
 #[test]
@@ -145,6 +147,33 @@ fn a_round_with_one_steal(rt: HostRuntime) -> Result<(), Fail> {
         7,
         "one attempt a round"
     );
+    Ok(())
+}
+
+#[test]
+fn serial_play_of_two_cores(rt: HostRuntime) -> Result<(), Fail> {
+    let policy = basic_policy(rt.alloc())?;
+    let plan = two_cores(rt.alloc())?;
+    match play_of_two(rt.alloc(), &policy, &plan)? {
+        Played::Whole(history) => {
+            assert_eq!(rt; history.len(), 7);
+            assert!(rt; history.get(0).is_round());
+            let last = history.get(6);
+            assert!(rt;
+                matches!(
+                    last,
+                    Entry::Steal {
+                        by: 1,
+                        from: 0,
+                        thread: 2,
+                        ..
+                    }
+                )
+            );
+            assert!(rt; history.get(4).is_attempt() && history.get(4).acts(0));
+        }
+        Played::Full(_) => assert!(rt; false, "the round fits"),
+    }
     Ok(())
 }
 
