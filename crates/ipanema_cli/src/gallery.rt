@@ -111,3 +111,18 @@ fn earlier_layers_come_first(rt: HostRuntime) -> Result<(), Fail> {
     }
     Ok(())
 }
+
+#[test]
+fn longest_chain_of_conditions(rt: HostRuntime) -> Result<(), Fail> {
+    let alloc = rt.alloc();
+    let mut text = String::from_str(alloc, "policy p load count filter always")?;
+    for _link in 0..5_952 {
+        text.push_str(" and always")?;
+    }
+    text.push_str(" choose first steal first")?;
+    assert_eq!(rt; text.len(), 65530);
+    let (status, out) = check(&rt, alloc, text.as_str())?;
+    assert_eq!(rt; status, 2);
+    assert_eq!(rt; out.as_slice(), b"policy 0 not-built\n".as_slice());
+    Ok(())
+}
