@@ -1,10 +1,14 @@
 -- The ranges of the numbers in a history's text.
 use Rattle.std.specs.Prelude.{ℕ, ◌<◌, ◌≤◌, List, length, All}
 use Rattle.sched_base.specs.declared.limits.TheConstants.{MAX_CORES, MAX_ENTRIES, MAX_ROUNDS, MAX_THREADS}
+use Rattle.policy_tree.specs.Meaning.{Meaning}
 use Rattle.round_model.specs.declared.entry.Did.{Did}
 use Rattle.round_model.specs.declared.entry.Did.TheVariants as did
 use Rattle.round_model.specs.declared.entry.Entry.{Entry}
 use Rattle.round_model.specs.declared.entry.Entry.TheVariants as entry
+use Rattle.round_model.specs.declared.plan.Plan.{Plan}
+use Rattle.round_model.specs.Fits.{Fits}
+use Rattle.round_model.specs.Legal.{Legal}
 
 abbrev pub IsRoundNumber : ℕ → Type 0
 IsRoundNumber number = (1 ≤ number) × (number ≤ MAX_ROUNDS)
@@ -41,3 +45,8 @@ IsPrintable (entry.Work by what) = IsCoreNumber by × NamesThread what
 IsPrintable (entry.Steal by from thread reads) = IsCoreNumber by × IsCoreNumber from × IsThreadNumber thread × AreReads reads
 IsPrintable (entry.Fail by from reads) = IsCoreNumber by × IsCoreNumber from × AreReads reads
 IsPrintable (entry.Pass by reads) = IsCoreNumber by × AreReads reads
+
+-- the entries of a legal history of a plan that fits are such, where the history is no longer than one may be
+abbrev pub LegalIsPrintable : Type 0
+LegalIsPrintable = (p : Meaning) (plan : Plan) (history : List Entry) → Fits p plan → Legal p plan history
+    → length history ≤ MAX_ENTRIES → All IsPrintable history

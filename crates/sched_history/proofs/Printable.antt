@@ -1,0 +1,175 @@
+-- The entries of a legal history can be printed.
+use Rattle.std.proofs.Common.{◌≡◌, ℕ, zero, suc, ◌+◌, ◌<◌, ◌≤◌, Bool, true, false, cond, List, [], ◌∷◌, ◌++◌, map, find, take, length, get_or, slice_get, All, IfSome, IsSome, IsSomeAnd, Contains, Option, Some, None, option_and_then, refl, sym, ap, subst, ◌∙◌, arith}
+use Rattle.std.proofs.lemmas.Bool.Decides.{nat_tests}
+use Rattle.std.proofs.lemmas.List.{length-take}
+use Rattle.std.proofs.lemmas.List.Elements.{All-contains}
+use mathlib.Core.Option.{some}
+use lib.ListN.{get_elem?}
+use Rattle.sched_base.specs.declared.limits.TheConstants.{MAX_CORES, MAX_ENTRIES, MAX_ROUNDS, MAX_THREADS}
+use Rattle.sched_base.specs.declared.task.Task.{Task}
+use Rattle.policy_tree.specs.declared.typed.Put.{Put}
+use Rattle.policy_tree.specs.declared.typed.Put.TheVariants as put
+use Rattle.policy_tree.specs.declared.typed.Event.{Event}
+use Rattle.policy_tree.specs.Meaning.{Meaning, PlaceTree, here, least}
+use Rattle.policy_eval.specs.Events.{outcomes_of}
+use Rattle.policy_eval.specs.Orders.{best_of, better_of}
+use Rattle.policy_eval.specs.Sights.{pair_values}
+use Rattle.policy_eval.specs.Values.{holds}
+use Rattle.round_model.specs.declared.entry.Did.{Did}
+use Rattle.round_model.specs.declared.entry.Did.TheVariants as did
+use Rattle.round_model.specs.declared.entry.Entry.{Entry}
+use Rattle.round_model.specs.declared.entry.Entry.TheVariants as entry
+use Rattle.round_model.specs.declared.plan.Burst.{Burst}
+use Rattle.round_model.specs.declared.plan.Plan.{Plan}
+use Rattle.round_model.specs.declared.plan.Planned.{Planned}
+use Rattle.round_model.specs.declared.state.Blocked.{Blocked}
+use Rattle.round_model.specs.declared.state.ModelCore.{ModelCore}
+use Rattle.round_model.specs.After.{after, round_of}
+use Rattle.round_model.specs.Attempts.{attempt_of, attempt_with, present_values, steal_or_fail}
+use Rattle.round_model.specs.Bursts.{HasBurst, HaveBursts}
+use Rattle.round_model.specs.Choices.{choice_of}
+use Rattle.round_model.specs.Cores.{Cores}
+use Rattle.round_model.specs.Fits.{Fits, ThreadFits}
+use Rattle.round_model.specs.Legal.{Legal, LegalNext, rounds_begun}
+use Rattle.round_model.specs.Programs.{Meeting, blocking, burst_of, ending_now, planned_of, tick, yielding}
+use Rattle.round_model.specs.Reads.{ReadsFit, read_values}
+use Rattle.round_model.specs.Rows.{PlacementReads, Row}
+use Rattle.round_model.specs.Scenes.{Scene, entering_next, is_due_blocked, is_entering, own_entries, scene_of, waking_next}
+use Rattle.round_model.specs.Work.{after_meeting, after_unit, before, did_of, elected, run_over, worked}
+use Rattle.round_model.proofs.Begun.{due_within}
+use Rattle.round_model.proofs.Bursts.{elects_burst, have_bursts}
+use Rattle.round_model.proofs.Directories.{is_thread}
+use Rattle.round_model.proofs.Finding.{find-All, find-passes}
+use Rattle.round_model.proofs.Keeping.{All-append, All-one}
+use Rattle.round_model.proofs.Outcomes.{choice_there}
+use Rattle.round_model.proofs.There.{are_there}
+use Rattle.sched_history.specs.Ranges.{AreReads, IsCoreNumber, IsPosition, IsPrintable, IsThreadNumber, LegalIsPrintable, NamesThread}
+
+-- what holds of each task holds of the best
+best_All : {X : Type 0} (P : X → Type 0) (comes : X → X → Bool) (xs : List X) → All P xs → IfSome (best_of comes xs) P
+best_All P comes [] each = tt
+best_All P comes (x ∷ xs) each = with_rest (best_of comes xs) (best_All P comes xs (λ k d inside. each (suc k) d (omega arith)))
+  where
+    with_rest : (later : Option _) → IfSome later P → P (better_of comes x later)
+    with_rest None is = each 0 x (omega arith)
+    with_rest (Some y) is = elim (comes y x) as (λ b. P (cond b y x)) [ true ↦ is | false ↦ each 0 x (omega arith) ]
+
+module _ (p : Meaning) (plan : Plan) (fits : Fits p plan) where
+  -- a thread that has a burst is one of the plan
+  numbered : (t : Task) → HasBurst plan t → IsThreadNumber t.id
+  numbered t has = by_found (planned_of plan t.id) refl has
+    where
+      by_found : (found : Option Planned) → planned_of plan t.id ≡ found → IsSome (option_and_then (λ (q : Planned). slice_get q.bursts t.place.burst) found) → IsThreadNumber t.id
+      by_found None is has_one = absurd (cc)
+      by_found (Some q) is has_one =
+          let passes = find-passes (is_thread t.id) plan.threads q is in
+          let same : q.id ≡ t.id = grind (arith, nat_tests) in
+          let thread = subst (λ (found : Option Planned). IfSome found (ThreadFits p plan.cores)) is (find-All (is_thread t.id) (ThreadFits p plan.cores) plan.threads fits.threads) in
+          subst IsThreadNumber same (thread.id_positive, thread.id_small)
+
+  core_small : (c : ℕ) → c < plan.cores → IsCoreNumber c
+  core_small c there = let few = fits.few_cores in omega arith
+
+  reads_small : (s : Scene) (reads : List ℕ) → s.position ≤ MAX_ENTRIES → ReadsFit plan.cores s.start s.position reads → AreReads reads
+  reads_small s reads room fit = record {
+    few = let few = fits.few_cores in omega (arith, fit.one_each);
+    positions = λ k d inside. let read = (fit.each k d inside).before_entry in omega arith;
+  }
+
+  placement_small : (place : PlaceTree) (s : Scene) (reads : List ℕ) → s.position ≤ MAX_ENTRIES → PlacementReads place plan s reads → AreReads reads
+  placement_small here s reads room none = record { few = omega (arith, ap length none); positions = λ k d inside. absurd (omega (arith, ap length none)) }
+  placement_small (least e) s reads room fit = reads_small s reads room fit
+
+  -- the words of a unit name its thread
+  named_by : (id : ℕ) (o : Task × Put) → IsThreadNumber id → NamesThread (did_of id o)
+  named_by id (t, put.Queue) is = is
+  named_by id (t, put.Keep) is = is
+  named_by id (t, put.Block) is = is
+
+  all_named : (id : ℕ) (outcomes : List (Task × Put)) → IsThreadNumber id → All NamesThread (map (did_of id) outcomes)
+  all_named id [] is = λ k d inside. absurd (omega arith)
+  all_named id (o ∷ outcomes) is = All-append NamesThread (did_of id o ∷ []) (map (did_of id) outcomes) (All-one NamesThread (did_of id o) (named_by id o is)) (all_named id outcomes is)
+
+  meeting_named : (round : ℕ) (m : Meeting) (t : Task) (core : ModelCore) → IsThreadNumber t.id → All NamesThread (after_meeting p round m t core).dids
+  meeting_named round tick t core is = all_named t.id _ is
+  meeting_named round yielding t core is = all_named t.id _ is
+  meeting_named round (blocking rounds) t core is = all_named t.id _ is
+  meeting_named round ending_now t core is = All-one NamesThread (did.Ended t.id) is
+
+  run_named : (round : ℕ) (core : ModelCore) (current : Option Task) → IfSome current (HasBurst plan) → All NamesThread (run_over p plan round core current).dids
+  run_named round core None has = All-one NamesThread did.Nothing tt
+  run_named round core (Some t) has = by_burst (burst_of plan t)
+    where
+      by_burst : (found : Option Burst) → All NamesThread (after_unit p round core t found).dids
+      by_burst None = λ k d inside. absurd (omega arith)
+      by_burst (Some b) = meeting_named round _ _ _ (numbered t has)
+
+  work_named : (round : ℕ) (core : ModelCore) → HaveBursts plan core → All NamesThread (worked p plan round core).dids
+  unfolding worked
+  work_named round core have = run_named round (elected p core) (elected p core).current (elects_burst p plan core have)
+
+  -- an attempt names cores and threads of the plan
+  attempt_printable : (m : Cores) (a : ℕ) (reads : List ℕ) (chosen : Option ℕ) → ((c : ℕ) → HaveBursts plan (m c)) → a < plan.cores → AreReads reads → IfSome chosen (λ v. v < plan.cores)
+      → IsPrintable (attempt_with p plan m a reads chosen)
+  attempt_printable m a reads None have own read there = (core_small a own, read)
+  attempt_printable m a reads (Some v) have own read there =
+      elim (holds (pair_values (present_values plan m a) (present_values plan m v)) p.filter) as (λ b. IsPrintable (cond b (steal_or_fail a v reads (best_of (before p.steal) (m v).queue)) (entry.Fail a v reads))) [
+        | true ↦ by_best (best_of (before p.steal) (m v).queue) (best_All (HasBurst plan) (before p.steal) (m v).queue (have v).queue)
+        | false ↦ (core_small a own, core_small v there, read)
+      ]
+    where
+      by_best : (best : Option Task) → IfSome best (HasBurst plan) → IsPrintable (steal_or_fail a v reads best)
+      by_best None has = (core_small a own, core_small v there, read)
+      by_best (Some t) has = (core_small a own, core_small v there, numbered t has, read)
+
+  -- what the reads of an attempt come to
+  attempt_is_printable : (h : List Entry) (a : ℕ) (reads : List ℕ) (e : Entry) → length h ≤ MAX_ENTRIES → a < plan.cores → ReadsFit plan.cores (scene_of p plan h a).start (scene_of p plan h a).position reads
+      → e ≡ attempt_of p plan (after p plan h) (read_values plan (scene_of p plan h a).seen reads) a reads → IsPrintable e
+  unfolding attempt_of scene_of
+  attempt_is_printable h a reads e room own fit is =
+      subst IsPrintable (sym is)
+      (attempt_printable (after p plan h) a reads (choice_of p plan.cores (read_values plan (scene_of p plan h a).seen reads) a) (λ c. have_bursts p plan h c fits) own (reads_small (scene_of p plan h a) reads room fit)
+      (choice_there p plan.cores (read_values plan (scene_of p plan h a).seen reads) a))
+
+  entering_numbered : (found : Option Planned) (id : ℕ) → IfSome found (ThreadFits p plan.cores) → IsSomeAnd found (λ t. t.id ≡ id) → IsThreadNumber id
+  entering_numbered None id is next = absurd next
+  entering_numbered (Some t) id is next = subst IsThreadNumber next (is.id_positive, is.id_small)
+
+  waking_numbered : (found : Option Blocked) (id : ℕ) → IfSome found (λ (b : Blocked). HasBurst plan b.task) → IsSomeAnd found (λ b. b.task.id ≡ id) → IsThreadNumber id
+  waking_numbered None id is next = absurd next
+  waking_numbered (Some b) id is next = subst IsThreadNumber next (numbered b.task is)
+
+  next_printable : (h : List Entry) (e : Entry) → length h ≤ MAX_ENTRIES → LegalNext p plan h e → IsPrintable e
+  unfolding LegalNext Row scene_of entering_next waking_next
+  next_printable h (entry.Round number) room legal =
+      let few = fits.few_rounds in let due = due_within plan h legal.due in let next = legal.next in (omega arith, omega arith)
+  next_printable h (entry.Enter thread by at reads) room legal =
+      let s = scene_of p plan h by in
+      let test = is_entering (round_of h) by (own_entries h by) in (
+        entering_numbered (find test plan.threads) thread (find-All test (ThreadFits p plan.cores) plan.threads fits.threads) legal.row.next,
+        core_small by legal.row.core,
+        core_small at (are_there p plan h (entry.Enter thread by at reads) legal),
+        placement_small p.place s reads room legal.row.placement.read,
+      )
+  next_printable h (entry.Wake thread by at reads) room legal =
+      let s = scene_of p plan h by in
+      let test = is_due_blocked (round_of h) in let core = after p plan h by in (
+        waking_numbered (find test core.blocked) thread (find-All test (λ (b : Blocked). HasBurst plan b.task) core.blocked (have_bursts p plan h by fits).blocked) legal.row.next,
+        core_small by legal.row.core,
+        core_small at (are_there p plan h (entry.Wake thread by at reads) legal).1,
+        placement_small p.place s reads room legal.row.placement.read,
+      )
+  next_printable h (entry.Work by what) room legal =
+      (core_small by legal.row.core, All-contains NamesThread (worked p plan (round_of h) (after p plan h by)).dids what (work_named (round_of h) (after p plan h by) (have_bursts p plan h by fits)) legal.row.outcome)
+  next_printable h (entry.Steal by from thread reads) room legal = attempt_is_printable h by reads (entry.Steal by from thread reads) room legal.row.core legal.row.read legal.row.outcome
+  next_printable h (entry.Fail by from reads) room legal = attempt_is_printable h by reads (entry.Fail by from reads) room legal.row.core legal.row.read legal.row.outcome
+  next_printable h (entry.Pass by reads) room legal = attempt_is_printable h by reads (entry.Pass by reads) room legal.row.core legal.row.read legal.row.outcome
+
+elem_at : (xs : List Entry) (k : ℕ) (d : Entry) → k < length xs → get_elem? xs k ≡ some (get_or xs k d)
+elem_at [] k d inside = absurd (omega arith)
+elem_at (x ∷ xs) zero d inside = refl
+elem_at (x ∷ xs) (suc k) d inside = elem_at xs k d (omega arith)
+
+pub legal_is_printable : LegalIsPrintable
+legal_is_printable p plan history fits legal room = λ k d inside.
+    next_printable p plan fits (take k history) (get_or history k d) (omega (arith, length-take k history)) (legal k (get_or history k d) (elem_at history k d inside))
