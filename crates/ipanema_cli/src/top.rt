@@ -14,8 +14,8 @@ use std::thread::Threads;
 
 /// Carries out the command that the words are, and answers the status for the shell.
 ///
-/// The words are those of the call without the program's name. Files come from `files`, output goes to `out` a line
-/// at a time, and the workers of a run pass `gate` in each round.
+/// The words are those of the call without the program's name. Files come from `files`, and output goes to `out`. No
+/// command needs a second thread so far, so the runtime and the gate are there for those to come.
 pub fn ipanema<R: Threads + Wait + Sync, F: Files, S: Sink, G: Gate>(
     _rt: &R,
     alloc: Global,

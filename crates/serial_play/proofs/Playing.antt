@@ -7,6 +7,7 @@ use Rattle.std.proofs.lemmas.Grind.{flat_map-append}
 use Rattle.std.proofs.lemmas.List.Folds.{list_all-append}
 use Rattle.std.proofs.lemmas.List.{length-append}
 use Rattle.std.proofs.lemmas.List.FromFn.{map-range_with_len_more}
+use Rattle.sched_base.specs.declared.limits.TheConstants.{MAX_ENTRIES}
 use Rattle.policy_tree.specs.Meaning.{Meaning}
 use Rattle.round_model.specs.declared.entry.Entry.{Entry}
 use Rattle.round_model.specs.declared.plan.Plan.{Plan}
@@ -178,6 +179,10 @@ serial_stays p plan k none (suc j) =
     ∙ (ap (λ b. cond b (fold (step_of p plan) (record { history = h ++ entry.Round (k + j + 1) ∷ []; looks = λ c. None }) (order_of plan (k + j + 1) ++ remaining_turns plan)).history h) (ap (is_due plan) same ∙ none)
     ∙ same))
 
+-- a history is no longer than what is kept can be of
+pub few_entries : (p : Meaning) (plan : Plan) (play : Play) → IsPlay p plan play → length play.history ≤ MAX_ENTRIES
+few_entries p plan play is = let few = is.belongs.window.few in omega (arith, is.stands.entries)
+
 -- serial play came to its end
 pub ended_whole : (p : Meaning) (plan : Plan) (k : ℕ) (play : Play) → IsPlay p plan play → k ≤ plan.rounds → play.history ≡ serial_rounds p plan k → IsTrue (is_complete plan play.history) → IsFalse (is_due plan play.history)
     → ((j : ℕ) → j < k → IsFull plan (serial_rounds p plan j) → ⊥) → EndsWhole p plan play.history
@@ -186,6 +191,7 @@ ended_whole p plan k play is within serial complete none fitted =
     record {
       serial = let whole : k + (plan.rounds - k) ≡ plan.rounds = omega arith in serial ∙ (sym (serial_stays p plan k stopped (plan.rounds - k)) ∙ ap (serial_rounds p plan) whole);
       whole = record { legal = is.stands.legal; complete = complete; finished = none };
+      few = few_entries p plan play is;
       fitted = λ j full. elim (ltb j k) as (λ b. ltb j k ≡ b → ⊥) [
         | true ↦ λ e. fitted j (grind (arith, nat_tests)) full
         | false ↦ λ e. let late : k ≤ j = grind (arith, nat_tests) in

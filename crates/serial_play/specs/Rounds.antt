@@ -1,10 +1,11 @@
 -- Rounds of serial play.
 use Rattle.std.specs.Prelude.{◌≡◌, ℕ, ◌+◌, ◌*◌, ◌<◌, ◌≤◌, List, [], ◌∷◌, ◌++◌, fold, length, replicate, IsTrue, None}
+use Rattle.sched_base.specs.declared.limits.TheConstants.{MAX_ENTRIES}
 use Rattle.policy_tree.specs.Meaning.{Meaning}
 use Rattle.round_model.specs.declared.entry.Entry.{Entry}
 use Rattle.round_model.specs.declared.entry.Entry.TheVariants as entry
 use Rattle.round_model.specs.declared.plan.Plan.{Plan}
-use Rattle.round_model.specs.Legal.{IsComplete, IsDue, Whole, rounds_begun}
+use Rattle.round_model.specs.Legal.{IsComplete, IsDue, Legal, Whole, rounds_begun}
 use Rattle.round_model.specs.Owed.{owed_total}
 use Rattle.round_model.specs.Scenes.{has_attempted, own_entries}
 use Rattle.round_model.specs.Serial.{SerialState, step_of}
@@ -62,12 +63,16 @@ pub record IsFull (plan : Plan) (history : List Entry) : Type 0 where
 pub record EndsWhole (p : Meaning) (plan : Plan) (history : List Entry) : Type 0 where
   pub serial : history ≡ serial_history p plan
   pub whole : Whole p plan history
+  pub few : length history ≤ MAX_ENTRIES
   pub fitted : (k : ℕ) → IsFull plan (serial_rounds p plan k) → ⊥
 
 -- serial play stopped before the first round that doesn't fit
 pub record StopsFull (p : Meaning) (plan : Plan) (history : List Entry) : Type 0 where
   pub rounds : ℕ
   pub serial : history ≡ serial_rounds p plan rounds
+  pub legal : Legal p plan history
+  pub complete : IsComplete plan history
+  pub few : length history ≤ MAX_ENTRIES
   pub full : IsFull plan history
   pub first : (k : ℕ) → k < rounds → IsFull plan (serial_rounds p plan k) → ⊥
 
