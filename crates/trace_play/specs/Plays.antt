@@ -1,0 +1,50 @@
+-- What serial play of a trace's text comes to.
+use Rattle.std.specs.Prelude.{◌≡◌, ℕ, List, All, Option, Some}
+use Rattle.policy_tree.specs.Meaning.{Meaning}
+use Rattle.round_model.specs.declared.entry.Entry.{Entry}
+use Rattle.round_model.specs.declared.plan.Plan.{Plan}
+use Rattle.job_trace.specs.declared.fault.TraceFault.{TraceFault}
+use Rattle.job_trace.specs.declared.plan_fault.PlanFault.{PlanFault}
+use Rattle.job_trace.specs.declared.trace.Numbered.{Numbered}
+use Rattle.job_trace.specs.Faults.{IsBroken}
+use Rattle.job_trace.specs.Plans.{IsForeign, SpellsPlan}
+use Rattle.job_trace.specs.TraceText.{SpellsTrace}
+use Rattle.serial_play.specs.declared.rounds.Played.{Played}
+use Rattle.serial_play.specs.declared.rounds.Played.TheVariants as played
+use Rattle.serial_play.specs.Rounds.{IsPlayed}
+use Rattle.sched_history.specs.Ranges.{IsPrintable}
+use Rattle.sched_history.specs.Spelling.{text_of_history}
+use Rattle.trace_play.specs.declared.answer.PlayAnswer.{PlayAnswer}
+use Rattle.trace_play.specs.declared.answer.PlayAnswer.TheVariants as answer
+use Rattle.trace_play.specs.declared.fault.LineFault.{LineFault}
+use Rattle.trace_play.specs.Told.{fault_line, told_of_plan, told_of_trace}
+
+-- the history that was played
+abbrev pub history_of : Played → List Entry
+history_of (played.Whole history) = history
+history_of (played.Full history) = history
+
+-- the bytes of an answer
+abbrev pub output_of : PlayAnswer → List ℕ
+output_of (answer.Broken fault) = fault_line fault
+output_of (answer.Played play) = text_of_history (history_of play)
+
+-- the answer can be written
+abbrev pub IsShown : PlayAnswer → Type 0
+IsShown (answer.Broken fault) = Unit {0}
+IsShown (answer.Played play) = All IsPrintable (history_of play)
+
+-- the answer is that fault
+abbrev pub IsBrokenBy : Option LineFault → PlayAnswer → Type 0
+IsBrokenBy fault (answer.Broken found) = fault ≡ Some found
+IsBrokenBy fault (answer.Played play) = ⊥
+
+-- the text has that fault, or it spells a trace that doesn't fit the policy for it
+pub data HasFault (p : Meaning) (text : List ℕ) (fault : LineFault) : Type 0 where
+  no_trace : (found : TraceFault) → IsBroken text found → told_of_trace found ≡ Some fault → HasFault p text fault
+  no_plan : (trace : List Numbered) (found : PlanFault) → SpellsTrace text trace → IsForeign p trace found → told_of_plan found ≡ Some fault → HasFault p text fault
+
+-- the answer is the one that the text gets under the policy
+abbrev pub IsPlayOf : Meaning → List ℕ → PlayAnswer → Type 0
+IsPlayOf p text (answer.Broken fault) = HasFault p text fault
+IsPlayOf p text (answer.Played play) = (trace : List Numbered) × SpellsTrace text trace × ((plan : Plan) × SpellsPlan p trace plan × IsPlayed p plan play)

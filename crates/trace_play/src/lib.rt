@@ -1,0 +1,10 @@
+//! Plays a trace's text under a policy: what it comes to, and how that is written.
+#![tactic(auto)]
+
+mod answer;
+mod fault;
+mod playing;
+
+pub use answer::PlayAnswer;
+pub use fault::{FaultWord, LineFault};
+pub use playing::{PlayMemory, play_text};
