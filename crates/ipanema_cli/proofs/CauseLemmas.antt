@@ -1,114 +1,143 @@
 -- From how a call ends to the cause of its status.
-use Rattle.std.proofs.Common.{◌≡◌, ◌≢◌, ℕ, ◌<◌, inl, inr, List, [], ◌∷◌, Option, Some, None, codes, refl, sym, ◌∙◌, ap, arith, length, Bool, true, false, if◌then◌else◌}
-use Rattle.sched_io.specs.Told.{Told, MayHold, holds}
+use Rattle.std.proofs.Common.{◌≡◌, ◌≢◌, ℕ, ◌<◌, inl, inr, List, [], ◌∷◌, Option, Some, None, refl, sym, ◌∙◌, ap, arith, length, subst, Bool, true, false, if◌then◌else◌}
+use Rattle.sched_io.specs.Told.{Told, holds}
 use Rattle.sched_io.specs.Written.{Adds}
 use Rattle.count_filter.specs.Judged.{all_hold}
-use Rattle.ipanema_cli.specs.CheckAnswer.{IsCheckOf, output_of, status_of}
-use Rattle.ipanema_cli.specs.Command.{Asked, check}
-use Rattle.ipanema_cli.specs.Ends.{Writes, answered, unread, no_memory, Ends}
-use Rattle.ipanema_cli.specs.Promises.{HasCause, OneOf}
+use Rattle.serial_play.specs.declared.rounds.Played.TheVariants as played
+use Rattle.trace_play.specs.declared.answer.PlayAnswer.TheVariants as play_answer
+use Rattle.ipanema_cli.specs.Answers.{AnswersCheck, AnswersPlay, IsAnswer, output_of, status_of}
+use Rattle.ipanema_cli.specs.Command.{Asked, IsFileOf, check, play}
+use Rattle.ipanema_cli.specs.Ends.{Ends, answered, unread, no_memory}
+use Rattle.ipanema_cli.specs.Causes.{HasCause, OneOf}
 use Rattle.ipanema_cli.specs.Status.{code_of}
-use Rattle.ipanema_cli.specs.declared.answers.TheConstants.{POLICY_ROOM}
-use Rattle.ipanema_cli.specs.declared.answers.CheckAnswer.{CheckAnswer}
-use Rattle.ipanema_cli.specs.declared.answers.CheckAnswer.TheVariants as answer
+use Rattle.ipanema_cli.specs.Stops.{IsUnread}
+use Rattle.ipanema_cli.specs.Texts.{MayRead, room_of}
+use Rattle.ipanema_cli.specs.declared.answers.Answer.{Answer}
+use Rattle.ipanema_cli.specs.declared.answers.Answer.TheVariants as answer
+use Rattle.ipanema_cli.specs.declared.checking.CheckAnswer.TheVariants as checked
 use Rattle.ipanema_cli.specs.declared.status.Status.TheVariants as status
-use Rattle.ipanema_cli.proofs.WritesLemmas.{is_0, is_1, is_2, is_10, answer_code, code_among, whole, cut, starved}
+use Rattle.ipanema_cli.specs.declared.texts.TextKind.{TextKind}
+use Rattle.ipanema_cli.specs.declared.texts.TextKind.TheVariants as kind
+use Rattle.ipanema_cli.proofs.WritesLemmas.{is_0, is_1, is_2, is_7, is_8, is_10, answer_code, code_among, cut, no_stop, whole}
 
--- no verdict has the number 10
-verdict_not_10 : (b : Bool) → code_of (if b then status.Done else status.Refused) ≡ 10 → ⊥
-verdict_not_10 true e = omega arith
-verdict_not_10 false e = omega arith
+-- a verdict has none but the numbers 0 and 1
+pub verdict_low : (b : Bool) → code_of (if b then status.Done else status.Refused) < 2
+verdict_low true = omega arith
+verdict_low false = omega arith
 
-known_code : (a : CheckAnswer) → OneOf (0 ∷ 1 ∷ 2 ∷ 4 ∷ 5 ∷ 6 ∷ 7 ∷ 10 ∷ []) (code_of (status_of a))
-known_code a = elim (answer_code a) [ is_0 h ↦ rw h refl | is_1 h ↦ rw h refl | is_2 h ↦ rw h refl | is_10 h ↦ rw h refl ]
+known_code : (a : Answer) → OneOf (0 ∷ 1 ∷ 2 ∷ 4 ∷ 5 ∷ 6 ∷ 7 ∷ 8 ∷ 10 ∷ []) (code_of (status_of a))
+known_code a = elim (answer_code a) [ is_0 h ↦ rw h refl | is_1 h ↦ rw h refl | is_2 h ↦ rw h refl | is_7 h ↦ rw h refl | is_8 h ↦ rw h refl | is_10 h ↦ rw h refl ]
 
--- words that are no command
-nothing_asked : (told : List ℕ → Told) (read_fault write_fault : Type 0) (before after : Option (List ℕ)) (code : ℕ) → Writes (codes "bad words\n") status.BadWords write_fault before after code → HasCause None told read_fault write_fault before after code
-nothing_asked told read_fault write_fault before after code writes =
-    let among = code_among _ _ _ _ _ _ writes in
-    record {
-      known = elim among [ inl e ↦ rw e refl | inr (inl e) ↦ rw e refl | inr (inr e) ↦ rw e refl ];
-      unread = λ h. absurd (elim among [ inl e ↦ omega arith | inr (inl e) ↦ omega arith | inr (inr e) ↦ omega arith ]);
-      unwritten = λ h. let stop = cut _ _ _ _ _ _ writes (λ e. omega arith) h in (stop.0, (codes "bad words\n", refl, stop.1));
-      no_memory = λ h. inr (codes "bad words\n", refl, starved _ _ _ _ _ _ writes (λ e. omega arith) h);
-      bad_words = λ h. (refl, whole _ _ _ _ _ _ writes (λ e. omega arith) (λ e. omega arith));
-      no_command = λ _. elim among [ inl e ↦ rw e refl | inr (inl e) ↦ rw e refl | inr (inr e) ↦ rw e refl ];
-      too_long = λ h. absurd (elim among [ inl e ↦ omega arith | inr (inl e) ↦ omega arith | inr (inr e) ↦ omega arith ]);
-      past_limit = λ policy text e. absurd (let clash : ⊥ = cc in clash);
-    }
+-- the number 7 is that of one answer
+seven : (a : Answer) → code_of (status_of a) ≡ 7 → a ≡ answer.BadWords
+seven (answer.Checked (checked.Judged policy balance)) e = absurd (omega (arith, verdict_low (all_hold balance)))
+seven (answer.Checked (checked.Faulty fault)) e = absurd (omega arith)
+seven (answer.Checked checked.NotBuilt) e = absurd (omega arith)
+seven (answer.Played (play_answer.Broken fault)) e = absurd (omega arith)
+seven (answer.Played (play_answer.Played (played.Whole history))) e = absurd (omega arith)
+seven (answer.Played (play_answer.Played (played.Full history))) e = absurd (omega arith)
+seven (answer.TooLong which) e = absurd (omega arith)
+seven answer.BadWords e = refl
 
--- an answer with the number 10 says that the text is too long
-too_long_answer : (text : List ℕ) (a : CheckAnswer) (before after : Option (List ℕ)) → code_of (status_of a) ≡ 10 → IsCheckOf text a → Adds (output_of a) before after → (POLICY_ROOM < length text) × Adds (codes "too-long policy\n") before after
-too_long_answer text (answer.Judged balance) before after e is_check added = absurd (verdict_not_10 (all_hold balance) e)
-too_long_answer text (answer.Faulty fault) before after e is_check added = absurd (omega arith)
-too_long_answer text answer.NotBuilt before after e is_check added = absurd (omega arith)
-too_long_answer text answer.TooLong before after e is_check added = (is_check, added)
+-- and so is 10, but for the text
+ten : (a : Answer) → code_of (status_of a) ≡ 10 → (which : TextKind) × (a ≡ answer.TooLong which)
+ten (answer.Checked (checked.Judged policy balance)) e = absurd (omega (arith, verdict_low (all_hold balance)))
+ten (answer.Checked (checked.Faulty fault)) e = absurd (omega arith)
+ten (answer.Checked checked.NotBuilt) e = absurd (omega arith)
+ten (answer.Played (play_answer.Broken fault)) e = absurd (omega arith)
+ten (answer.Played (play_answer.Played (played.Whole history))) e = absurd (omega arith)
+ten (answer.Played (play_answer.Played (played.Full history))) e = absurd (omega arith)
+ten (answer.TooLong which) e = (which, refl)
+ten answer.BadWords e = absurd (omega arith)
 
--- and a text that is too long has no other
-long_text_code : (text : List ℕ) (a : CheckAnswer) → IsCheckOf text a → POLICY_ROOM < length text → code_of (status_of a) ≡ 10
-long_text_code text (answer.Judged balance) is_check long = absurd (omega (arith, is_check.1))
-long_text_code text (answer.Faulty fault) is_check long = absurd (omega (arith, is_check.0))
-long_text_code text answer.NotBuilt is_check long = absurd (omega (arith, is_check.1))
-long_text_code text answer.TooLong is_check long = refl
+-- no command has that answer
+for_no_command : (asked : Option Asked) (told : List ℕ → Told) → IsAnswer asked told answer.BadWords → asked ≡ None
+for_no_command None told is = refl
+for_no_command (Some (check policy)) told is = absurd is
+for_no_command (Some (play policy trace)) told is = absurd is
 
--- the number of an answer is none of those of a stop
-no_stop : (a : CheckAnswer) → (code_of (status_of a) ≢ 4) × (code_of (status_of a) ≢ 5) × (code_of (status_of a) ≢ 6) × (code_of (status_of a) ≢ 7)
-no_stop a = elim (answer_code a) [
-  | is_0 h ↦ ((λ e. omega arith), (λ e. omega arith), (λ e. omega arith), (λ e. omega arith))
-  | is_1 h ↦ ((λ e. omega arith), (λ e. omega arith), (λ e. omega arith), (λ e. omega arith))
-  | is_2 h ↦ ((λ e. omega arith), (λ e. omega arith), (λ e. omega arith), (λ e. omega arith))
-  | is_10 h ↦ ((λ e. omega arith), (λ e. omega arith), (λ e. omega arith), (λ e. omega arith))
-]
+-- and words that are no command have no other
+no_command_code : (told : List ℕ → Told) (a : Answer) → IsAnswer None told a → code_of (status_of a) ≡ 7
+no_command_code told (answer.Checked checked) is = absurd is
+no_command_code told (answer.Played outcome) is = absurd is
+no_command_code told (answer.TooLong which) is = absurd is
+no_command_code told answer.BadWords is = refl
 
--- a text that the command's file may hold, and its answer
-text_answered : (policy : List ℕ) (told : List ℕ → Told) (read_fault write_fault : Type 0) (before after : Option (List ℕ)) (code : ℕ) (text : List ℕ) (a : CheckAnswer) → MayHold (told policy) text → IsCheckOf text a → Writes (output_of a) (status_of a) write_fault before after code → HasCause (Some (check policy)) told read_fault write_fault before after code
-text_answered policy told read_fault write_fault before after code text a may is_check writes =
-    let among = code_among _ _ _ _ _ _ writes in
-    let stop = no_stop a in
-    record {
-      known = elim among [ inl e ↦ rw e (known_code a) | inr (inl e) ↦ rw e refl | inr (inr e) ↦ rw e refl ];
-      unread = λ h. absurd (elim among [ inl e ↦ stop.0 (sym e ∙ h) | inr (inl e) ↦ omega arith | inr (inr e) ↦ omega arith ]);
-      unwritten = λ h. let found = cut _ _ _ _ _ _ writes stop.1 h in
-          (found.0, (output_of a, (text, a, may, is_check, refl), found.1));
-      no_memory = λ h. inr (output_of a, (text, a, may, is_check, refl), starved _ _ _ _ _ _ writes stop.2 h);
-      bad_words = λ h. absurd (elim among [ inl e ↦ stop.3 (sym e ∙ h) | inr (inl e) ↦ omega arith | inr (inr e) ↦ omega arith ]);
-      no_command = λ e. absurd (let clash : ⊥ = cc in clash);
-      too_long = λ h.
-          let is_10 : code_of (status_of a) ≡ 10 = elim among [ inl e ↦ sym e ∙ h | inr (inl e) ↦ absurd (omega arith) | inr (inr e) ↦ absurd (omega arith) ] in
-          let found = too_long_answer text a before after is_10 is_check (whole _ _ _ _ _ _ writes (λ e. omega arith) (λ e. omega arith)) in
-          (policy, text, refl, may, found.0, found.1);
-      past_limit = λ other held e tells long.
-          let same : policy ≡ other = cc in
-          let told_so : told policy ≡ holds held = ap told same ∙ tells in
-          let is_text : text ≡ held = may.same held told_so in
-          elim among [
-            | inl e ↦ rw (e, long_text_code text a is_check (rw is_text long)) refl
-            | inr (inl e) ↦ rw e refl
-            | inr (inr e) ↦ rw e refl
-          ];
-    }
+-- a text that a file holds, and that is too long, isn't read
+pub not_read : (which : TextKind) (told : Told) (text held : List ℕ) → MayRead which told text → told ≡ holds held → room_of which < length held → ⊥
+not_read which told text held read tells long =
+    let same = read.held.same held tells in omega (arith, read.short, ap length same)
+
+-- so where a file is too long, the answer says that one is
+long_for_check : (policy : Told) (a : Answer) (held : List ℕ) → AnswersCheck policy a → policy ≡ holds held → room_of kind.Policy < length held → code_of (status_of a) ≡ 10
+long_for_check policy (answer.Checked checked) held (text, read, is) tells long = absurd (not_read kind.Policy policy text held read tells long)
+long_for_check policy (answer.Played outcome) held is tells long = absurd is
+long_for_check policy (answer.TooLong which) held is tells long = refl
+long_for_check policy answer.BadWords held is tells long = absurd is
+
+long_for_play : (policy trace : Told) (a : Answer) (held : List ℕ) → AnswersPlay policy trace a → policy ≡ holds held → room_of kind.Policy < length held → code_of (status_of a) ≡ 10
+long_for_play policy trace (answer.Checked checked) held is tells long = absurd (not_read kind.Policy policy is.text held is.policy_read tells long)
+long_for_play policy trace (answer.Played outcome) held is tells long = absurd (not_read kind.Policy policy is.text held is.policy_read tells long)
+long_for_play policy trace (answer.TooLong which) held is tells long = refl
+long_for_play policy trace answer.BadWords held is tells long = absurd is
+
+long_trace_for_play : (policy trace : Told) (a : Answer) (held : List ℕ) → AnswersPlay policy trace a → trace ≡ holds held → room_of kind.Trace < length held → code_of (status_of a) ≡ 10
+long_trace_for_play policy trace (answer.Checked checked) held is tells long = absurd (not_read kind.Trace trace is.jobs held is.trace_read tells long)
+long_trace_for_play policy trace (answer.Played outcome) held is tells long = absurd (not_read kind.Trace trace is.jobs held is.trace_read tells long)
+long_trace_for_play policy trace (answer.TooLong which) held is tells long = refl
+long_trace_for_play policy trace answer.BadWords held is tells long = absurd is
+
+long_file : (asked : Option Asked) (told : List ℕ → Told) (a : Answer) (which : TextKind) (name held : List ℕ) → IsAnswer asked told a → IsFileOf asked which name → told name ≡ holds held → room_of which < length held → code_of (status_of a) ≡ 10
+long_file None told a which name held is file tells long = absurd file
+long_file (Some (check policy)) told a kind.Policy name held is file tells long = long_for_check (told policy) a held is (sym (ap told file) ∙ tells) long
+long_file (Some (check policy)) told a kind.Trace name held is file tells long = absurd file
+long_file (Some (play policy trace)) told a kind.Policy name held is file tells long = long_for_play (told policy) (told trace) a held is (sym (ap told file) ∙ tells) long
+long_file (Some (play policy trace)) told a kind.Trace name held is file tells long = long_trace_for_play (told policy) (told trace) a held is (sym (ap told file) ∙ tells) long
 
 pub causes : (asked : Option Asked) (told : List ℕ → Told) (read_fault write_fault : Type 0) (before after : Option (List ℕ)) (code : ℕ) → Ends asked told read_fault write_fault before after code → HasCause asked told read_fault write_fault before after code
-causes None told read_fault write_fault before after code ends = nothing_asked told read_fault write_fault before after code ends
-causes (Some (check policy)) told read_fault write_fault before after code (answered text a may is_check writes) =
-    text_answered policy told read_fault write_fault before after code text a may is_check writes
-causes (Some (check policy)) told read_fault write_fault before after code (unread e cause added) = record {
+causes asked told read_fault write_fault before after code (answered a is writes) =
+    let among = code_among _ _ _ _ _ _ writes in
+    let stop = no_stop a in
+    let own : (n : ℕ) → n ≢ 5 → code ≡ n → code_of (status_of a) ≡ n = λ n other h. elim among [ inl e ↦ sym e ∙ h | inr e ↦ absurd (other (sym h ∙ e)) ] in
+    record {
+      known = elim among [ inl e ↦ rw e (known_code a) | inr e ↦ rw e refl ];
+      unread = λ h. absurd (stop.0 (own 4 (λ e. omega arith) h));
+      unwritten = λ h. let found = cut _ _ _ _ _ _ writes stop.1 h in (found.0, (a, is, found.1));
+      no_memory = λ h. absurd (stop.2 (own 6 (λ e. omega arith) h));
+      bad_words = λ h.
+          let same = seven a (own 7 (λ e. omega arith) h) in
+          let added = whole _ _ _ _ _ _ writes (λ e. omega arith) in
+          (for_no_command asked told (subst (IsAnswer asked told) same is), subst (λ (x : Answer). Adds (output_of x) before after) same added);
+      no_command = λ none. elim among [
+        | inl e ↦ rw (e, no_command_code told a (subst (λ (x : Option Asked). IsAnswer x told a) none is)) refl
+        | inr e ↦ rw e refl
+      ];
+      too_long = λ h.
+          let found = ten a (own 10 (λ e. omega arith) h) in
+          let added = whole _ _ _ _ _ _ writes (λ e. omega arith) in
+          (found.0, subst (IsAnswer asked told) found.1 is, subst (λ (x : Answer). Adds (output_of x) before after) found.1 added);
+      past_limit = λ which name held file tells long. elim among [
+        | inl f ↦ rw (f, long_file asked told a which name held is file tells long) refl
+        | inr f ↦ rw f refl
+      ];
+    }
+causes asked told read_fault write_fault before after code (unread e cause added) = record {
   known = rw e refl;
-  unread = λ h. (policy, refl, cause, added);
+  unread = λ h. (cause, added);
   unwritten = λ h. absurd (omega arith);
   no_memory = λ h. absurd (omega arith);
   bad_words = λ h. absurd (omega arith);
-  no_command = λ h. absurd (let clash : ⊥ = cc in clash);
+  no_command = λ none. absurd (subst (λ (x : Option Asked). IsUnread x told read_fault) none cause);
   too_long = λ h. absurd (omega arith);
-  past_limit = λ other held same tells long. rw e refl;
+  past_limit = λ which name held file tells long. rw e refl;
 }
-causes (Some (check policy)) told read_fault write_fault before after code (no_memory e added) = record {
+causes asked told read_fault write_fault before after code (no_memory e added) = record {
   known = rw e refl;
   unread = λ h. absurd (omega arith);
   unwritten = λ h. absurd (omega arith);
-  no_memory = λ h. inl added;
+  no_memory = λ h. added;
   bad_words = λ h. absurd (omega arith);
-  no_command = λ h. absurd (let clash : ⊥ = cc in clash);
+  no_command = λ none. rw e refl;
   too_long = λ h. absurd (omega arith);
-  past_limit = λ other held same tells long. rw e refl;
+  past_limit = λ which name held file tells long. rw e refl;
 }

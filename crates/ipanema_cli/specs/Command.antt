@@ -1,16 +1,29 @@
 -- What the words of a call ask for.
-use Rattle.std.specs.Prelude.{ℕ, ◌&&◌, List, [], ◌∷◌, Bool, false, not, Option, Some, None, codes, eqb, if◌then◌else◌, String, map, string_bytes}
+use Rattle.std.specs.Prelude.{◌≡◌, ℕ, ◌&&◌, List, [], ◌∷◌, Bool, false, not, Option, Some, None, codes, eqb, if◌then◌else◌, String, map, string_bytes}
 use Rattle.std.specs.Str.{bytes_eq}
+use Rattle.ipanema_cli.specs.declared.texts.TextKind.{TextKind}
+use Rattle.ipanema_cli.specs.declared.texts.TextKind.TheVariants as kind
 
 -- a command with its words
 pub data Asked : Type 0 where
   -- to check the policy in this file
   check : (policy : List ℕ) → Asked
+  -- to play the trace in one file under the policy in the other
+  play : (policy trace : List ℕ) → Asked
 
--- how many files a command loads at most
-abbrev pub loads_of : Option Asked → ℕ
-loads_of None = 0
-loads_of (Some (check policy)) = 1
+-- the texts that a command loads
+abbrev pub texts_of : Option Asked → List TextKind
+texts_of None = []
+texts_of (Some (check policy)) = kind.Policy ∷ []
+texts_of (Some (play policy trace)) = kind.Policy ∷ kind.Trace ∷ []
+
+-- the command loads such a text from the file of that name
+abbrev pub IsFileOf : Option Asked → TextKind → List ℕ → Type 0
+IsFileOf None which name = ⊥
+IsFileOf (Some (check policy)) kind.Policy name = name ≡ policy
+IsFileOf (Some (check policy)) kind.Trace name = ⊥
+IsFileOf (Some (play policy trace)) kind.Policy name = name ≡ policy
+IsFileOf (Some (play policy trace)) kind.Trace name = name ≡ trace
 
 -- a word that may name something: not empty, and no option
 abbrev pub is_plain : List ℕ → Bool
@@ -22,7 +35,9 @@ abbrev pub asked_by : List (List ℕ) → Option Asked
 asked_by [] = None
 asked_by (verb ∷ []) = None
 asked_by (verb ∷ policy ∷ []) = if bytes_eq verb (codes "check") && is_plain policy then Some (check policy) else None
-asked_by (verb ∷ policy ∷ more ∷ words) = None
+asked_by (verb ∷ policy ∷ trace ∷ []) =
+    if bytes_eq verb (codes "play") && is_plain policy && is_plain trace then Some (play policy trace) else None
+asked_by (verb ∷ policy ∷ trace ∷ more ∷ words) = None
 
 -- the bytes of each word
 abbrev pub words_of : {A : Type 0} → List (String A) → List (List ℕ)

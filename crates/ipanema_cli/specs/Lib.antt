@@ -1,6 +1,10 @@
+pub mod Answers
 pub mod Asks
+pub mod Causes
 pub mod CheckAnswer
 pub mod Command
 pub mod Ends
-pub mod Promises
 pub mod Status
+pub mod Stops
+pub mod Texts
+pub mod Truths

@@ -11,4 +11,5 @@ code_of status.ReadFault = 4
 code_of status.WriteFault = 5
 code_of status.Memory = 6
 code_of status.BadWords = 7
+code_of status.HistoryFull = 8
 code_of status.TooMuch = 10

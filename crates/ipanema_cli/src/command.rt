@@ -8,6 +8,8 @@ ghost use Rattle.ipanema_cli.specs.Command.{asked_by, is_plain, words_of};
 pub enum Request<'a> {
     /// To check the policy in this file.
     Check { policy: &'a str },
+    /// To play the trace in one file under the policy in the other.
+    Play { policy: &'a str, trace: &'a str },
     /// Nothing: they are no command.
     Unknown,
 }
@@ -20,6 +22,13 @@ pub fn request_of(words: &[String]) -> Request<'_>
         [verb, policy] if verb.as_str() == "check" && is_plain(policy.as_str()) => Request::Check {
             policy: policy.as_str(),
         },
+        [verb, policy, trace]
+            if verb.as_str() == "play" && is_plain(policy.as_str()) && is_plain(trace.as_str()) => {
+            Request::Play {
+                policy: policy.as_str(),
+                trace: trace.as_str(),
+            }
+        }
         _ => Request::Unknown,
     }
 }

@@ -1,14 +1,19 @@
-//! The program `ipanema`: it checks scheduling policies.
+//! The program `ipanema`: it checks scheduling policies, and plays traces of jobs under them.
 #![tactic(auto)]
 
 mod answers;
+mod checking;
 mod command;
 #[cfg(test)]
-mod gallery;
+mod gallery_tests;
+#[cfg(test)]
+mod play_tests;
 mod serial;
 mod status;
+mod stop;
 #[cfg(test)]
 mod tests;
+mod texts;
 mod top;
 
 use crate::status::Status;

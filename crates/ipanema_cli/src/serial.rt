@@ -1,23 +1,27 @@
 //! The commands that one thread carries out.
 
-ghost use Rattle.std.specs.Prelude.{◌≡◌, ◌≢◌, ◌+◌, ◌≤◌, Some, codes, slice_get};
+ghost use Rattle.std.specs.Prelude.{◌≡◌, ◌≢◌, ◌+◌, ◌≤◌, ◌⊎◌, Some, IfErr, IfOk, IsErrOf, codes, length, slice_get, sum_by};
 ghost use Rattle.sched_io.specs.Faults.{Rose};
-ghost use Rattle.ipanema_cli.specs.CheckAnswer.{output_of, status_of};
-ghost use Rattle.ipanema_cli.specs.Command.{asked_by, loads_of, words_of};
-ghost use Rattle.ipanema_cli.specs.Ends.{Checks, Ends, Writes};
-ghost use Rattle.ipanema_cli.specs.Promises.{HasCause, IsTruthful};
-ghost use Rattle.ipanema_cli.specs.declared.status.Status.TheVariants as status;
+ghost use Rattle.ipanema_cli.specs.Answers.{AnswersCheck, AnswersPlay, CanBePut, IsAnswer, output_of, status_of};
+ghost use Rattle.ipanema_cli.specs.Command.{asked_by, check, play, texts_of, words_of};
+ghost use Rattle.ipanema_cli.specs.Ends.{Ends, Writes};
+ghost use Rattle.ipanema_cli.specs.Causes.{HasCause};
+ghost use Rattle.ipanema_cli.specs.Stops.{IsStop};
+ghost use Rattle.ipanema_cli.specs.Texts.{room_of};
+ghost use Rattle.ipanema_cli.specs.Truths.{IsTruthful};
 
-use crate::answers::{CheckAnswer, POLICY_ROOM, check_text};
+use crate::answers::{Answer, play_texts};
+use crate::checking::check_text;
 use crate::command::{Request, request_of};
 use crate::status::Status;
-use count_filter::JudgeMemory;
-use sched_io::{Files, LoadFault, PutFault, Sink, put_all};
+use crate::stop::Stop;
+use crate::texts::{TextKind, load};
+use sched_io::{Files, PutFault, Sink};
 use std::alloc::Global;
 
 /// Carries out a command that needs no second thread, and answers its status.
 ///
-/// The words are those of the call without the program's name. It ends by itself.
+/// The words are those of the call without the program's name. It has no runtime, so it waits for nobody.
 pub fn serial_command<F: Files, S: Sink>(
     alloc: Global,
     words: &Vec<String>,
@@ -33,7 +37,10 @@ pub fn serial_command<F: Files, S: Sink>(
         (S.written out.old) (S.written out.new) result }
     ensures truthful { IsTruthful (asked_by (words_of words.now.items)) (F.told files.old)
         (S.written out.old) (S.written out.new) result }
-    ensures loads { F.loads files.new ≤ F.loads files.old + loads_of (asked_by (words_of words.now.items)) }
+    ensures loads { F.loads files.new ≤ F.loads files.old + length (texts_of (asked_by (words_of words.now.items))) }
+    ensures room { F.room files.new ≤ F.room files.old + sum_by room_of (texts_of (asked_by (words_of words.now.items))) }
+    ensures calm { (result ≡ 4) ⊎ (F.faults files.new ≡ F.faults files.old) }
+    ensures quiet { (result ≡ 5) ⊎ (S.faults out.new ≡ S.faults out.old) }
 {
     carry_out(alloc, words.as_slice(), files, out)
 }
@@ -43,47 +50,71 @@ fn carry_out<F: Files, S: Sink>(alloc: Global, words: &[String], files: &mut F, 
     ensures ends { Ends (asked_by (words_of words.now)) (F.told files.old)
         (Rose (F.faults files.old) (F.faults files.new)) (Rose (S.faults out.old) (S.faults out.new))
         (S.written out.old) (S.written out.new) result }
-    ensures loads { F.loads files.new ≤ F.loads files.old + loads_of (asked_by (words_of words.now)) }
+    ensures loads { F.loads files.new ≤ F.loads files.old + length (texts_of (asked_by (words_of words.now))) }
+    ensures room { F.room files.new ≤ F.room files.old + sum_by room_of (texts_of (asked_by (words_of words.now))) }
+    ensures calm { (result ≡ 4) ⊎ (F.faults files.new ≡ F.faults files.old) }
+    ensures quiet { (result ≡ 5) ⊎ (S.faults out.new ≡ S.faults out.old) }
+{
+    match answer_to(alloc, words, files) {
+        Ok(answer) => give(&answer, out),
+        Err(Stop::TooLong(kind)) => give(&Answer::TooLong(kind), out),
+        Err(Stop::Unread) => Status::ReadFault.code(),
+        Err(Stop::Memory) => Status::Memory.code(),
+    }
+}
+
+/// The answer to what the words ask for.
+fn answer_to<F: Files>(alloc: Global, words: &[String], files: &mut F) -> Result<Answer, Stop>
+    ensures answer { IfOk result (IsAnswer (asked_by (words_of words.now)) (F.told files.old)) }
+    ensures shown { IfOk result CanBePut }
+    ensures stop { IfErr result (IsStop (asked_by (words_of words.now)) (F.told files.old)
+        (Rose (F.faults files.old) (F.faults files.new))) }
+    ensures loads { F.loads files.new ≤ F.loads files.old + length (texts_of (asked_by (words_of words.now))) }
+    ensures room { F.room files.new ≤ F.room files.old + sum_by room_of (texts_of (asked_by (words_of words.now))) }
+    ensures calm { IsErrOf result Stop.Unread ⊎ (F.faults files.new ≡ F.faults files.old) }
 {
     match request_of(words) {
-        Request::Check { policy } => check(alloc, policy, files, out),
-        Request::Unknown => bad_words(out),
+        Request::Check { policy } => check(alloc, policy, files),
+        Request::Play { policy, trace } => play(alloc, policy, trace, files),
+        Request::Unknown => Ok(Answer::BadWords),
     }
 }
 
-/// Says that the words are no command.
-pub fn bad_words<S: Sink>(out: &mut S) -> u8
-    ensures { Writes (codes "bad words\n") status.BadWords (Rose (S.faults out.old) (S.faults out.new))
-        (S.written out.old) (S.written out.new) result }
+/// The answer of `check` to the policy in that file.
+fn check<F: Files>(alloc: Global, policy: &str, files: &mut F) -> Result<Answer, Stop>
+    ensures answer { IfOk result (AnswersCheck (F.told files.old policy.now)) }
+    ensures shown { IfOk result CanBePut }
+    ensures stop { IfErr result (IsStop (Some (check policy.now)) (F.told files.old)
+        (Rose (F.faults files.old) (F.faults files.new))) }
+    ensures loads { F.loads files.new ≤ F.loads files.old + 1 }
+    ensures room { F.room files.new ≤ F.room files.old + room_of TextKind.Policy }
+    ensures calm { IsErrOf result Stop.Unread ⊎ (F.faults files.new ≡ F.faults files.old) }
 {
-    match put_all(out, b"bad words\n") {
-        Ok(()) => Status::BadWords.code(),
-        Err(_) => Status::WriteFault.code(),
-    }
+    let text = load(alloc, files, policy, TextKind::Policy)?;
+    Ok(Answer::Checked(check_text(alloc, text.as_slice())?))
 }
 
-/// Checks the policy in that file.
-fn check<F: Files, S: Sink>(alloc: Global, policy: &str, files: &mut F, out: &mut S) -> u8
-    ensures ends { Checks (F.told files.old policy.now)
-        (Rose (F.faults files.old) (F.faults files.new)) (Rose (S.faults out.old) (S.faults out.new))
-        (S.written out.old) (S.written out.new) result }
-    ensures once { F.loads files.new ≤ F.loads files.old + 1 }
+/// The answer of `play` to the trace in one file under the policy in the other.
+fn play<F: Files>(alloc: Global, policy: &str, trace: &str, files: &mut F) -> Result<Answer, Stop>
+    ensures answer { IfOk result (AnswersPlay (F.told files.old policy.now) (F.told files.old trace.now)) }
+    ensures shown { IfOk result CanBePut }
+    ensures stop { IfErr result (IsStop (Some (play policy.now trace.now)) (F.told files.old)
+        (Rose (F.faults files.old) (F.faults files.new))) }
+    ensures loads { F.loads files.new ≤ F.loads files.old + 2 }
+    ensures room { F.room files.new ≤ F.room files.old + (room_of TextKind.Policy + room_of TextKind.Trace) }
+    ensures calm { IsErrOf result Stop.Unread ⊎ (F.faults files.new ≡ F.faults files.old) }
 {
-    match files.load(alloc, policy, POLICY_ROOM) {
-        Ok(text) => match check_text(alloc, text.as_slice()) {
-            Ok(answer) => give(&answer, out),
-            Err(JudgeMemory::Memory) => Status::Memory.code(),
-        },
-        Err(LoadFault::TooLong) => give(&CheckAnswer::TooLong, out),
-        Err(LoadFault::Failed) => Status::ReadFault.code(),
-        Err(LoadFault::Memory) => Status::Memory.code(),
-    }
+    let policy_text = load(alloc, files, policy, TextKind::Policy)?;
+    let trace_text = load(alloc, files, trace, TextKind::Trace)?;
+    play_texts(alloc, policy_text.as_slice(), trace_text.as_slice())
 }
 
 /// Writes an answer, and gives its status.
-fn give<S: Sink>(answer: &CheckAnswer, out: &mut S) -> u8
-    ensures { Writes (output_of answer.now) (status_of answer.now) (Rose (S.faults out.old) (S.faults out.new))
+pub fn give<S: Sink>(answer: &Answer, out: &mut S) -> u8
+    requires { CanBePut answer.now }
+    ensures writes { Writes (output_of answer.now) (status_of answer.now) (Rose (S.faults out.old) (S.faults out.new))
         (S.written out.old) (S.written out.new) result }
+    ensures quiet { (result ≡ 5) ⊎ (S.faults out.new ≡ S.faults out.old) }
 {
     match answer.put(out) {
         Ok(()) => answer.status().code(),

@@ -8,9 +8,9 @@ ghost use Rattle.ipanema_cli.specs.Status.{code_of};
 pub enum Status {
     /// What was asked for was written whole.
     Done,
-    /// An obligation of the policy is false.
+    /// An obligation of the policy fails.
     Refused,
-    /// A text isn't one of the language.
+    /// A text has a fault, or is a policy that isn't judged so far.
     BadText,
     /// A file wasn't read.
     ReadFault,
@@ -20,6 +20,8 @@ pub enum Status {
     Memory,
     /// The words are no command.
     BadWords,
+    /// A round is due that the trace's limit of entries may have no room for.
+    HistoryFull,
     /// A file is longer than its limit.
     TooMuch,
 }
@@ -37,6 +39,7 @@ impl Status {
             Status::WriteFault => 5,
             Status::Memory => 6,
             Status::BadWords => 7,
+            Status::HistoryFull => 8,
             Status::TooMuch => 10,
         }
     }

@@ -8,14 +8,14 @@ use std::test::Fail;
 use std::thread::Threads;
 
 /// The text of a policy of the first form with that numeral.
-fn policy(alloc: Global, numeral: &str) -> Result<String, Fail> {
+pub(crate) fn policy(alloc: Global, numeral: &str) -> Result<String, Fail> {
     Ok(format!(in alloc;
         "policy basic\nload count\nfilter victim.nr - self.nr >= {numeral}\nchoose first\nsteal first\n"
     )?)
 }
 
 /// What `check` writes where these balance obligations hold.
-fn lines(alloc: Global, balance: [bool; 3]) -> Result<String, Fail> {
+pub(crate) fn lines(alloc: Global, balance: [bool; 3]) -> Result<String, Fail> {
     let mut out = String::new(alloc);
     let names = [
         "B1",
@@ -43,33 +43,64 @@ fn lines(alloc: Global, balance: [bool; 3]) -> Result<String, Fail> {
     Ok(out)
 }
 
-/// A call with these words over the file `p` with that text, where these loads and puts fail: its status, and what it
-/// wrote.
-fn call<R: Threads + Wait + Sync>(
+/// What a call is over: files, each a name and its bytes, and which loads and puts fail.
+#[derive(Clone, Copy)]
+pub(crate) struct Outside<'a> {
+    pub(crate) files: &'a [(&'a str, &'a [u8])],
+    pub(crate) loads: &'a [u64],
+    pub(crate) puts: &'a [u64],
+}
+
+/// A call with these words: its status, and what it wrote.
+pub(crate) fn call<R: Threads + Wait + Sync>(
     rt: &R,
     alloc: Global,
     words: &[&str],
-    text: &[u8],
-    loads: &[u64],
-    puts: &[u64],
+    outside: &Outside,
 ) -> Result<(u8, Vec<u8>), Fail> {
     let mut list = Vec::new(alloc);
     for word in words {
         list.push(String::from_str(alloc, word)?)?;
     }
     let mut held = Vec::new(alloc);
-    held.push((String::from_str(alloc, "p")?, text.to_vec(alloc)?))?;
-    let mut files = MemoryFiles::new(alloc, held, loads.to_vec(alloc)?);
-    let mut out = MemorySink::new(alloc, 4096, puts.to_vec(alloc)?)?;
+    for (name, text) in outside.files {
+        held.push((String::from_str(alloc, name)?, text.to_vec(alloc)?))?;
+    }
+    let mut files = MemoryFiles::new(alloc, held, outside.loads.to_vec(alloc)?);
+    let mut out = MemorySink::new(alloc, 262_144, outside.puts.to_vec(alloc)?)?;
     let status = ipanema(rt, alloc, &list, &mut files, &mut out, &OpenGate);
     Ok((status, out.bytes().to_vec(alloc)?))
+}
+
+/// The first lines of a text, so many.
+pub(crate) fn first_lines(alloc: Global, text: &str, count: usize) -> Result<Vec<u8>, Fail> {
+    let mut front = Vec::new(alloc);
+    for line in text.lines().take(count) {
+        front.extend_from_slice(line.as_bytes())?;
+        front.push(b'\n')?;
+    }
+    Ok(front)
+}
+
+/// `check` of the file `p` with that text: the status, and what is written.
+pub(crate) fn check<R: Threads + Wait + Sync>(
+    rt: &R,
+    alloc: Global,
+    text: &[u8],
+) -> Result<(u8, Vec<u8>), Fail> {
+    let outside = Outside {
+        files: &[("p", text)],
+        loads: &[],
+        puts: &[],
+    };
+    call(rt, alloc, &["check", "p"], &outside)
 }
 
 #[test]
 fn words_and_texts(rt: HostRuntime) -> Result<(), Fail> {
     let alloc = rt.alloc();
     let basic = policy(alloc, "2")?;
-    let wrong_words: [&[&str]; 10] = [
+    let wrong_words: [&[&str]; 15] = [
         &[],
         &["check"],
         &["check", "p", "p"],
@@ -80,9 +111,19 @@ fn words_and_texts(rt: HostRuntime) -> Result<(), Fail> {
         &[""],
         &["check", "-p"],
         &["run", "p"],
+        &["run", "p", "p"],
+        &["play"],
+        &["play", "p"],
+        &["play", "p", "-p"],
+        &["play", "p", "p", "p"],
     ];
+    let outside = Outside {
+        files: &[("p", basic.as_bytes())],
+        loads: &[],
+        puts: &[],
+    };
     for words in wrong_words {
-        let (status, out) = call(&rt, alloc, words, basic.as_bytes(), &[], &[])?;
+        let (status, out) = call(&rt, alloc, words, &outside)?;
         assert_eq!(rt; status, 7, "at {words:?}");
         assert_eq!(rt; out.as_slice(), b"bad words\n".as_slice(), "at {words:?}");
     }
@@ -96,14 +137,7 @@ fn words_and_texts(rt: HostRuntime) -> Result<(), Fail> {
         ("0", 1, [true, false, false]),
     ];
     for (numeral, status, balance) in thresholds {
-        let answer = call(
-            &rt,
-            alloc,
-            &["check", "p"],
-            policy(alloc, numeral)?.as_bytes(),
-            &[],
-            &[],
-        )?;
+        let answer = check(&rt, alloc, policy(alloc, numeral)?.as_bytes())?;
         assert_eq!(rt; answer.0, status, "at {numeral}");
         assert_eq!(rt;
             answer.1.as_slice(),
@@ -169,7 +203,7 @@ fn texts_of_other_forms(rt: HostRuntime) -> Result<(), Fail> {
         ),
     ];
     for (text, last) in cases {
-        let (status, out) = check(&rt, alloc, text)?;
+        let (status, out) = check(&rt, alloc, text.as_bytes())?;
         let wanted = if last == "accepted\n" { 0 } else { 2 };
         assert_eq!(rt; status, wanted, "at {text:?}");
         assert!(rt; out.as_slice().ends_with(last.as_bytes()), "at {text:?}");
@@ -177,13 +211,20 @@ fn texts_of_other_forms(rt: HostRuntime) -> Result<(), Fail> {
     Ok(())
 }
 
-/// `check` of a file with that text: the status, and what is written.
-pub fn check<R: Threads + Wait + Sync>(
+/// `check` of the file `p` with that text, where these loads and puts fail.
+fn check_over<R: Threads + Wait + Sync>(
     rt: &R,
     alloc: Global,
     text: &str,
+    loads: &[u64],
+    puts: &[u64],
 ) -> Result<(u8, Vec<u8>), Fail> {
-    call(rt, alloc, &["check", "p"], text.as_bytes(), &[], &[])
+    let outside = Outside {
+        files: &[("p", text.as_bytes())],
+        loads,
+        puts,
+    };
+    call(rt, alloc, &["check", "p"], &outside)
 }
 
 #[test]
@@ -192,33 +233,39 @@ fn faults_of_the_outside(rt: HostRuntime) -> Result<(), Fail> {
     let basic = policy(alloc, "2")?;
     let all = lines(alloc, [true; 3])?;
 
-    let missing = call(&rt, alloc, &["check", "q"], basic.as_bytes(), &[], &[])?;
-    assert_eq!(rt; missing.0, 4);
-    assert!(rt; missing.1.is_empty());
-    let failing = call(&rt, alloc, &["check", "p"], basic.as_bytes(), &[0], &[])?;
+    let missing = Outside {
+        files: &[],
+        loads: &[],
+        puts: &[],
+    };
+    let unread = call(&rt, alloc, &["check", "p"], &missing)?;
+    assert_eq!(rt; unread.0, 4);
+    assert!(rt; unread.1.is_empty());
+    let failing = check_over(&rt, alloc, basic.as_str(), &[0], &[])?;
     assert_eq!(rt; failing.0, 4);
     assert!(rt; failing.1.is_empty());
 
     for at in 0..13u64 {
-        let (status, out) = call(&rt, alloc, &["check", "p"], basic.as_bytes(), &[], &[at])?;
-        let mut front = Vec::new(alloc);
-        for line in all.lines().take(at as usize) {
-            front.extend_from_slice(line.as_bytes())?;
-            front.push(b'\n')?;
-        }
+        let (status, out) = check_over(&rt, alloc, basic.as_str(), &[], &[at])?;
+        let front = first_lines(alloc, all.as_str(), at as usize)?;
         assert_eq!(rt; status, if at < 12 { 5 } else { 0 }, "at put {at}");
         assert_eq!(rt; out.as_slice(), front.as_slice(), "at put {at}");
     }
+    let unsaid = check_over(&rt, alloc, "", &[], &[0])?;
+    assert_eq!(rt; unsaid.0, 5);
+    Ok(())
+}
 
+#[test]
+fn longest_texts(rt: HostRuntime) -> Result<(), Fail> {
+    let alloc = rt.alloc();
     let longest = vec![in alloc; b'#'; 65536]?;
-    let (status, out) = call(&rt, alloc, &["check", "p"], longest.as_slice(), &[], &[])?;
+    let (status, out) = check(&rt, alloc, longest.as_slice())?;
     assert_eq!(rt; status, 2);
     assert_eq!(rt; out.as_slice(), b"policy 65536 unexpected\n".as_slice());
     let too_long = vec![in alloc; b'#'; 65537]?;
-    let (status, out) = call(&rt, alloc, &["check", "p"], too_long.as_slice(), &[], &[])?;
+    let (status, out) = check(&rt, alloc, too_long.as_slice())?;
     assert_eq!(rt; status, 10);
     assert_eq!(rt; out.as_slice(), b"too-long policy\n".as_slice());
-    let unsaid = call(&rt, alloc, &["check"], basic.as_bytes(), &[], &[0])?;
-    assert_eq!(rt; unsaid.0, 5);
     Ok(())
 }

@@ -1,12 +1,15 @@
 //! The top call: every command over files, a sink and a gate that are handed in.
 
-ghost use Rattle.std.specs.Prelude.{◌≡◌, ◌+◌, ◌≤◌};
+ghost use Rattle.std.specs.Prelude.{◌≡◌, ◌+◌, ◌≤◌, ◌⊎◌, length, sum_by};
 ghost use Rattle.sched_io.specs.Faults.{Rose};
-ghost use Rattle.ipanema_cli.specs.Command.{asked_by, loads_of, words_of};
+ghost use Rattle.ipanema_cli.specs.Command.{asked_by, texts_of, words_of};
 ghost use Rattle.ipanema_cli.specs.Ends.{Ends};
-ghost use Rattle.ipanema_cli.specs.Promises.{HasCause, IsTruthful};
+ghost use Rattle.ipanema_cli.specs.Causes.{HasCause};
+ghost use Rattle.ipanema_cli.specs.Texts.{room_of};
+ghost use Rattle.ipanema_cli.specs.Truths.{IsTruthful};
 
-use crate::serial::{bad_words, serial_command};
+use crate::answers::Answer;
+use crate::serial::{give, serial_command};
 use sched_io::{Files, Gate, Sink};
 use std::alloc::Global;
 use std::sync::Wait;
@@ -15,7 +18,7 @@ use std::thread::Threads;
 /// Carries out the command that the words are, and answers the status for the shell.
 ///
 /// The words are those of the call without the program's name. Files come from `files`, and output goes to `out`. No
-/// command needs a second thread so far, so the runtime and the gate are there for those to come.
+/// command needs a second thread so far: the runtime and the gate are there for those to come.
 pub fn ipanema<R: Threads + Wait + Sync, F: Files, S: Sink, G: Gate>(
     _rt: &R,
     alloc: Global,
@@ -32,14 +35,18 @@ pub fn ipanema<R: Threads + Wait + Sync, F: Files, S: Sink, G: Gate>(
     ensures causes { HasCause (asked_by (words_of words.now.items)) (F.told files.old)
         (Rose (F.faults files.old) (F.faults files.new)) (Rose (S.faults out.old) (S.faults out.new))
         (S.written out.old) (S.written out.new) result }
-    // What is said of a policy is true.
+    // What is said of a policy and of a trace is true.
     ensures truthful { IsTruthful (asked_by (words_of words.now.items)) (F.told files.old)
         (S.written out.old) (S.written out.new) result }
-    // No file is loaded more often than the command needs.
-    ensures loads { F.loads files.new ≤ F.loads files.old + loads_of (asked_by (words_of words.now.items)) }
+    // No more files are loaded than the command needs, nor with more room than their texts may take.
+    ensures loads { F.loads files.new ≤ F.loads files.old + length (texts_of (asked_by (words_of words.now.items))) }
+    ensures room { F.room files.new ≤ F.room files.old + sum_by room_of (texts_of (asked_by (words_of words.now.items))) }
+    // Where the files' count of faults moves, the call ends with 4, and where the sink's does, with 5.
+    ensures calm { (result ≡ 4) ⊎ (F.faults files.new ≡ F.faults files.old) }
+    ensures quiet { (result ≡ 5) ⊎ (S.faults out.new ≡ S.faults out.old) }
 {
     match words.first() {
-        Some(verb) if verb.as_str() == "run" => bad_words(out),
+        Some(verb) if verb.as_str() == "run" => give(&Answer::BadWords, out),
         _ => serial_command(alloc, words, files, out),
     }
 }

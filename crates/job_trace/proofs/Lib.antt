@@ -1,6 +1,6 @@
 mod FormLemmas
 mod JudgeLemmas
-mod ScanLemmas
+pub mod ScanLemmas
 mod AnswerLemmas
 mod RangeLemmas
 mod StartLemmas

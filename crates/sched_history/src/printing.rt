@@ -16,7 +16,7 @@ pub fn put_history<S: Sink>(out: &mut S, entries: &[Entry]) -> Result<(), PutFau
     ensures whole { OnOk result (Adds (text_of_history entries.now) (S.written out.old) (S.written out.new)) }
     ensures part { OnErr result (AddsPart (text_of_history entries.now) (S.written out.old) (S.written out.new)) }
     ensures failed { OnErr result (Rose (S.faults out.old) (S.faults out.new)) }
-    ensures later { S.faults out.old ≤ S.faults out.new }
+    ensures steady { OnOk result (S.faults out.new ≡ S.faults out.old) }
 {
     for entry in entries {
         let mut line = Line::new();

@@ -3,14 +3,18 @@ use Rattle.std.specs.Prelude.{ℕ}
 use Rattle.sched_io.specs.declared.adapters.DiskFiles.{DiskFiles}
 use Rattle.sched_io.specs.declared.adapters.StdoutSink.{StdoutSink}
 
--- how often the system failed to read
+-- how often a load failed
 abbrev pub disk_faults : {R : Type 0} → DiskFiles R → ℕ
 disk_faults files = files.faults
 
--- how often the system was asked for a file
+-- how often `load` was called
 abbrev pub disk_loads : {R : Type 0} → DiskFiles R → ℕ
 disk_loads files = files.loads
 
--- how often the system failed to write
+-- the limits of these calls, added up
+abbrev pub disk_room : {R : Type 0} → DiskFiles R → ℕ
+disk_room files = files.room
+
+-- how often a put failed
 abbrev pub stdout_faults : {R : Type 0} → StdoutSink R → ℕ
 stdout_faults sink = sink.faults

@@ -16,5 +16,9 @@ failing_of m = m.failing.items
 abbrev pub loads_of : MemoryFiles → ℕ
 loads_of m = m.loads
 
+-- the limits of the loads so far, added up
+abbrev pub room_of : MemoryFiles → ℕ
+room_of m = m.room
+
 abbrev pub faults_of : MemoryFiles → ℕ
 faults_of m = m.faults

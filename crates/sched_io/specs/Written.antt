@@ -1,15 +1,11 @@
 -- What a sink has been given so far, where it tells that.
 use Rattle.std.specs.Prelude.{◌≡◌, ◌≢◌, ℕ, List, [], ◌++◌, Option, Some, None}
 
--- Exactly these bytes were added. A sink that tells its bytes now told them before.
+-- Exactly these bytes were added, where the sink tells its bytes now; it then told them before.
 abbrev pub Adds : List ℕ → Option (List ℕ) → Option (List ℕ) → Type 0
 Adds bytes before None = Unit {0}
 Adds bytes None (Some after) = ⊥
 Adds bytes (Some before) (Some after) = after ≡ before ++ bytes
-
--- A front of these bytes was added, and nothing else.
-abbrev pub AddsPrefix : List ℕ → Option (List ℕ) → Option (List ℕ) → Type 0
-AddsPrefix bytes before after = (front rest : List ℕ) × (bytes ≡ front ++ rest) × Adds front before after
 
 -- A front of these bytes that isn't all of them was added, and nothing else.
 abbrev pub AddsPart : List ℕ → Option (List ℕ) → Option (List ℕ) → Type 0

@@ -3,8 +3,8 @@
 ghost use Rattle.std.specs.Prelude.{◌≡◌, ◌≢◌, ℕ, ◌+◌, ◌<◌, ◌≤◌, ◌⊎◌, List, Contains, IfOk, IsErrOf, MatchOption, length, min, string_bytes, vec_len};
 ghost use Rattle.sched_io.specs.Faults.{Rose};
 ghost use Rattle.sched_io.specs.InMemory.{told_among};
-ghost use Rattle.sched_io.specs.Loads.{one_more};
-ghost use Rattle.sched_io.specs.MemoryFiles.{told_by, faults_of, failing_of, loads_of};
+ghost use Rattle.sched_io.specs.Loads.{more_room, one_more};
+ghost use Rattle.sched_io.specs.MemoryFiles.{told_by, faults_of, failing_of, loads_of, room_of};
 ghost use Rattle.sched_io.specs.Told.{IfHolds, missing, holds};
 
 use crate::faults::LoadFault;
@@ -17,6 +17,7 @@ pub struct MemoryFiles {
     files: Vec<(String, Vec<u8>)>,
     failing: Vec<u64>,
     loads: u64,
+    room: u64,
     faults: u64,
 }
 
@@ -28,12 +29,14 @@ impl MemoryFiles {
             told_by result name ≡ told_among (λ f. string_bytes f.0) (λ f. f.1.items) files.items name }
         ensures failing { failing_of result ≡ failing.items }
         ensures loads { loads_of result ≡ 0 }
+        ensures room { room_of result ≡ 0 }
         ensures faults { faults_of result ≡ 0 }
     {
         MemoryFiles {
             files,
             failing,
             loads: 0,
+            room: 0,
             faults: 0,
         }
     }
@@ -59,6 +62,8 @@ impl Files for MemoryFiles {
 
     ghost loads = { loads_of };
 
+    ghost room = { room_of };
+
     fn load(&mut self, alloc: Global, name: &str, limit: u64) -> Result<Vec<u8>, LoadFault>
         ensures bytes { IfOk result (λ bytes. IfHolds (told_by self.old name.now) (λ held. bytes.items ≡ held)) }
         ensures within { IfOk result (λ bytes. vec_len bytes ≤ limit) }
@@ -71,17 +76,19 @@ impl Files for MemoryFiles {
         ensures missing_is_no_fault { told_by self.old name.now ≡ missing → faults_of self.new ≡ faults_of self.old }
         ensures same { (other : List ℕ) → told_by self.new other ≡ told_by self.old other }
         ensures later { faults_of self.old ≤ faults_of self.new }
+        ensures steady { IsErrOf result LoadFault.Failed ⊎ (faults_of self.new ≡ faults_of self.old) }
         ensures counted { loads_of self.new ≡ one_more (loads_of self.old) }
+        ensures measured { room_of self.new ≡ more_room limit (room_of self.old) }
 
         // Just the chosen loads fail, and those of a missing name.
         ensures chosen { Contains (failing_of self.old) (loads_of self.old) → IsErrOf result LoadFault.Failed }
         ensures only_chosen { IsErrOf result LoadFault.Failed →
             Contains (failing_of self.old) (loads_of self.old) ⊎ (told_by self.old name.now ≡ missing) }
-        ensures steady { IsErrOf result LoadFault.Failed ⊎ (faults_of self.new ≡ faults_of self.old) }
         ensures failing { failing_of self.new ≡ failing_of self.old }
     {
         let fails = self.failing.contains(&self.loads);
         self.loads = self.loads.saturating_add(1);
+        self.room = self.room.saturating_add(limit);
         let Some(bytes) = bytes_under(self.files.as_slice(), name) else {
             return Err(LoadFault::Failed);
         };

@@ -64,13 +64,12 @@ impl Sink for MemorySink {
         ensures taken { IfOk result (λ count. Adds (take count piece.now) (Some (bytes_of self.old)) (Some (bytes_of self.new))) }
         ensures some { IfOk result (λ count. piece.now ≢ [] → 0 < count) }
         ensures empty { piece.now ≡ [] → IsOk result }
-        ensures empty_is_no_fault { piece.now ≡ [] → put_faults_of self.new ≡ put_faults_of self.old }
         ensures failed { OnErr result (Rose (put_faults_of self.old) (put_faults_of self.new)) }
+        ensures steady { OnOk result (put_faults_of self.new ≡ put_faults_of self.old) }
         ensures nothing { OnErr result (Adds [] (Some (bytes_of self.old)) (Some (bytes_of self.new))) }
         ensures later { put_faults_of self.old ≤ put_faults_of self.new }
 
         ensures whole { IfOk result (λ count. count ≡ length piece.now) }
-        ensures steady { OnOk result (put_faults_of self.new ≡ put_faults_of self.old) }
         ensures chosen { IsErr result ↔ FailsNext self.old piece.now }
         ensures same { (room_of self.new ≡ room_of self.old) × (failing_puts_of self.new ≡ failing_puts_of self.old) }
         ensures puts { piece.now ≢ [] → puts_of self.new ≡ min (puts_of self.old + 1) u64.MAX }

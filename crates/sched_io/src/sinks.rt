@@ -20,11 +20,12 @@ pub trait Sink {
         ensures taken { IfOk result (λ count. Adds (take count piece.now) (written self.old) (written self.new)) }
         // Of a piece that isn't empty something is taken, or it is a fault.
         ensures some { IfOk result (λ count. piece.now ≢ [] → 0 < count) }
-        // Of an empty piece the nothing that it holds is taken, and no fault is told.
+        // Of an empty piece the nothing that it holds is taken.
         ensures empty { piece.now ≡ [] → IsOk result }
-        ensures empty_is_no_fault { piece.now ≡ [] → faults self.new ≡ faults self.old }
 
+        // A put that fails counts one fault more, and no other counts any.
         ensures failed { OnErr result (Rose (faults self.old) (faults self.new)) }
+        ensures steady { OnOk result (faults self.new ≡ faults self.old) }
         ensures nothing { OnErr result (Adds [] (written self.old) (written self.new)) }
         ensures later { faults self.old ≤ faults self.new };
 }
@@ -34,7 +35,7 @@ pub fn put_all<S: Sink>(out: &mut S, piece: &[u8]) -> Result<(), PutFault>
     ensures whole { OnOk result (Adds piece.now (S.written out.old) (S.written out.new)) }
     ensures failed { OnErr result (Rose (S.faults out.old) (S.faults out.new)) }
     ensures part { OnErr result (AddsPart piece.now (S.written out.old) (S.written out.new)) }
-    ensures later { S.faults out.old ≤ S.faults out.new }
+    ensures steady { OnOk result (S.faults out.new ≡ S.faults out.old) }
 {
     let mut rest = piece;
     while !rest.is_empty() {

@@ -2,14 +2,14 @@
 
 ghost use Rattle.std.specs.Prelude.{◌≡◌, ◌≢◌, ℕ, ◌<◌, ◌≤◌, ◌⊎◌, List, IfOk, IsErrOf, length, vec_len};
 ghost use Rattle.sched_io.specs.Faults.{Rose};
-ghost use Rattle.sched_io.specs.Loads.{one_more};
+ghost use Rattle.sched_io.specs.Loads.{more_room, one_more};
 ghost use Rattle.sched_io.specs.Told.{Told, IfHolds, missing};
 
 use crate::faults::LoadFault;
 use std::alloc::Global;
 
-/// A source of files. It may tell of a name whether a file has it, and of a file its bytes; it counts its loads and its
-/// faults.
+/// A source of files. It may tell of a name whether a file has it, and of a file its bytes; it counts its faults, its
+/// loads and the bytes that these have room for.
 pub trait Files {
     /// What it tells of a name.
     ghost told: { Self → List ℕ → Told };
@@ -20,6 +20,9 @@ pub trait Files {
     /// How often a file was asked for.
     ghost loads: { Self → ℕ };
 
+    /// For how many bytes in all there was room when files were asked for: the limits of the loads, added up.
+    ghost room: { Self → ℕ };
+
     /// The bytes of that file, at most `limit`.
     fn load(&mut self, alloc: Global, name: &str, limit: u64) -> Result<Vec<u8>, LoadFault>
         ensures bytes { IfOk result (λ bytes. IfHolds (told self.old name.now) (λ held. bytes.items ≡ held)) }
@@ -27,16 +30,18 @@ pub trait Files {
         ensures too_long { IsErrOf result LoadFault.TooLong →
             IfHolds (told self.old name.now) (λ held. limit < length held) }
 
-        // The outside failed in this call, or the name is told to be missing, which is no fault of the outside.
+        // The outside failed, which counts once, or the name is told to be missing, which is no fault of the outside.
         ensures failed { IsErrOf result LoadFault.Failed →
             Rose (faults self.old) (faults self.new) ⊎ (told self.old name.now ≡ missing) }
         ensures missing { told self.old name.now ≡ missing →
             IsErrOf result LoadFault.Failed ⊎ IsErrOf result LoadFault.Memory }
         ensures missing_is_no_fault { told self.old name.now ≡ missing → faults self.new ≡ faults self.old }
+        ensures steady { IsErrOf result LoadFault.Failed ⊎ (faults self.new ≡ faults self.old) }
 
         ensures same { (other : List ℕ) → told self.new other ≡ told self.old other }
         ensures later { faults self.old ≤ faults self.new }
 
-        // Each load counts, however it ends.
-        ensures counted { loads self.new ≡ one_more (loads self.old) };
+        // Each load counts, however it ends, and with it the bytes that it has room for.
+        ensures counted { loads self.new ≡ one_more (loads self.old) }
+        ensures measured { room self.new ≡ more_room limit (room self.old) };
 }

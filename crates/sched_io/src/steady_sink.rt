@@ -58,12 +58,12 @@ impl Sink for SteadySink {
         ensures taken { IfOk result (λ count. Adds (take count piece.now) (told_by_steady self.old) (told_by_steady self.new)) }
         ensures some { IfOk result (λ count. piece.now ≢ [] → 0 < count) }
         ensures empty { piece.now ≡ [] → IsOk result }
-        ensures empty_is_no_fault { piece.now ≡ [] → steady_faults_of self.new ≡ steady_faults_of self.old }
         ensures failed { OnErr result (Rose (steady_faults_of self.old) (steady_faults_of self.new)) }
+        ensures steady { OnOk result (steady_faults_of self.new ≡ steady_faults_of self.old) }
         ensures nothing { OnErr result (Adds [] (told_by_steady self.old) (told_by_steady self.new)) }
         ensures later { steady_faults_of self.old ≤ steady_faults_of self.new }
 
-        ensures steady { IsOk result }
+        ensures never { IsOk result }
         ensures tells { length (kept_by self.old) + length piece.now ≤ steady_room_of self.old →
             told_by_steady self.old ≡ Some (kept_by self.old) → told_by_steady self.new ≡ Some (kept_by self.new) }
         ensures whole { IfOk result (λ count. count ≡ length piece.now) }

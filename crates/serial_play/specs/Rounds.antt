@@ -66,7 +66,7 @@ pub record EndsWhole (p : Meaning) (plan : Plan) (history : List Entry) : Type 0
   pub few : length history ≤ MAX_ENTRIES
   pub fitted : (k : ℕ) → IsFull plan (serial_rounds p plan k) → ⊥
 
--- serial play stopped before the first round that doesn't fit
+-- serial play stopped before the first round that might not fit
 pub record StopsFull (p : Meaning) (plan : Plan) (history : List Entry) : Type 0 where
   pub rounds : ℕ
   pub serial : history ≡ serial_rounds p plan rounds

@@ -3,6 +3,7 @@ use Rattle.std.specs.Prelude.{◌≡◌, ℕ, List, All, Option, Some}
 use Rattle.policy_tree.specs.Meaning.{Meaning}
 use Rattle.round_model.specs.declared.entry.Entry.{Entry}
 use Rattle.round_model.specs.declared.plan.Plan.{Plan}
+use Rattle.round_model.specs.Fits.{Fits}
 use Rattle.job_trace.specs.declared.fault.TraceFault.{TraceFault}
 use Rattle.job_trace.specs.declared.plan_fault.PlanFault.{PlanFault}
 use Rattle.job_trace.specs.declared.trace.Numbered.{Numbered}
@@ -44,7 +45,16 @@ pub data HasFault (p : Meaning) (text : List ℕ) (fault : LineFault) : Type 0 w
   no_trace : (found : TraceFault) → IsBroken text found → told_of_trace found ≡ Some fault → HasFault p text fault
   no_plan : (trace : List Numbered) (found : PlanFault) → SpellsTrace text trace → IsForeign p trace found → told_of_plan found ≡ Some fault → HasFault p text fault
 
+-- the text spells a trace, whose plan fits the policy, and that is what serial play of the plan comes to
+pub record PlaysText (p : Meaning) (text : List ℕ) (play : Played) : Type 0 where
+  pub trace : List Numbered
+  pub spells : SpellsTrace text trace
+  pub plan : Plan
+  pub means : SpellsPlan p trace plan
+  pub fits : Fits p plan
+  pub played : IsPlayed p plan play
+
 -- the answer is the one that the text gets under the policy
 abbrev pub IsPlayOf : Meaning → List ℕ → PlayAnswer → Type 0
 IsPlayOf p text (answer.Broken fault) = HasFault p text fault
-IsPlayOf p text (answer.Played play) = (trace : List Numbered) × SpellsTrace text trace × ((plan : Plan) × SpellsPlan p trace plan × IsPlayed p plan play)
+IsPlayOf p text (answer.Played play) = PlaysText p text play

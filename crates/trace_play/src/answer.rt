@@ -40,6 +40,7 @@ impl PlayAnswer {
         ensures whole { OnOk result (Adds (output_of self.now) (S.written out.old) (S.written out.new)) }
         ensures part { OnErr result (AddsPart (output_of self.now) (S.written out.old) (S.written out.new)) }
         ensures failed { OnErr result (Rose (S.faults out.old) (S.faults out.new)) }
+        ensures steady { OnOk result (S.faults out.new ≡ S.faults out.old) }
     {
         match self {
             PlayAnswer::Broken(fault) => put_all(out, line_of_fault(fault).as_bytes()),

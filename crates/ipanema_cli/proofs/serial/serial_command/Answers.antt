@@ -3,6 +3,9 @@ use Rattle.ipanema_cli.proofs.CauseLemmas.{causes}
 use Rattle.ipanema_cli.proofs.TruthLemmas.{truths}
 use Rattle.ipanema_cli.proofs.serial.serial_command.Goals as goal
 
+pub returns-clause-ends : goal.returns-clause-ends
+returns-clause-ends g c = rw (← c.as_slice.ensures.value) c.carry_out.ensures.ends
+
 pub returns-clause-causes : goal.returns-clause-causes
 returns-clause-causes g c = causes _ _ _ _ _ _ _ (rw (← c.as_slice.ensures.value) c.carry_out.ensures.ends)
 

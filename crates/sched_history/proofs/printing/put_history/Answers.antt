@@ -42,5 +42,5 @@ loop-entry-preserved g c =
         before.1 ∙ ap (λ (x : List ℕ). before.0 ++ x) (next_line c.args.entries.now at c.entry-item.result c.entry-item.is (omega arith)) ∙ sym (append_assoc before.0 this more),
         Adds-append before.0 this _ _ _ before.2 (rw (← given) c.in_ok-put_all.ensures.whole),
       );
-      later = omega (arith, c.in_ok-put_all.ensures.later);
+      steady = c.in_ok-put_all.ensures.steady ∙ c.loop-entry.invariant.steady;
     }

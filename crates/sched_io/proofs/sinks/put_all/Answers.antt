@@ -1,5 +1,5 @@
 -- A put takes one more front of what is left.
-use Rattle.std.proofs.Common.{List, ℕ, ◌++◌, take, drop, sym, ◌∙◌, ap, append_assoc, arith}
+use Rattle.std.proofs.Common.{List, ℕ, ◌++◌, take, drop, sym, ◌∙◌, ap, append_assoc}
 use Rattle.std.proofs.lemmas.List.{take-append-drop}
 use Rattle.sched_io.proofs.WrittenLemmas.{Adds-append}
 use Rattle.sched_io.proofs.sinks.put_all.Goals as goal
@@ -18,5 +18,5 @@ loop-rest-preserved g c =
             ∙ ap (λ (x : List ℕ). (before.0 ++ take count rest) ++ x) (sym c.split_at.ensures.back),
         Adds-append before.0 (take count rest) _ _ _ before.2 c.in_ok-count.ensures.taken,
       );
-      later = omega (arith, c.in_ok-count.ensures.later);
+      steady = c.in_ok-count.ensures.steady ∙ c.loop-rest.invariant.steady;
     }

@@ -67,3 +67,13 @@ returns-in-Err-plan-clause-play c =
 pub returns-clause-shown : goal.returns-clause-shown
 returns-clause-shown c =
     shown (meaning_of c.args.policy.now) c.in-Ok-plan.plan c.in_ok-play_rounds.field-0 (c.in-Ok-plan.ensures.fits c.requires.resolved) c.in_ok-play_rounds.ensures
+
+pub returns-clause-play : goal.returns-clause-play
+returns-clause-play c = record {
+  trace = c.in-Ok.trace;
+  spells = c.in-Ok.ensures.trace;
+  plan = c.in-Ok-plan.plan;
+  means = c.in-Ok-plan.ensures.plan;
+  fits = c.in-Ok-plan.ensures.fits c.requires.resolved;
+  played = c.in_ok-play_rounds.ensures;
+}

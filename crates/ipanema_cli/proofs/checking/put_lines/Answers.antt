@@ -8,7 +8,7 @@ use Rattle.sched_io.proofs.WrittenLemmas.{Adds-append, AddsPart-append, AddsPart
 use Rattle.ipanema_cli.specs.CheckAnswer.{line_of}
 use Rattle.count_filter.specs.declared.obligations.ObName.{ObName}
 use Rattle.count_filter.specs.declared.obligations.ObName.TheVariants.{B1}
-use Rattle.ipanema_cli.proofs.answers.put_lines.Goals as goal
+use Rattle.ipanema_cli.proofs.checking.put_lines.Goals as goal
 
 -- what is left is the next line and the lines after it
 next_line : (line : ObName → List ℕ) (names : List ObName) (at : ℕ) → at < length names → flat_map line (drop at names) ≡ line (get_or names at B1) ++ flat_map line (drop (at + 1) names)
@@ -42,5 +42,5 @@ loop-obligation-preserved g c =
         before.1 ∙ ap (λ (x : List ℕ). before.0 ++ x) (next_line line c.args.obligations.now at (omega arith)) ∙ sym (append_assoc before.0 this more),
         Adds-append before.0 this _ _ _ before.2 (rw (← given) c.in_ok-put_all.ensures.whole),
       );
-      later = omega (arith, c.in_ok-put_all.ensures.later);
+      steady = c.in_ok-put_all.ensures.steady ∙ c.loop-obligation.invariant.steady;
     }

@@ -52,7 +52,7 @@ fn faults_of_the_gallery(rt: HostRuntime) -> Result<(), Fail> {
         ),
     ];
     for (text, expected) in cases {
-        let (status, out) = check(&rt, alloc, text)?;
+        let (status, out) = check(&rt, alloc, text.as_bytes())?;
         assert_eq!(rt; status, 2, "at {text:?}");
         assert_eq!(rt; out.as_slice(), expected.as_bytes(), "at {text:?}");
     }
@@ -68,7 +68,7 @@ fn policy_cut_short(rt: HostRuntime) -> Result<(), Fail> {
         ("", "policy 0 unexpected\n"),
     ];
     for (text, expected) in cases {
-        let (status, out) = check(&rt, alloc, text)?;
+        let (status, out) = check(&rt, alloc, text.as_bytes())?;
         assert_eq!(rt; status, 2, "at {text:?}");
         assert_eq!(rt; out.as_slice(), expected.as_bytes(), "at {text:?}");
     }
@@ -80,7 +80,7 @@ fn number_too_wide(rt: HostRuntime) -> Result<(), Fail> {
     let alloc = rt.alloc();
     let text =
         "policy wide\nload count\nfilter victim.nr >= 1000000000000000000000000000000000000000";
-    let (status, out) = check(&rt, alloc, text)?;
+    let (status, out) = check(&rt, alloc, text.as_bytes())?;
     assert_eq!(rt; status, 2);
     assert_eq!(rt; out.as_slice(), b"policy 43 wide-number\n".as_slice());
     Ok(())
@@ -105,7 +105,7 @@ fn earlier_layers_come_first(rt: HostRuntime) -> Result<(), Fail> {
         ),
     ];
     for (text, expected) in cases {
-        let (status, out) = check(&rt, alloc, text)?;
+        let (status, out) = check(&rt, alloc, text.as_bytes())?;
         assert_eq!(rt; status, 2, "at {text:?}");
         assert_eq!(rt; out.as_slice(), expected.as_bytes(), "at {text:?}");
     }
@@ -121,7 +121,7 @@ fn longest_chain_of_conditions(rt: HostRuntime) -> Result<(), Fail> {
     }
     text.push_str(" choose first steal first")?;
     assert_eq!(rt; text.len(), 65530);
-    let (status, out) = check(&rt, alloc, text.as_str())?;
+    let (status, out) = check(&rt, alloc, text.as_bytes())?;
     assert_eq!(rt; status, 2);
     assert_eq!(rt; out.as_slice(), b"policy 0 not-built\n".as_slice());
     Ok(())

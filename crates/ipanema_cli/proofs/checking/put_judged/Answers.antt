@@ -4,7 +4,7 @@ use Rattle.std.proofs.lemmas.Result.{err_from_is_err_and}
 use Rattle.sched_io.proofs.WrittenLemmas.{Adds-append, AddsPart-append, AddsPart-front}
 use Rattle.count_filter.specs.Judged.{ob_names}
 use Rattle.ipanema_cli.specs.CheckAnswer.{line_of, verdict_line}
-use Rattle.ipanema_cli.proofs.answers.put_judged.Goals as goal
+use Rattle.ipanema_cli.proofs.checking.put_judged.Goals as goal
 
 pub returns-in_err-put_lines-clause-part : goal.returns-in_err-put_lines-clause-part
 unfolding ob_names

@@ -6,7 +6,7 @@ use Rattle.std.proofs.lemmas.List.{length-append}
 use Rattle.policy_reader.specs.declared.fault.FaultKind.{FaultKind}
 use Rattle.policy_reader.specs.declared.fault.FaultKind.TheVariants as kind
 use Rattle.policy_reader.specs.Lines.{word_of}
-use Rattle.ipanema_cli.proofs.answers.line_of_fault.Goals as goal
+use Rattle.ipanema_cli.proofs.checking.line_of_fault.Goals as goal
 
 -- a fault's word is short
 word_short : (k : FaultKind) → length (word_of k) ≤ 11

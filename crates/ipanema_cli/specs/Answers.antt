@@ -1,0 +1,95 @@
+-- What a command answers, and when that is its answer.
+use Rattle.std.specs.Prelude.{ℕ, List, IsFalse, Option, Some, None, codes}
+use Rattle.policy_tree.specs.Meaning.{Meaning}
+use Rattle.policy_reader.specs.Spelled.{SpellsPolicy}
+use Rattle.count_filter.specs.Reasons.{IsCertified}
+use Rattle.sched_io.specs.Told.{Told}
+use Rattle.serial_play.specs.declared.rounds.Played.TheVariants as played
+use Rattle.trace_play.specs.declared.answer.PlayAnswer.{PlayAnswer}
+use Rattle.trace_play.specs.declared.answer.PlayAnswer.TheVariants as play_answer
+use Rattle.trace_play.specs.Plays as plays
+use Rattle.ipanema_cli.specs.CheckAnswer.{IsCheckOf, accepts, check_output, check_status}
+use Rattle.ipanema_cli.specs.Command.{Asked, check, play}
+use Rattle.ipanema_cli.specs.Texts.{MayBeLong, MayRead, too_long_line}
+use Rattle.ipanema_cli.specs.declared.answers.Answer.{Answer}
+use Rattle.ipanema_cli.specs.declared.answers.Answer.TheVariants as answer
+use Rattle.ipanema_cli.specs.declared.status.Status.{Status}
+use Rattle.ipanema_cli.specs.declared.status.Status.TheVariants as status
+use Rattle.ipanema_cli.specs.declared.texts.TextKind.TheVariants as kind
+
+-- the bytes of an answer
+abbrev pub output_of : Answer → List ℕ
+output_of (answer.Checked checked) = check_output checked
+output_of (answer.Played outcome) = plays.output_of outcome
+output_of (answer.TooLong which) = too_long_line which
+output_of answer.BadWords = codes "bad words\n"
+
+-- the status of a trace that was read, and played if it could be
+abbrev pub play_status : PlayAnswer → Status
+play_status (play_answer.Broken fault) = status.BadText
+play_status (play_answer.Played (played.Whole history)) = status.Done
+play_status (play_answer.Played (played.Full history)) = status.HistoryFull
+
+-- the status of an answer
+abbrev pub status_of : Answer → Status
+status_of (answer.Checked checked) = check_status checked
+status_of (answer.Played outcome) = play_status outcome
+status_of (answer.TooLong which) = status.TooMuch
+status_of answer.BadWords = status.BadWords
+
+-- the answer can be written: the numbers of a history are in the ranges of its text
+abbrev pub CanBePut : Answer → Type 0
+CanBePut (answer.Checked checked) = Unit {0}
+CanBePut (answer.Played outcome) = plays.IsShown outcome
+CanBePut (answer.TooLong which) = Unit {0}
+CanBePut answer.BadWords = Unit {0}
+
+-- The text spells this policy, and each system of its balance obligations has a right certificate.
+pub record IsAccepted (text : List ℕ) (p : Meaning) : Type 0 where
+  pub spells : SpellsPolicy text p
+  pub certified : IsCertified p
+
+-- the answer to words that are no command
+abbrev pub AnswersWords : Answer → Type 0
+AnswersWords (answer.Checked checked) = ⊥
+AnswersWords (answer.Played outcome) = ⊥
+AnswersWords (answer.TooLong which) = ⊥
+AnswersWords answer.BadWords = Unit {0}
+
+-- the answer of `check` to a file of which this is told
+abbrev pub AnswersCheck : Told → Answer → Type 0
+AnswersCheck policy (answer.Checked checked) = (text : List ℕ) × MayRead kind.Policy policy text × IsCheckOf text checked
+AnswersCheck policy (answer.Played outcome) = ⊥
+AnswersCheck policy (answer.TooLong kind.Policy) = MayBeLong kind.Policy policy
+AnswersCheck policy (answer.TooLong kind.Trace) = ⊥
+AnswersCheck policy answer.BadWords = ⊥
+
+-- the answer of `play` to these texts of a policy and a trace: where the policy isn't accepted, that of `check`
+abbrev pub IsPlayOfTexts : (policy trace : List ℕ) → Answer → Type 0
+IsPlayOfTexts policy trace (answer.Checked checked) = IsCheckOf policy checked × IsFalse (accepts checked)
+IsPlayOfTexts policy trace (answer.Played outcome) = (p : Meaning) × IsAccepted policy p × plays.IsPlayOf p trace outcome
+IsPlayOfTexts policy trace (answer.TooLong which) = ⊥
+IsPlayOfTexts policy trace answer.BadWords = ⊥
+
+-- Both files are read, and may hold these texts, to which that is the answer.
+pub record PlaysTexts (policy trace : Told) (a : Answer) : Type 0 where
+  pub text : List ℕ
+  pub jobs : List ℕ
+  pub policy_read : MayRead kind.Policy policy text
+  pub trace_read : MayRead kind.Trace trace jobs
+  pub answers : IsPlayOfTexts text jobs a
+
+-- the answer of `play` to files of which this is told
+abbrev pub AnswersPlay : (policy trace : Told) → Answer → Type 0
+AnswersPlay policy trace (answer.Checked checked) = PlaysTexts policy trace (answer.Checked checked)
+AnswersPlay policy trace (answer.Played outcome) = PlaysTexts policy trace (answer.Played outcome)
+AnswersPlay policy trace (answer.TooLong kind.Policy) = MayBeLong kind.Policy policy
+AnswersPlay policy trace (answer.TooLong kind.Trace) =
+    ((text : List ℕ) × MayRead kind.Policy policy text) × MayBeLong kind.Trace trace
+AnswersPlay policy trace answer.BadWords = ⊥
+
+-- the answer to what is asked
+abbrev pub IsAnswer : Option Asked → (List ℕ → Told) → Answer → Type 0
+IsAnswer None told a = AnswersWords a
+IsAnswer (Some (check policy)) told a = AnswersCheck (told policy) a
+IsAnswer (Some (play policy trace)) told a = AnswersPlay (told policy) (told trace) a

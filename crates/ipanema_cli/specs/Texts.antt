@@ -1,0 +1,25 @@
+-- The texts that commands load.
+use Rattle.std.specs.Prelude.{ℕ, ◌<◌, ◌≤◌, List, codes, length}
+use Rattle.sched_base.specs.declared.limits.TheConstants.{MAX_POLICY_BYTES, MAX_TRACE_BYTES}
+use Rattle.sched_io.specs.Told.{Told, MayHold}
+use Rattle.ipanema_cli.specs.declared.texts.TextKind.{TextKind}
+use Rattle.ipanema_cli.specs.declared.texts.TextKind.TheVariants as kind
+
+-- the most bytes of such a text
+abbrev pub room_of : TextKind → ℕ
+room_of kind.Policy = MAX_POLICY_BYTES
+room_of kind.Trace = MAX_TRACE_BYTES
+
+-- the line that says that a text is longer
+abbrev pub too_long_line : TextKind → List ℕ
+too_long_line kind.Policy = codes "too-long policy\n"
+too_long_line kind.Trace = codes "too-long trace\n"
+
+-- The file of which this is told may hold this text, which isn't longer than such a text may be.
+pub record MayRead (which : TextKind) (told : Told) (text : List ℕ) : Type 0 where
+  pub held : MayHold told text
+  pub short : length text ≤ room_of which
+
+-- The file may hold a text that is longer.
+abbrev pub MayBeLong : TextKind → Told → Type 0
+MayBeLong which told = (text : List ℕ) × MayHold told text × (room_of which < length text)

@@ -1,0 +1,35 @@
+//! What keeps a command from its answer.
+
+ghost use Rattle.std.specs.Prelude.{◌≡◌};
+ghost use Rattle.ipanema_cli.specs.declared.stop.Stop.TheVariants as stop;
+
+use crate::texts::TextKind;
+use count_filter::JudgeMemory;
+use trace_play::PlayMemory;
+
+/// What keeps a command from its answer.
+#[derive(Clone, Copy)]
+pub enum Stop {
+    /// A file wasn't read.
+    Unread,
+    /// A text of that kind is longer than its limit.
+    TooLong(TextKind),
+    /// There was no memory.
+    Memory,
+}
+
+impl From<JudgeMemory> for Stop {
+    ghost from_gives = { λ _ why. why ≡ stop.Memory };
+
+    fn from(_fault: JudgeMemory) -> Stop {
+        Stop::Memory
+    }
+}
+
+impl From<PlayMemory> for Stop {
+    ghost from_gives = { λ _ why. why ≡ stop.Memory };
+
+    fn from(_fault: PlayMemory) -> Stop {
+        Stop::Memory
+    }
+}

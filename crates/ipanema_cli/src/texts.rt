@@ -1,0 +1,66 @@
+//! The texts that commands load: how long they may be, and how they are loaded.
+
+ghost use Rattle.std.specs.Prelude.{◌≡◌, ◌≤◌, ◌⊎◌, ℕ, List, IfErr, IfOk, IsErrOf};
+ghost use Rattle.sched_io.specs.Faults.{Rose};
+ghost use Rattle.sched_io.specs.Loads.{more_room, one_more};
+ghost use Rattle.ipanema_cli.specs.Texts.{MayRead, room_of, too_long_line};
+ghost use Rattle.ipanema_cli.specs.Stops.{IsUnloaded};
+
+use crate::stop::Stop;
+use sched_base::{MAX_POLICY_BYTES, MAX_TRACE_BYTES};
+use sched_io::{Files, LoadFault};
+use std::alloc::Global;
+
+/// The kinds of texts that commands load.
+#[derive(Clone, Copy)]
+pub enum TextKind {
+    /// A policy.
+    Policy,
+    /// A trace of jobs.
+    Trace,
+}
+
+impl TextKind {
+    /// The most bytes of such a text.
+    fn room(self) -> u64
+        ensures { result ≡ room_of self }
+    {
+        match self {
+            TextKind::Policy => MAX_POLICY_BYTES,
+            TextKind::Trace => MAX_TRACE_BYTES,
+        }
+    }
+
+    /// The line that says that a text is longer.
+    pub fn too_long_line(self) -> &'static [u8]
+        ensures { result.now ≡ too_long_line self }
+    {
+        match self {
+            TextKind::Policy => b"too-long policy\n",
+            TextKind::Trace => b"too-long trace\n",
+        }
+    }
+}
+
+/// Loads the text in that file.
+pub fn load<F: Files>(
+    alloc: Global,
+    files: &mut F,
+    name: &str,
+    kind: TextKind,
+) -> Result<Vec<u8>, Stop>
+    ensures text { IfOk result (λ text. MayRead kind (F.told files.old name.now) text.items) }
+    ensures stop { IfErr result (IsUnloaded kind (F.told files.old name.now)
+        (Rose (F.faults files.old) (F.faults files.new))) }
+    ensures same { (other : List ℕ) → F.told files.new other ≡ F.told files.old other }
+    ensures steady { IsErrOf result Stop.Unread ⊎ (F.faults files.new ≡ F.faults files.old) }
+    ensures loads { F.loads files.new ≡ one_more (F.loads files.old) }
+    ensures room { F.room files.new ≡ more_room (room_of kind) (F.room files.old) }
+{
+    match files.load(alloc, name, kind.room()) {
+        Ok(text) => Ok(text),
+        Err(LoadFault::Failed) => Err(Stop::Unread),
+        Err(LoadFault::TooLong) => Err(Stop::TooLong(kind)),
+        Err(LoadFault::Memory) => Err(Stop::Memory),
+    }
+}
