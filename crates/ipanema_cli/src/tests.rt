@@ -82,10 +82,11 @@ pub(crate) fn first_lines(alloc: Global, text: &str, count: usize) -> Result<Vec
     Ok(front)
 }
 
-/// `check` of the file `p` with that text: the status, and what is written.
-pub(crate) fn check<R: Threads + Wait + Sync>(
+/// A call with these words over the file `p` with that text: its status, and what it wrote.
+fn call_over<R: Threads + Wait + Sync>(
     rt: &R,
     alloc: Global,
+    words: &[&str],
     text: &[u8],
 ) -> Result<(u8, Vec<u8>), Fail> {
     let outside = Outside {
@@ -93,7 +94,16 @@ pub(crate) fn check<R: Threads + Wait + Sync>(
         loads: &[],
         puts: &[],
     };
-    call(rt, alloc, &["check", "p"], &outside)
+    call(rt, alloc, words, &outside)
+}
+
+/// `check` of the file `p` with that text: the status, and what is written.
+pub(crate) fn check<R: Threads + Wait + Sync>(
+    rt: &R,
+    alloc: Global,
+    text: &[u8],
+) -> Result<(u8, Vec<u8>), Fail> {
+    call_over(rt, alloc, &["check", "p"], text)
 }
 
 #[test]
@@ -117,13 +127,8 @@ fn words_and_texts(rt: HostRuntime) -> Result<(), Fail> {
         &["play", "p", "-p"],
         &["play", "p", "p", "p"],
     ];
-    let outside = Outside {
-        files: &[("p", basic.as_bytes())],
-        loads: &[],
-        puts: &[],
-    };
     for words in wrong_words {
-        let (status, out) = call(&rt, alloc, words, &outside)?;
+        let (status, out) = call_over(&rt, alloc, words, basic.as_bytes())?;
         assert_eq!(rt; status, 7, "at {words:?}");
         assert_eq!(rt; out.as_slice(), b"bad words\n".as_slice(), "at {words:?}");
     }
