@@ -7,7 +7,7 @@ ghost use Rattle.count_filter.specs.Reasons.{AreReasons, IsReason};
 ghost use Rattle.count_filter.specs.Systems.{narrows_system, sees_system, spares_system};
 
 use crate::balance::Balance;
-use crate::reasons::{Reason, leaf_of, point_of, reason_of};
+use crate::reasons::{Reason, reason_of};
 use crate::systems::{narrows_system, sees_system, spares_system};
 use linear_cert::Mult;
 use std::alloc::{AllocError, Global};
@@ -71,9 +71,7 @@ fn idle_sees_overloaded(alloc: Global, threshold: u32) -> Result<Reason, JudgeMe
     ensures { IfOk result (IsReason (sees_system threshold)) }
 {
     let system = sees_system(alloc, threshold)?;
-    let cert = leaf_of(alloc, &SEES_LEAF)?;
-    let point = point_of(alloc, &UNSEEN_POINT)?;
-    Ok(reason_of(&system, cert, point))
+    reason_of(alloc, &system, &SEES_LEAF, &UNSEEN_POINT)
 }
 
 // Victim has at most one thread, the filter lets, and `self.nr` is at least 0: together `0 <= 1 - threshold`.
@@ -90,9 +88,7 @@ fn victim_is_overloaded(alloc: Global, threshold: u32) -> Result<Reason, JudgeMe
     ensures { IfOk result (IsReason (spares_system threshold)) }
 {
     let system = spares_system(alloc, threshold)?;
-    let cert = leaf_of(alloc, &SPARES_LEAF)?;
-    let point = point_of(alloc, &LAST_THREAD_POINT)?;
-    Ok(reason_of(&system, cert, point))
+    reason_of(alloc, &system, &SPARES_LEAF, &LAST_THREAD_POINT)
 }
 
 // Self's load is at most its count, victim's at least, they differ by at most 1, and the filter lets: together
@@ -108,7 +104,5 @@ fn move_narrows_gap(alloc: Global, threshold: u32) -> Result<Reason, JudgeMemory
     ensures { IfOk result (IsReason (narrows_system threshold)) }
 {
     let system = narrows_system(alloc, threshold)?;
-    let cert = leaf_of(alloc, &NARROWS_LEAF)?;
-    let point = point_of(alloc, &LAST_THREAD_POINT)?;
-    Ok(reason_of(&system, cert, point))
+    reason_of(alloc, &system, &NARROWS_LEAF, &LAST_THREAD_POINT)
 }

@@ -1,11 +1,12 @@
 //! Reasons why an obligation holds or fails: certificates and points, and the two tests of them.
 
-ghost use Rattle.std.specs.Prelude.{◌≡◌, ◌⊎◌, ◌<◌, ◌^◌, length, IfOk, IfSome, IsSome};
+ghost use Rattle.std.specs.Prelude.{◌≡◌, ◌⊎◌, ◌<◌, ◌^◌, length, IfOk};
 ghost use Rattle.linear_form.specs.Solution.{Solves};
 ghost use Rattle.linear_cert.specs.Right.{IsRight, cert_tree};
 ghost use Rattle.linear_cert.specs.Right.CertTree.{leaf};
 ghost use Rattle.count_filter.specs.Reasons.{IsReason};
 
+use crate::decide::JudgeMemory;
 use linear_cert::{Cert, Mult, check};
 use linear_form::{Point, System};
 use lists::Items;
@@ -35,36 +36,33 @@ impl Reason {
     }
 }
 
-// The certificate where the checker accepts it, else the point.
-pub fn reason_of(system: &System, cert: Cert, point: Point) -> Reason
-    requires { IsRight system.now.bounds system.now.rows (cert_tree cert)
-        ⊎ Solves system.now.bounds system.now.rows point.vals }
-    ensures { IsReason system.now result }
+// The certificate of these multipliers after the checker has accepted it, else the point of these values after it was put
+// into all ranges and rows.
+pub fn reason_of(
+    alloc: Global,
+    system: &System,
+    mults: &[Mult],
+    vals: &[i64],
+) -> Result<Reason, JudgeMemory>
+    requires few { length mults.now < 2 ^ 32 }
+    requires short { length vals.now < 2 ^ 32 }
+    requires shown { IsRight system.now.bounds system.now.rows (leaf mults.now)
+        ⊎ Solves system.now.bounds system.now.rows vals.now }
+    ensures { IfOk result (IsReason system.now) }
 {
-    match reason_shown(system, cert, point) {
-        Some(reason) => reason,
-        None => unreachable!(),
-    }
-}
-
-// The certificate only after the checker has accepted it, the point only after it was put into all ranges and rows,
-// and `None` where neither shows anything.
-fn reason_shown(system: &System, cert: Cert, point: Point) -> Option<Reason>
-    ensures reason { IfSome result (IsReason system.now) }
-    ensures right { IsRight system.now.bounds system.now.rows (cert_tree cert) → IsSome result }
-    ensures solved { Solves system.now.bounds system.now.rows point.vals → IsSome result }
-{
+    let cert = leaf_of(alloc, mults)?;
     if check(system, &cert) {
-        Some(Reason::Certified(cert))
-    } else if system.satisfies(&point) {
-        Some(Reason::Refuted(point))
-    } else {
-        None
+        return Ok(Reason::Certified(cert));
     }
+    let point = point_of(alloc, vals)?;
+    if system.satisfies(&point) {
+        return Ok(Reason::Refuted(point));
+    }
+    unreachable!()
 }
 
 // The certificate of these rows and multipliers.
-pub fn leaf_of(alloc: Global, mults: &[Mult]) -> Result<Cert, AllocError>
+fn leaf_of(alloc: Global, mults: &[Mult]) -> Result<Cert, AllocError>
     requires { length mults.now < 2 ^ 32 }
     ensures { IfOk result (λ cert. cert_tree cert ≡ leaf mults.now) }
 {
@@ -72,7 +70,7 @@ pub fn leaf_of(alloc: Global, mults: &[Mult]) -> Result<Cert, AllocError>
 }
 
 // The point of these values.
-pub fn point_of(alloc: Global, vals: &[i64]) -> Result<Point, AllocError>
+fn point_of(alloc: Global, vals: &[i64]) -> Result<Point, AllocError>
     requires { length vals.now < 2 ^ 32 }
     ensures { IfOk result (λ point. point.vals ≡ vals.now) }
 {

@@ -3,7 +3,7 @@
 ghost use Rattle.policy_reader.specs.OneAnswer.{HasOneAnswer};
 ghost use Rattle.policy_reader.specs.Resolved.{SpellsResolved};
 
-/// A text spells one policy or has one fault, and never both.
+/// A text spells one policy at most, has one fault at most, and never both.
 pub fn law_one_answer()
     ensures { HasOneAnswer }
 {}

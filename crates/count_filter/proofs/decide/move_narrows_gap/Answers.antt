@@ -2,6 +2,5 @@
 use Rattle.count_filter.proofs.Narrows.{narrows_reason}
 use Rattle.count_filter.proofs.decide.move_narrows_gap.Goals as goal
 
-pub reason_of-requires : goal.reason_of-requires
-reason_of-requires c =
-    rw (c.in_ok-system.ensures, c.in_ok-cert.ensures, c.in_ok-point.ensures) (narrows_reason c.args.threshold c.ranges.threshold.fits)
+pub reason_of-requires-clause-shown : goal.reason_of-requires-clause-shown
+reason_of-requires-clause-shown c = rw c.in_ok-system.ensures (narrows_reason c.args.threshold c.ranges.threshold.fits)
