@@ -1,11 +1,11 @@
 //! The top call: every command over files, a sink and a gate that are handed in.
 
-ghost use Rattle.std.specs.Prelude.{◌≡◌, ◌+◌, ◌≤◌, ◌⊎◌, length, sum_by};
+ghost use Rattle.std.specs.Prelude.{◌≡◌, ◌+◌, ◌≤◌, ◌⊎◌, [], ◌∷◌, length, sum_by};
 ghost use Rattle.sched_io.specs.Faults.{Rose};
 ghost use Rattle.ipanema_cli.specs.Command.{asked_by, texts_of, words_of};
 ghost use Rattle.ipanema_cli.specs.Ends.{Ends};
-ghost use Rattle.ipanema_cli.specs.Causes.{HasCause};
-ghost use Rattle.ipanema_cli.specs.Texts.{room_of};
+ghost use Rattle.ipanema_cli.specs.Causes.{HasCause, OneOf};
+ghost use Rattle.ipanema_cli.specs.Texts.{AreLoaded, room_of};
 ghost use Rattle.ipanema_cli.specs.Truths.{IsTruthful};
 
 use crate::answers::Answer;
@@ -41,6 +41,9 @@ pub fn ipanema<R: Threads + Wait + Sync, F: Files, S: Sink, G: Gate>(
     // No more files are loaded than the command needs, nor with more room than their texts may take.
     ensures loads { F.loads files.new ≤ F.loads files.old + length (texts_of (asked_by (words_of words.now.items))) }
     ensures room { F.room files.new ≤ F.room files.old + sum_by room_of (texts_of (asked_by (words_of words.now.items))) }
+    // And for an answer each of them is loaded, once.
+    ensures loaded { OneOf (0 ∷ 1 ∷ 2 ∷ 7 ∷ 8 ∷ []) result → AreLoaded (texts_of (asked_by (words_of words.now.items)))
+        (F.loads files.old) (F.loads files.new) (F.room files.old) (F.room files.new) }
     // Where the files' count of faults moves, the call ends with 4, and where the sink's does, with 5.
     ensures calm { (result ≡ 4) ⊎ (F.faults files.new ≡ F.faults files.old) }
     ensures quiet { (result ≡ 5) ⊎ (S.faults out.new ≡ S.faults out.old) }
