@@ -21,7 +21,7 @@ pub record MayRead (which : TextKind) (told : Told) (text : List ℕ) : Type 0 w
   pub held : MayHold told text
   pub short : length text ≤ room_of which
 
--- Each of these texts was loaded once, and with just the room that it may take.
+-- As far as the counts tell, each of these texts was loaded once, and all with just the room that they may take together.
 pub record AreLoaded (texts : List TextKind) (loads_before loads_after room_before room_after : ℕ) : Type 0 where
   pub counted : loads_after ≡ fold (λ loads which. one_more loads) loads_before texts
   pub measured : room_after ≡ fold (λ room which. more_room (room_of which) room) room_before texts

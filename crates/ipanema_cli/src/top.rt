@@ -38,10 +38,10 @@ pub fn ipanema<R: Threads + Wait + Sync, F: Files, S: Sink, G: Gate>(
     // What is said of a policy and of a trace is true.
     ensures truthful { IsTruthful (asked_by (words_of words.now.items)) (F.told files.old)
         (S.written out.old) (S.written out.new) result }
-    // No more files are loaded than the command needs, nor with more room than their texts may take.
+    // No more files are loaded than the command has, nor with more room in all than their texts may take.
     ensures loads { F.loads files.new ≤ F.loads files.old + length (texts_of (asked_by (words_of words.now.items))) }
     ensures room { F.room files.new ≤ F.room files.old + sum_by room_of (texts_of (asked_by (words_of words.now.items))) }
-    // And for an answer each of them is loaded, once.
+    // And where a text was answered, or no command was, each of them was loaded once.
     ensures loaded { OneOf (0 ∷ 1 ∷ 2 ∷ 7 ∷ 8 ∷ []) result → AreLoaded (texts_of (asked_by (words_of words.now.items)))
         (F.loads files.old) (F.loads files.new) (F.room files.old) (F.room files.new) }
     // Where the files' count of faults moves, the call ends with 4, and where the sink's does, with 5.
