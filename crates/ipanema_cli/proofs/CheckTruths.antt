@@ -5,6 +5,7 @@ use Rattle.sched_io.specs.Written.{Adds}
 use Rattle.policy_reader.specs.Faults.{HasFault}
 use Rattle.policy_reader.specs.Spelled.{SpellsPolicy}
 use Rattle.count_filter.specs.Policies.{policy_with}
+use Rattle.round_laws.proofs.MainTheorem.{main_theorem}
 use Rattle.ipanema_cli.specs.Answers.{AnswersCheck, output_of, status_of}
 use Rattle.ipanema_cli.specs.Causes.{OneOf}
 use Rattle.ipanema_cli.specs.CheckAnswer.{IsCheckOf, check_output, check_status}
@@ -73,7 +74,16 @@ read_check : (policy : Told) (text : List ℕ) (c : CheckAnswer) (before after :
 read_check policy text c before after code read is own added =
     let f = facts text c before after is in
     record {
-      accepted = λ h. let found = f.accepted (zero_accepts c (sym own ∙ h)) in (found.0, (text, read, found.1), found.2, found.3);
+      accepted = λ h.
+          let found = f.accepted (zero_accepts c (sym own ∙ h)) in (
+            found.0,
+            record {
+              spelled = (text, read, found.1);
+              certified = found.2;
+              meets = found.3;
+              wastes_no_core = main_theorem (policy_with found.0 2) found.3;
+            },
+          );
       accepts = λ held name holding spells.
           let spelled = subst (λ (t : List ℕ). SpellsPolicy t (policy_with name 2)) (sym (text_read kind.Policy policy text held read holding)) spells in
           rw (own, accepts_zero c (f.accepts_two name spelled)) refl;

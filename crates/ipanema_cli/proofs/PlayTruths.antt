@@ -23,6 +23,7 @@ use Rattle.trace_play.specs.Plays as plays
 use Rattle.trace_play.specs.Told as trace_faults
 use Rattle.sched_history.specs.Spelling.{text_of_history}
 use Rattle.trace_play.proofs.OnePlay.{never_faulty, one_plan, one_trace}
+use Rattle.round_laws.proofs.MainTheorem.{main_theorem}
 use Rattle.ipanema_cli.specs.Answers.{AnswersPlay, IsAccepted, PlaysTexts, output_of, play_status, status_of}
 use Rattle.ipanema_cli.specs.CheckAnswer.{accepts, check_output, check_status}
 use Rattle.ipanema_cli.specs.Ends.{Writes}
@@ -187,7 +188,9 @@ may_play policy trace text jobs p play read made = record {
 played_whole : (policy trace : Told) (text jobs : List ℕ) (p : Meaning) (history : List Entry) (before after : Option (List ℕ)) (code : ℕ) → Read policy trace text jobs p
     → plays.PlaysText p jobs (played.Whole history) → code ≡ 0 → Adds (text_of_history history) before after → PlaysTruly policy trace before after code
 played_whole policy trace text jobs p history before after code read made own added = record {
-  whole = λ h. (p, made.plan, history, may_play policy trace text jobs p (played.Whole history) read made, made.played, added);
+  whole = λ h.
+      let may = may_play policy trace text jobs p (played.Whole history) read made in
+      (p, made.plan, history, may, made.played, main_theorem p may.meets made.plan history made.fits made.played.whole.legal, added);
   full = λ h. absurd (omega arith);
   reaches_end = λ other plan held _. rw own refl;
   stops_full = λ other plan k held is_full.
@@ -206,7 +209,9 @@ played_full : (policy trace : Told) (text jobs : List ℕ) (p : Meaning) (histor
     → plays.PlaysText p jobs (played.Full history) → code ≡ 8 → Adds (text_of_history history) before after → PlaysTruly policy trace before after code
 played_full policy trace text jobs p history before after code read made own added = record {
   whole = λ h. absurd (omega arith);
-  full = λ h. (p, made.plan, history, may_play policy trace text jobs p (played.Full history) read made, made.played, added);
+  full = λ h.
+      let may = may_play policy trace text jobs p (played.Full history) read made in
+      (p, made.plan, history, may, made.played, main_theorem p may.meets made.plan history made.fits made.played.legal, added);
   reaches_end = λ other plan held none.
       let s = held_play policy trace text jobs p other plan read.policy_read read.trace_read read.accepted held in
       let is_plan = same_plan p jobs (played.Full history) held.lines plan made s.spells s.means in

@@ -18,6 +18,7 @@ use Rattle.round_model.specs.declared.entry.Entry.{Entry}
 use Rattle.round_model.specs.declared.plan.Plan.{Plan}
 use Rattle.round_model.specs.Fits.{Fits}
 use Rattle.round_model.specs.SerialRounds.{serial_rounds}
+use Rattle.round_laws.specs.MainTheorem.{KeepsLaws, WastesNoCore}
 use Rattle.job_trace.specs.declared.trace.Numbered.{Numbered}
 use Rattle.job_trace.specs.Plans.{SpellsPlan}
 use Rattle.job_trace.specs.TraceText.{SpellsTrace}
@@ -68,10 +69,21 @@ TellsFault text before after =
 abbrev pub BadPolicy : Told → Option (List ℕ) → Option (List ℕ) → Type 0
 BadPolicy policy before after = (text : List ℕ) × MayRead kind.Policy policy text × TellsFault text before after
 
+-- What a policy has that is accepted.
+pub record AcceptedPolicy (policy : Told) (p : Meaning) : Type 0 where
+  pub spelled : MaySpell policy p
+  -- a certificate that is right for the system of each balance obligation
+  pub certified : IsCertified p
+  -- it meets each of its statements
+  pub meets : MeetsObligations p
+  -- and so, in every legal history of every plan that fits it, each thread stands in one place, each failed steal is
+  -- explained, and still rounds conserve work
+  pub wastes_no_core : WastesNoCore p
+
 -- What `check` says of the policy in a file of which this is told is true.
 pub record ChecksTruly (policy : Told) (before after : Option (List ℕ)) (code : ℕ) : Type 0 where
-  -- an accepted policy has the threshold 2 and a right certificate for each system, and meets its obligations
-  pub accepted : code ≡ 0 → (name : List ℕ) × MaySpell policy (policy_with name 2) × IsCertified (policy_with name 2) × MeetsObligations (policy_with name 2)
+  -- an accepted policy has the threshold 2, and wastes no core
+  pub accepted : code ≡ 0 → (name : List ℕ) × AcceptedPolicy policy (policy_with name 2)
   -- and every text of such a policy is accepted, if the outside lets it be
   pub accepts : (text name : List ℕ) → Holds kind.Policy policy text → SpellsPolicy text (policy_with name 2) → OneOf (0 ∷ 4 ∷ 5 ∷ 6 ∷ []) code
   -- one of the form with another threshold is refused
@@ -121,14 +133,14 @@ pub record BadTrace (policy trace : Told) (before after : Option (List ℕ)) : T
 
 -- What `play` says of files of which this is told is true.
 pub record PlaysTruly (policy trace : Told) (before after : Option (List ℕ)) (code : ℕ) : Type 0 where
-  -- the text of the serial history was written, which is whole
-  pub whole : code ≡ 0 → (p : Meaning) × (plan : Plan) × (history : List Entry) × MayPlay policy trace p plan × EndsWhole p plan history × Adds (text_of_history history) before after
-  -- the text of the complete rounds before the first that might not fit the limit was written
-  pub full : code ≡ 8 → (p : Meaning) × (plan : Plan) × (history : List Entry) × MayPlay policy trace p plan × StopsFull p plan history × Adds (text_of_history history) before after
+  -- the text of the serial history was written, which is whole and keeps the laws of every interleaving
+  pub whole : code ≡ 0 → (p : Meaning) × (plan : Plan) × (history : List Entry) × MayPlay policy trace p plan × EndsWhole p plan history × KeepsLaws p plan history × Adds (text_of_history history) before after
+  -- the text of the complete rounds before the first that might not fit the limit was written, which keep them too
+  pub full : code ≡ 8 → (p : Meaning) × (plan : Plan) × (history : List Entry) × MayPlay policy trace p plan × StopsFull p plan history × KeepsLaws p plan history × Adds (text_of_history history) before after
   -- and what can be played is, if the outside lets it be: to the end where every round fits, and only there
   pub reaches_end : (p : Meaning) (plan : Plan) → DoPlay policy trace p plan → ((k : ℕ) → IsFull plan (serial_rounds p plan k) → ⊥) → OneOf (0 ∷ 4 ∷ 5 ∷ 6 ∷ []) code
   pub stops_full : (p : Meaning) (plan : Plan) (k : ℕ) → DoPlay policy trace p plan → IsFull plan (serial_rounds p plan k) → OneOf (4 ∷ 5 ∷ 6 ∷ 8 ∷ []) code
-  -- a policy that isn't accepted gets the answer that `check` has for it, and no other does
+  -- a policy that isn't accepted gets a status that `check` has for such ones
   pub unaccepted : (text jobs : List ℕ) → Holds kind.Policy policy text → Holds kind.Trace trace jobs → ((p : Meaning) → IsAccepted text p → ⊥) → OneOf (1 ∷ 2 ∷ 4 ∷ 5 ∷ 6 ∷ []) code
   pub lines : code ≡ 1 → AnswersForOne policy before after code
   -- under an accepted policy a trace that can't be played gets its fault

@@ -60,7 +60,12 @@ fn faults_of_traces(rt: HostRuntime) -> Result<(), Fail> {
     let cases = [
         ("", "trace 1 bad-line\n"),
         ("cores 0\n", "trace 1 limit\n"),
+        ("cores 1\n", "trace 2 bad-line\n"),
         ("cores 1\nrounds 0\ncores 1\n", "trace 3 twice\n"),
+        (
+            "cores 1\nrounds 1\nthread 1 core 0 round 1 run 1\nthread 1 core 0 round 1 run 1\n",
+            "trace 4 twice\n",
+        ),
         ("entries", "trace 1 not-built\n"),
         (
             "cores 1\nrounds 1\nthread 1 core 1 round 1 forever",

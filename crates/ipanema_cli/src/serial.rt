@@ -1,13 +1,13 @@
 //! The commands that one thread carries out.
 
-ghost use Rattle.std.specs.Prelude.{◌≡◌, ◌≢◌, ◌+◌, ◌≤◌, ◌⊎◌, [], ◌∷◌, Some, IfErr, IfOk, IsErrOf, OnOk, codes, length, slice_get, sum_by};
+ghost use Rattle.std.specs.Prelude.{◌≡◌, ◌≢◌, ◌⊎◌, [], ◌∷◌, Some, IfErr, IfOk, IsErrOf, OnOk, codes, slice_get};
 ghost use Rattle.sched_io.specs.Faults.{Rose};
 ghost use Rattle.ipanema_cli.specs.Answers.{AnswersCheck, AnswersPlay, CanBePut, IsAnswer, output_of, status_of};
 ghost use Rattle.ipanema_cli.specs.Command.{asked_by, check, play, texts_of, words_of};
 ghost use Rattle.ipanema_cli.specs.Ends.{Ends, Writes};
 ghost use Rattle.ipanema_cli.specs.Causes.{HasCause, OneOf};
 ghost use Rattle.ipanema_cli.specs.Stops.{IsStop};
-ghost use Rattle.ipanema_cli.specs.Texts.{AreLoaded, room_of};
+ghost use Rattle.ipanema_cli.specs.Texts.{AreLoaded, FirstAreLoaded};
 ghost use Rattle.ipanema_cli.specs.Truths.{IsTruthful};
 
 use crate::answers::{Answer, play_texts};
@@ -37,8 +37,8 @@ pub fn serial_command<F: Files, S: Sink>(
         (S.written out.old) (S.written out.new) result }
     ensures truthful { IsTruthful (asked_by (words_of words.now.items)) (F.told files.old)
         (S.written out.old) (S.written out.new) result }
-    ensures loads { F.loads files.new ≤ F.loads files.old + length (texts_of (asked_by (words_of words.now.items))) }
-    ensures room { F.room files.new ≤ F.room files.old + sum_by room_of (texts_of (asked_by (words_of words.now.items))) }
+    ensures loads { FirstAreLoaded (texts_of (asked_by (words_of words.now.items)))
+        (F.loads files.old) (F.loads files.new) (F.room files.old) (F.room files.new) }
     ensures loaded { OneOf (0 ∷ 1 ∷ 2 ∷ 7 ∷ 8 ∷ []) result → AreLoaded (texts_of (asked_by (words_of words.now.items)))
         (F.loads files.old) (F.loads files.new) (F.room files.old) (F.room files.new) }
     ensures calm { (result ≡ 4) ⊎ (F.faults files.new ≡ F.faults files.old) }
@@ -52,8 +52,8 @@ fn carry_out<F: Files, S: Sink>(alloc: Global, words: &[String], files: &mut F, 
     ensures ends { Ends (asked_by (words_of words.now)) (F.told files.old)
         (Rose (F.faults files.old) (F.faults files.new)) (Rose (S.faults out.old) (S.faults out.new))
         (S.written out.old) (S.written out.new) result }
-    ensures loads { F.loads files.new ≤ F.loads files.old + length (texts_of (asked_by (words_of words.now))) }
-    ensures room { F.room files.new ≤ F.room files.old + sum_by room_of (texts_of (asked_by (words_of words.now))) }
+    ensures loads { FirstAreLoaded (texts_of (asked_by (words_of words.now)))
+        (F.loads files.old) (F.loads files.new) (F.room files.old) (F.room files.new) }
     ensures loaded { OneOf (0 ∷ 1 ∷ 2 ∷ 7 ∷ 8 ∷ []) result → AreLoaded (texts_of (asked_by (words_of words.now)))
         (F.loads files.old) (F.loads files.new) (F.room files.old) (F.room files.new) }
     ensures calm { (result ≡ 4) ⊎ (F.faults files.new ≡ F.faults files.old) }
@@ -73,8 +73,8 @@ fn answer_to<F: Files>(alloc: Global, words: &[String], files: &mut F) -> Result
     ensures shown { IfOk result CanBePut }
     ensures stop { IfErr result (IsStop (asked_by (words_of words.now)) (F.told files.old)
         (Rose (F.faults files.old) (F.faults files.new))) }
-    ensures loads { F.loads files.new ≤ F.loads files.old + length (texts_of (asked_by (words_of words.now))) }
-    ensures room { F.room files.new ≤ F.room files.old + sum_by room_of (texts_of (asked_by (words_of words.now))) }
+    ensures loads { FirstAreLoaded (texts_of (asked_by (words_of words.now)))
+        (F.loads files.old) (F.loads files.new) (F.room files.old) (F.room files.new) }
     ensures loaded { OnOk result (AreLoaded (texts_of (asked_by (words_of words.now)))
         (F.loads files.old) (F.loads files.new) (F.room files.old) (F.room files.new)) }
     ensures calm { IsErrOf result Stop.Unread ⊎ (F.faults files.new ≡ F.faults files.old) }
@@ -92,10 +92,8 @@ fn check<F: Files>(alloc: Global, policy: &str, files: &mut F) -> Result<Answer,
     ensures shown { IfOk result CanBePut }
     ensures stop { IfErr result (IsStop (Some (check policy.now)) (F.told files.old)
         (Rose (F.faults files.old) (F.faults files.new))) }
-    ensures loads { F.loads files.new ≤ F.loads files.old + 1 }
-    ensures room { F.room files.new ≤ F.room files.old + room_of TextKind.Policy }
-    ensures loaded { OnOk result (AreLoaded (texts_of (Some (check policy.now)))
-        (F.loads files.old) (F.loads files.new) (F.room files.old) (F.room files.new)) }
+    ensures loads { AreLoaded (texts_of (Some (check policy.now)))
+        (F.loads files.old) (F.loads files.new) (F.room files.old) (F.room files.new) }
     ensures calm { IsErrOf result Stop.Unread ⊎ (F.faults files.new ≡ F.faults files.old) }
 {
     let text = load(alloc, files, policy, TextKind::Policy)?;
@@ -108,8 +106,8 @@ fn play<F: Files>(alloc: Global, policy: &str, trace: &str, files: &mut F) -> Re
     ensures shown { IfOk result CanBePut }
     ensures stop { IfErr result (IsStop (Some (play policy.now trace.now)) (F.told files.old)
         (Rose (F.faults files.old) (F.faults files.new))) }
-    ensures loads { F.loads files.new ≤ F.loads files.old + 2 }
-    ensures room { F.room files.new ≤ F.room files.old + (room_of TextKind.Policy + room_of TextKind.Trace) }
+    ensures loads { FirstAreLoaded (texts_of (Some (play policy.now trace.now)))
+        (F.loads files.old) (F.loads files.new) (F.room files.old) (F.room files.new) }
     ensures loaded { OnOk result (AreLoaded (texts_of (Some (play policy.now trace.now)))
         (F.loads files.old) (F.loads files.new) (F.room files.old) (F.room files.new)) }
     ensures calm { IsErrOf result Stop.Unread ⊎ (F.faults files.new ≡ F.faults files.old) }

@@ -1,11 +1,11 @@
 //! The top call: every command over files, a sink and a gate that are handed in.
 
-ghost use Rattle.std.specs.Prelude.{◌≡◌, ◌+◌, ◌≤◌, ◌⊎◌, [], ◌∷◌, length, sum_by};
+ghost use Rattle.std.specs.Prelude.{◌≡◌, ◌⊎◌, [], ◌∷◌};
 ghost use Rattle.sched_io.specs.Faults.{Rose};
 ghost use Rattle.ipanema_cli.specs.Command.{asked_by, texts_of, words_of};
 ghost use Rattle.ipanema_cli.specs.Ends.{Ends};
 ghost use Rattle.ipanema_cli.specs.Causes.{HasCause, OneOf};
-ghost use Rattle.ipanema_cli.specs.Texts.{AreLoaded, room_of};
+ghost use Rattle.ipanema_cli.specs.Texts.{AreLoaded, FirstAreLoaded};
 ghost use Rattle.ipanema_cli.specs.Truths.{IsTruthful};
 
 use crate::answers::Answer;
@@ -38,10 +38,10 @@ pub fn ipanema<R: Threads + Wait + Sync, F: Files, S: Sink, G: Gate>(
     // What is said of a policy and of a trace is true.
     ensures truthful { IsTruthful (asked_by (words_of words.now.items)) (F.told files.old)
         (S.written out.old) (S.written out.new) result }
-    // No more files are loaded than the command has, nor with more room in all than their texts may take.
-    ensures loads { F.loads files.new ≤ F.loads files.old + length (texts_of (asked_by (words_of words.now.items))) }
-    ensures room { F.room files.new ≤ F.room files.old + sum_by room_of (texts_of (asked_by (words_of words.now.items))) }
-    // And where a text was answered, or no command was, each of them was loaded once.
+    // Just the first of the command's texts are loaded, each once and all with just the room that they may take.
+    ensures loads { FirstAreLoaded (texts_of (asked_by (words_of words.now.items)))
+        (F.loads files.old) (F.loads files.new) (F.room files.old) (F.room files.new) }
+    // And where a text was answered, or no command was, all of them.
     ensures loaded { OneOf (0 ∷ 1 ∷ 2 ∷ 7 ∷ 8 ∷ []) result → AreLoaded (texts_of (asked_by (words_of words.now.items)))
         (F.loads files.old) (F.loads files.new) (F.room files.old) (F.room files.new) }
     // Where the files' count of faults moves, the call ends with 4, and where the sink's does, with 5.

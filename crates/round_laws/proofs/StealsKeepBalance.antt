@@ -1,0 +1,58 @@
+-- A steal brings no idle core beside an overloaded one: its victim was overloaded before it, and no other core than its
+-- thief and victim changes.
+use Rattle.std.proofs.Common.{◌≡◌, ◌≢◌, ℕ, suc, IsTrue, List, take, refl, ap, arith}
+use mathlib.Core.Option.{some}
+use lib.ListN.{get_elem?}
+use Rattle.policy_tree.specs.Meaning.{Meaning}
+use Rattle.policy_eval.specs.Obligations.{MeetsObligations}
+use Rattle.round_model.specs.declared.entry.Entry.{Entry}
+use Rattle.round_model.specs.declared.entry.Entry.TheVariants as entry
+use Rattle.round_model.specs.declared.plan.Plan.{Plan}
+use Rattle.round_model.specs.declared.state.CountAndLoad.{CountAndLoad}
+use Rattle.round_model.specs.After.{after, round_after}
+use Rattle.round_model.specs.Cores.{Cores, thread_count}
+use Rattle.round_model.specs.Fits.{Fits}
+use Rattle.round_model.specs.Kinds.{is_steal}
+use Rattle.round_model.specs.Legal.{Legal}
+use Rattle.round_model.specs.Spread.{Beside}
+use Rattle.round_model.specs.StillRounds.{BesideAt}
+use Rattle.round_laws.proofs.Thefts.{IsLegalSteal, steal_at}
+
+-- an idle core beside an overloaded one was so before the steal, beside the victim
+beside_before : (p : Meaning) (plan : Plan) (by from thread : ℕ) (m w : Cores) → IsLegalSteal p plan by from thread m w → Beside plan w → Beside plan m
+beside_before p plan by from thread m w steal beside =
+    let idle = beside.idle in
+    let now : thread_count (w idle) ≡ 0 = beside.is_idle in
+    let two = steal.overloaded in
+    let not_thief : idle ≢ by = λ is. let same : thread_count (w idle) ≡ thread_count (w by) = ap (λ c. thread_count (w c)) is in let more = steal.more in omega arith in
+    let not_victim : idle ≢ from = λ is. let same : thread_count (w idle) ≡ thread_count (w from) = ap (λ c. thread_count (w c)) is in let fewer = steal.fewer in omega arith in
+    record {
+      idle = idle;
+      overloaded = from;
+      idle_there = beside.idle_there;
+      overloaded_there = steal.victim_there;
+      is_idle = let same = ap (λ (s : CountAndLoad). s.nr) (steal.others idle not_thief not_victim) in omega arith;
+      is_overloaded = two;
+    }
+
+-- what holds of each Steal holds of each entry that is one
+steal_cases : (P : Entry → Type 0) → ((by from thread : ℕ) (reads : List ℕ) → P (entry.Steal by from thread reads)) → (e : Entry) → IsTrue (is_steal e) → P e
+steal_cases P each (entry.Round number) steal = absurd (cc)
+steal_cases P each (entry.Enter thread by at reads) steal = absurd (cc)
+steal_cases P each (entry.Wake thread by at reads) steal = absurd (cc)
+steal_cases P each (entry.Work by what) steal = absurd (cc)
+steal_cases P each (entry.Steal by from thread reads) steal = each by from thread reads
+steal_cases P each (entry.Fail by from reads) steal = absurd (cc)
+steal_cases P each (entry.Pass by reads) steal = absurd (cc)
+
+-- a steal is no Round, and opens none
+pub steal_opens_none : (round : ℕ) (e : Entry) → IsTrue (is_steal e) → round_after round e ≡ round
+steal_opens_none round e steal = steal_cases (λ x. round_after round x ≡ round) (λ by from thread reads. refl) e steal
+
+-- a steal of a legal history brings no idle core beside an overloaded one
+pub beside_before_steal : (p : Meaning) (plan : Plan) (h : List Entry) → Fits p plan → MeetsObligations p → Legal p plan h → (k : ℕ) (e : Entry) → get_elem? h k ≡ some e → IsTrue (is_steal e)
+    → BesideAt p plan h (suc k) → BesideAt p plan h k
+beside_before_steal p plan h fits meets legal k e is steal beside =
+    steal_cases (λ x. get_elem? h k ≡ some x → BesideAt p plan h k)
+    (λ by from thread reads here. beside_before p plan by from thread (after p plan (take k h)) (after p plan (take (suc k) h)) (steal_at p plan h fits meets legal k by from thread reads here) beside)
+    e steal is

@@ -1,0 +1,33 @@
+//! Laws over all policies, plans and legal histories, each a function without parameters whose contract is the law.
+//!
+//! Work conservation is that of Lepers et al., "Towards Proving Optimistic Multicore Schedulers" (HotOS 2017), section 3,
+//! and "Provable Multicore Schedulers with Ipanema" (EuroSys 2020), section 3, here over rounds in which nobody enters,
+//! wakes, blocks or ends.
+
+ghost use Rattle.round_model.specs.FailsExplained.{FailedStealsLaw};
+ghost use Rattle.round_model.specs.OnePlace.{OnePlaceLaw};
+ghost use Rattle.round_model.specs.StillRounds.{StillRoundsLaw};
+ghost use Rattle.round_laws.specs.MainTheorem.{MainTheorem};
+
+/// Each live thread stands at exactly one core, each blocked one in exactly one blocked list, every other nowhere; and
+/// every number lies in its range. For this exactly one case of each handler has to hold, and no more.
+pub fn law_one_place()
+    ensures { OnePlaceLaw }
+{}
+
+/// Each failed steal follows a change of its thief or its victim in its round, and in a still round a steal changed it.
+pub fn law_failed_steals()
+    ensures { FailedStealsLaw }
+{}
+
+/// In still rounds each bad round has a steal, each steal lowers the spread of the loads by 2 at least, and no core is
+/// idle beside an overloaded one after as many rounds as half the first spread.
+pub fn law_still_rounds()
+    ensures { StillRoundsLaw }
+{}
+
+/// A policy that meets its obligations wastes no core in still rounds, whatever the plan, the number of cores and the
+/// interleaving.
+pub fn law_main_theorem()
+    ensures { MainTheorem }
+{}
