@@ -6,7 +6,7 @@ use policy_parser::parse;
 use std::alloc::{AllocError, Global};
 
 /// The answer to the text.
-pub fn syntax_answer(alloc: Global, text: &[u8]) -> Result<String, AllocError> {
+pub(crate) fn syntax_answer(alloc: Global, text: &[u8]) -> Result<String, AllocError> {
     if text.len() > TEXT_LIMIT {
         return String::from_str(alloc, "too-long");
     }

@@ -10,7 +10,7 @@ use std::{fs, io};
 
 /// What is asked of the texts of a table.
 #[derive(Clone, Copy)]
-pub enum Table {
+pub(crate) enum Table {
     /// Whether the text has a syntax, or its first fault of tokens or grammar.
     Syntax,
     /// What is printed of its syntax.
@@ -83,7 +83,11 @@ fn is_right<R: Print>(
 }
 
 /// Plays the table.
-pub fn play<R: Files + Print + Alloc>(rt: &R, alloc: Global, table: Table) -> io::Result<()> {
+pub(crate) fn play<R: Files + Print + Alloc>(
+    rt: &R,
+    alloc: Global,
+    table: Table,
+) -> io::Result<()> {
     let lines = fs::read_to_string(rt, table.file())?;
     let mut right: u64 = 0;
     for line in lines.lines() {

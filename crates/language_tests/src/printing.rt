@@ -8,7 +8,7 @@ use policy_tree::Syntax;
 use std::alloc::{AllocError, Global};
 
 /// What is printed of the text's syntax, where the syntax that it is read to again prints the same.
-pub fn printed_answer(alloc: Global, text: &[u8]) -> Result<String, AllocError> {
+pub(crate) fn printed_answer(alloc: Global, text: &[u8]) -> Result<String, AllocError> {
     if text.len() > TEXT_LIMIT {
         return String::from_str(alloc, "too-long");
     }

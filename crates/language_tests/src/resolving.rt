@@ -9,7 +9,7 @@ use policy_types::{TypeFault, resolve};
 use std::alloc::{AllocError, Global};
 
 /// The syntax of a text, if it has one.
-pub fn syntax_of(alloc: Global, text: &[u8]) -> Option<Syntax> {
+pub(crate) fn syntax_of(alloc: Global, text: &[u8]) -> Option<Syntax> {
     if text.len() > TEXT_LIMIT {
         return None;
     }
@@ -18,7 +18,7 @@ pub fn syntax_of(alloc: Global, text: &[u8]) -> Option<Syntax> {
 }
 
 /// The answer to the text.
-pub fn policy_answer(alloc: Global, text: &[u8]) -> Result<String, AllocError> {
+pub(crate) fn policy_answer(alloc: Global, text: &[u8]) -> Result<String, AllocError> {
     let Some(syntax) = syntax_of(alloc, text) else {
         return String::from_str(alloc, "no syntax");
     };

@@ -7,7 +7,7 @@ use std::alloc::AllocError;
 use std::fmt::Write;
 
 /// The whole policy but for its name and its attributes' names.
-pub fn show_policy(text: &mut String, policy: &Policy) -> Result<(), AllocError> {
+pub(crate) fn show_policy(text: &mut String, policy: &Policy) -> Result<(), AllocError> {
     show_front(text, policy)?;
     show_handlers(text, &policy.handlers)?;
     show_cond(text, &policy.filter)?;
