@@ -4,6 +4,7 @@ pub mod Causes
 pub mod CheckAnswer
 pub mod Command
 pub mod Ends
+pub mod Loads
 pub mod Status
 pub mod Stops
 pub mod Texts

@@ -1,5 +1,5 @@
 -- The texts that commands load.
-use Rattle.std.specs.Prelude.{◌≡◌, ℕ, ◌<◌, ◌≤◌, List, codes, fold, length, take}
+use Rattle.std.specs.Prelude.{◌≡◌, ℕ, ◌<◌, ◌≤◌, List, codes, fold, length}
 use Rattle.sched_base.specs.declared.limits.TheConstants.{MAX_POLICY_BYTES, MAX_TRACE_BYTES}
 use Rattle.sched_io.specs.Loads.{more_room, one_more}
 use Rattle.sched_io.specs.Told.{Told, MayHold}
@@ -25,11 +25,6 @@ pub record MayRead (which : TextKind) (told : Told) (text : List ℕ) : Type 0 w
 pub record AreLoaded (texts : List TextKind) (loads_before loads_after room_before room_after : ℕ) : Type 0 where
   pub counted : loads_after ≡ fold (λ loads which. one_more loads) loads_before texts
   pub measured : room_after ≡ fold (λ room which. more_room (room_of which) room) room_before texts
-
--- Just the first of these texts were so loaded, however many: each call stops at the first that it can't have.
-pub record FirstAreLoaded (texts : List TextKind) (loads_before loads_after room_before room_after : ℕ) : Type 0 where
-  pub count : ℕ
-  pub loaded : AreLoaded (take count texts) loads_before loads_after room_before room_after
 
 -- The file may hold a text that is longer.
 abbrev pub MayBeLong : TextKind → Told → Type 0

@@ -6,8 +6,9 @@ ghost use Rattle.ipanema_cli.specs.Answers.{AnswersCheck, AnswersPlay, CanBePut,
 ghost use Rattle.ipanema_cli.specs.Command.{asked_by, check, play, texts_of, words_of};
 ghost use Rattle.ipanema_cli.specs.Ends.{Ends, Writes};
 ghost use Rattle.ipanema_cli.specs.Causes.{HasCause, OneOf};
+ghost use Rattle.ipanema_cli.specs.Loads.{FirstAreLoaded};
 ghost use Rattle.ipanema_cli.specs.Stops.{IsStop};
-ghost use Rattle.ipanema_cli.specs.Texts.{AreLoaded, FirstAreLoaded};
+ghost use Rattle.ipanema_cli.specs.Texts.{AreLoaded};
 ghost use Rattle.ipanema_cli.specs.Truths.{IsTruthful};
 
 use crate::answers::{Answer, play_texts};
@@ -37,7 +38,7 @@ pub fn serial_command<F: Files, S: Sink>(
         (S.written out.old) (S.written out.new) result }
     ensures truthful { IsTruthful (asked_by (words_of words.now.items)) (F.told files.old)
         (S.written out.old) (S.written out.new) result }
-    ensures loads { FirstAreLoaded (texts_of (asked_by (words_of words.now.items)))
+    ensures loads { FirstAreLoaded (asked_by (words_of words.now.items)) (F.told files.old)
         (F.loads files.old) (F.loads files.new) (F.room files.old) (F.room files.new) }
     ensures loaded { OneOf (0 ∷ 1 ∷ 2 ∷ 7 ∷ 8 ∷ []) result → AreLoaded (texts_of (asked_by (words_of words.now.items)))
         (F.loads files.old) (F.loads files.new) (F.room files.old) (F.room files.new) }
@@ -52,7 +53,7 @@ fn carry_out<F: Files, S: Sink>(alloc: Global, words: &[String], files: &mut F, 
     ensures ends { Ends (asked_by (words_of words.now)) (F.told files.old)
         (Rose (F.faults files.old) (F.faults files.new)) (Rose (S.faults out.old) (S.faults out.new))
         (S.written out.old) (S.written out.new) result }
-    ensures loads { FirstAreLoaded (texts_of (asked_by (words_of words.now)))
+    ensures loads { FirstAreLoaded (asked_by (words_of words.now)) (F.told files.old)
         (F.loads files.old) (F.loads files.new) (F.room files.old) (F.room files.new) }
     ensures loaded { OneOf (0 ∷ 1 ∷ 2 ∷ 7 ∷ 8 ∷ []) result → AreLoaded (texts_of (asked_by (words_of words.now)))
         (F.loads files.old) (F.loads files.new) (F.room files.old) (F.room files.new) }
@@ -73,7 +74,7 @@ fn answer_to<F: Files>(alloc: Global, words: &[String], files: &mut F) -> Result
     ensures shown { IfOk result CanBePut }
     ensures stop { IfErr result (IsStop (asked_by (words_of words.now)) (F.told files.old)
         (Rose (F.faults files.old) (F.faults files.new))) }
-    ensures loads { FirstAreLoaded (texts_of (asked_by (words_of words.now)))
+    ensures loads { FirstAreLoaded (asked_by (words_of words.now)) (F.told files.old)
         (F.loads files.old) (F.loads files.new) (F.room files.old) (F.room files.new) }
     ensures loaded { OnOk result (AreLoaded (texts_of (asked_by (words_of words.now)))
         (F.loads files.old) (F.loads files.new) (F.room files.old) (F.room files.new)) }
@@ -106,7 +107,7 @@ fn play<F: Files>(alloc: Global, policy: &str, trace: &str, files: &mut F) -> Re
     ensures shown { IfOk result CanBePut }
     ensures stop { IfErr result (IsStop (Some (play policy.now trace.now)) (F.told files.old)
         (Rose (F.faults files.old) (F.faults files.new))) }
-    ensures loads { FirstAreLoaded (texts_of (Some (play policy.now trace.now)))
+    ensures loads { FirstAreLoaded (Some (play policy.now trace.now)) (F.told files.old)
         (F.loads files.old) (F.loads files.new) (F.room files.old) (F.room files.new) }
     ensures loaded { OnOk result (AreLoaded (texts_of (Some (play policy.now trace.now)))
         (F.loads files.old) (F.loads files.new) (F.room files.old) (F.room files.new)) }

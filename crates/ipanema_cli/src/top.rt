@@ -5,7 +5,8 @@ ghost use Rattle.sched_io.specs.Faults.{Rose};
 ghost use Rattle.ipanema_cli.specs.Command.{asked_by, texts_of, words_of};
 ghost use Rattle.ipanema_cli.specs.Ends.{Ends};
 ghost use Rattle.ipanema_cli.specs.Causes.{HasCause, OneOf};
-ghost use Rattle.ipanema_cli.specs.Texts.{AreLoaded, FirstAreLoaded};
+ghost use Rattle.ipanema_cli.specs.Loads.{FirstAreLoaded};
+ghost use Rattle.ipanema_cli.specs.Texts.{AreLoaded};
 ghost use Rattle.ipanema_cli.specs.Truths.{IsTruthful};
 
 use crate::answers::Answer;
@@ -38,8 +39,8 @@ pub fn ipanema<R: Threads + Wait + Sync, F: Files, S: Sink, G: Gate>(
     // What is said of a policy and of a trace is true.
     ensures truthful { IsTruthful (asked_by (words_of words.now.items)) (F.told files.old)
         (S.written out.old) (S.written out.new) result }
-    // Just the first of the command's texts are loaded, each once and all with just the room that they may take.
-    ensures loads { FirstAreLoaded (texts_of (asked_by (words_of words.now.items)))
+    // As far as the files' counts tell, just the first of the command's texts are loaded, and none behind one that can't be read.
+    ensures loads { FirstAreLoaded (asked_by (words_of words.now.items)) (F.told files.old)
         (F.loads files.old) (F.loads files.new) (F.room files.old) (F.room files.new) }
     // And where a text was answered, or no command was, all of them.
     ensures loaded { OneOf (0 ∷ 1 ∷ 2 ∷ 7 ∷ 8 ∷ []) result → AreLoaded (texts_of (asked_by (words_of words.now.items)))

@@ -27,8 +27,8 @@ pub fn law_still_rounds()
     ensures { StillRoundsLaw }
 {}
 
-/// A policy that meets its obligations wastes no core in still rounds, whatever the plan, the number of cores and the
-/// interleaving.
+/// A policy that meets its obligations wastes no core in still rounds, in every legal history of every plan that fits it:
+/// for 1 to 32 cores, up to 1,023 threads and 4,096 rounds, and every interleaving of the cores' turns within a round.
 pub fn law_main_theorem()
     ensures { MainTheorem }
 {}
