@@ -3,3 +3,4 @@ pub mod Parts
 pub mod Chains
 pub mod Lexed
 pub mod Exactly
+pub mod Whole

@@ -93,7 +93,7 @@ pub field-stuck : (limits : Limits) (ts : List Lexeme) (at count : ℕ) (below :
     go limits ts at count (field ∷ below) ≡ Some (Unexpected at)
 field-stuck limits ts at count below isnt = go-stuck limits ts at count (field ∷ below) refl (rw isnt refl)
 
-word-some : (kind : ℕ) → is_word kind ≡ true → 0 < kind
+pub word-some : (kind : ℕ) → is_word kind ≡ true → 0 < kind
 word-some kind e = grind (arith, nat_tests)
 
 module _ (limits : Limits) (ts : List Lexeme) (at : ℕ) where

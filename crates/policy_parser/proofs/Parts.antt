@@ -1,5 +1,5 @@
 -- Productions of several tokens, from the places that the parser has.
-use Rattle.std.proofs.Common.{◌≡◌, ℕ, suc, ◌+◌, List, [], ◌∷◌, ◌++◌, map, length, Option, refl, sym, ap, subst, arith, Bool, true, ◌∙◌}
+use Rattle.std.proofs.Common.{◌≡◌, ℕ, suc, ◌+◌, List, [], ◌∷◌, ◌++◌, map, refl, sym, ap, subst, arith, Bool, true, ◌∙◌}
 use Rattle.policy_tree.specs.declared.syntax.Owner.{Owner}
 use Rattle.policy_tree.specs.declared.syntax.OperandSyntax.TheVariants as operand_is
 use Rattle.policy_tree.specs.declared.syntax.FactorSyntax.{FactorSyntax}
@@ -8,7 +8,7 @@ use Rattle.policy_tree.specs.declared.syntax.TermSyntax.{TermSyntax}
 use Rattle.policy_tree.specs.declared.syntax.AddedSyntax.{AddedSyntax}
 use Rattle.policy_tree.specs.declared.syntax.KeySyntax.{KeySyntax}
 use Rattle.policy_grammar.specs.declared.terminal.Lexeme.{Lexeme}
-use Rattle.policy_grammar.specs.declared.terminal.Terminal.TheVariants.{Dot, Star, Minus, Comma, Number, Load, Count, Weight, Name, In, Start, Task, Gets, When, Colon, On, Begin, Finish, Policy, Filter, Choose, Steal}
+use Rattle.policy_grammar.specs.declared.terminal.Terminal.TheVariants.{Dot, Star, Minus, Comma, Number, Load, Count, Weight, Name, In, Start, Task, Gets, When, On, Begin, Finish}
 use Rattle.policy_grammar.specs.Terminals.{code, kind_at, value_at, word_at, is_word}
 use Rattle.policy_grammar.specs.Words.{owner_word, sign_word, attr_word, put_word, event_word}
 use Rattle.policy_tree.specs.declared.syntax.IntSyntax.{IntSyntax}
@@ -16,20 +16,16 @@ use Rattle.policy_tree.specs.declared.syntax.ExprSyntax.{ExprSyntax}
 use Rattle.policy_tree.specs.declared.syntax.RangeSyntax.{RangeSyntax}
 use Rattle.policy_tree.specs.declared.syntax.AttrSyntax.{AttrSyntax}
 use Rattle.policy_tree.specs.declared.syntax.SetSyntax.{SetSyntax}
-use Rattle.policy_tree.specs.declared.syntax.PlaceSyntax.{PlaceSyntax}
-use Rattle.policy_tree.specs.declared.syntax.ElectSyntax.{ElectSyntax}
-use Rattle.policy_tree.specs.declared.syntax.OrderSyntax.{OrderSyntax}
 use Rattle.policy_tree.specs.declared.syntax.CaseSyntax.{CaseSyntax}
 use Rattle.policy_tree.specs.declared.syntax.HandlerSyntax.{HandlerSyntax}
 use Rattle.policy_tree.specs.declared.typed.Event.{Event}
 use Rattle.policy_tree.specs.declared.typed.Put.{Put}
 use Rattle.policy_tree.specs.SyntaxTrees.{ConditionTree, CaseSyntaxTree, HandlerSyntaxTree, case_syntax_tree, handler_syntax_tree}
-use Rattle.policy_grammar.specs.Conditions.{IsCondition}
 use Rattle.policy_parser.specs.Cases.{Cased}
-use Rattle.policy_tree.specs.declared.syntax.LoadSyntax.{LoadSyntax}
+use Rattle.policy_parser.specs.Sections.{IsGuard}
 use Rattle.policy_tree.specs.declared.syntax.LoadSyntax.TheVariants as load_is
-use Rattle.policy_grammar.specs.Policies.{IsLoad, load_count, load_weight, IsAttr, attr_of, IsAttrs, attrs_none, attrs_more, IsSets, sets_none, sets_more, IsCase, case_of, IsCases, cases_none, cases_more, IsHandler, handler_of, IsHandlers, handlers_none, handlers_more, IsPlace, IsElect, IsPolicy, policy_of}
-use Rattle.policy_grammar.specs.Expressions.{IsInt, int_signed, IsRange, IsOperand, operand_reference, IsFactor, factor_signed, IsTimes, times_none, times_more, IsTerm, IsExpr, IsAdded, added_none, added_more, IsKey, IsKeys, keys_none, keys_more, IsOrder}
+use Rattle.policy_grammar.specs.Policies.{IsLoad, load_count, load_weight, IsAttr, attr_of, IsAttrs, attrs_none, attrs_more, IsSets, sets_none, sets_more, IsCase, case_of, IsCases, cases_none, cases_more, IsHandler, handler_of, IsHandlers, handlers_none, handlers_more}
+use Rattle.policy_grammar.specs.Expressions.{IsInt, int_signed, IsRange, IsOperand, operand_reference, IsFactor, factor_signed, IsTimes, times_none, times_more, IsTerm, IsExpr, IsAdded, added_none, added_more, IsKey, IsKeys, keys_none, keys_more}
 
 pub reference_of : {text : List ℕ} {ts : List Lexeme} {at dot next : ℕ} {w : List ℕ} (o : Owner) → kind_at ts at ≡ owner_word o → kind_at ts (at + 1) ≡ code Dot →
     dot ≡ at + 1 + 1 → is_word (kind_at ts dot) ≡ true → next ≡ dot + 1 → w ≡ word_at text ts dot → IsOperand text ts at (operand_is.Reference o w) next
@@ -159,10 +155,10 @@ cased-snoc {items = items} last k d e =
     }
 
 -- a case of a handler
-pub case-parts : {text : List ℕ} {ts : List Lexeme} {at mid sets_at last : ℕ} {guard : ConditionTree} {sets : List SetSyntax} (put : Put) → kind_at ts at ≡ code When →
-    IsCondition text ts (at + 1) guard mid → kind_at ts mid ≡ code Colon → sets_at ≡ mid + 1 → IsSets text ts sets_at sets last → kind_at ts last ≡ put_word put →
+pub case-parts : {text : List ℕ} {ts : List Lexeme} {at sets_at last : ℕ} {guard : ConditionTree} {sets : List SetSyntax} (put : Put) → kind_at ts at ≡ code When →
+    IsGuard text ts (at + 1) guard sets_at → IsSets text ts sets_at sets last → kind_at ts last ≡ put_word put →
     IsCase text ts at (record { at = at; guard = guard; sets = sets; put_at = last; put = put }) (last + 1)
-case-parts {text = text} {ts = ts} {last = last} {sets = sets} put w g k e s p = case_of put w g k (subst (λ n. IsSets text ts n sets last) e s) p
+case-parts {text = text} {ts = ts} {last = last} {sets = sets} put w g s p = case_of put w g.is g.colon (subst (λ n. IsSets text ts n sets last) g.next s) p
 
 -- a handler
 pub handler-parts : {text : List ℕ} {ts : List Lexeme} {at cases_at last to : ℕ} {items : List CaseSyntax} (event : Event) → kind_at ts at ≡ code On →
@@ -173,50 +169,3 @@ handler-parts {text = text} {ts = ts} {at = at} {last = last} {to = to} {items =
     subst (λ x. IsHandler text ts at (record { at = at; event = event; cases = x }) to) (sym c.same)
     (subst (λ n. IsHandler text ts at (record { at = at; event = event; cases = c.first ∷ c.rest }) n) (sym e2)
     (handler_of event o v b (subst (λ n. IsCase text ts n c.first c.mid) there c.is) c.are f))
-
--- a whole policy
-pub policy-parts : {text : List ℕ} {ts : List Lexeme} {name_at load_at attrs_at place_at elect_at handlers_at filter_at guard_at choose_at first_at steal_at second_at end : ℕ}
-    {name : List ℕ} {load : LoadSyntax} {attrs : List AttrSyntax} {place : Option PlaceSyntax} {elect : Option ElectSyntax}
-    {handlers : List HandlerSyntaxTree} {filter : ConditionTree} {choose steal : OrderSyntax} →
-    kind_at ts 0 ≡ code Policy → name_at ≡ 0 + 1 → kind_at ts name_at ≡ code Name → name ≡ word_at text ts name_at → load_at ≡ name_at + 1 → IsLoad ts load_at load attrs_at →
-    IsAttrs text ts attrs_at attrs place_at → IsPlace text ts place_at place elect_at → IsElect text ts elect_at elect handlers_at → IsHandlers text ts handlers_at handlers filter_at →
-    kind_at ts filter_at ≡ code Filter → guard_at ≡ filter_at + 1 → IsCondition text ts guard_at filter choose_at → kind_at ts choose_at ≡ code Choose →
-    first_at ≡ choose_at + 1 → IsOrder text ts first_at choose steal_at → kind_at ts steal_at ≡ code Steal → second_at ≡ steal_at + 1 →
-    IsOrder text ts second_at steal end → end ≡ length ts →
-    IsPolicy text ts (record {
-      name = name;
-      load = load;
-      attrs = attrs;
-      place = place;
-      elect = elect;
-      handlers = handlers;
-      filter_at = filter_at;
-      filter = filter;
-      choose_at = choose_at;
-      choose = choose;
-      steal_at = steal_at;
-      steal = steal;
-    })
-policy-parts {text = text} {ts = ts} {attrs_at = attrs_at} {place_at = place_at} {elect_at = elect_at} {handlers_at = handlers_at} {filter_at = filter_at}
-    {choose_at = choose_at} {steal_at = steal_at} {second_at = second_at} {end = end} {name = name} {load = load} {attrs = attrs} {place = place} {elect = elect} {handlers = handlers}
-    {filter = filter} {choose = choose} {steal = steal}
-    k0 e1 k1 w e2 dl da dp de dh kf e3 df kc e4 dc ks e5 ds e6 =
-    let two : _ ≡ 2 = omega (arith, e1, e2) in
-    subst (λ x. IsPolicy text ts (record {
-      name = x;
-      load = load;
-      attrs = attrs;
-      place = place;
-      elect = elect;
-      handlers = handlers;
-      filter_at = filter_at;
-      filter = filter;
-      choose_at = choose_at;
-      choose = choose;
-      steal_at = steal_at;
-      steal = steal;
-    }))
-    (sym (w ∙ ap (word_at text ts) e1))
-    (policy_of k0 (subst (λ n. kind_at ts n ≡ code Name) e1 k1) (subst (λ n. IsLoad ts n load attrs_at) two dl) da dp de dh
-    kf (subst (λ n. IsCondition text ts n filter choose_at) e3 df) kc (subst (λ n. IsOrder text ts n choose steal_at) e4 dc) ks
-    (subst (λ n. IsOrder text ts n steal (length ts)) e5 (subst (λ m. IsOrder text ts second_at steal m) e6 ds)))

@@ -9,7 +9,7 @@ ghost use Rattle.policy_grammar.specs.Conditions.{IsUnit, IsConjunction, IsCondi
 ghost use Rattle.policy_grammar.specs.Machine.{Symbol, unit, ands, ors, compare, operand, is_compare, go};
 ghost use Rattle.policy_parser.specs.Answers.{Answers};
 
-use crate::source::Source;
+use crate::source::{Source, both};
 use policy_grammar::{ParseFault, Terminal};
 use policy_tree::{Cmp, ConditionSyntax};
 
@@ -153,7 +153,7 @@ impl<'a> Source<'a> {
             return Err(ParseFault::Deep(at));
         }
         let (inner, end, counted) = self.condition(at + 1, depth + 1, count)?;
-        let next = self.expect(end, Terminal::Close)?;
+        let (inner, next) = both(inner, self.expect(end, Terminal::Close))?;
         let whole = ConditionSyntax::group_of(self.alloc, at, inner)?;
         Ok((whole, next, counted))
     }

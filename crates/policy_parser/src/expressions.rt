@@ -4,11 +4,11 @@ ghost use Rattle.std.specs.Prelude.{◌≡◌, ◌==◌, ◌<◌, ◌≤◌, ◌
 ghost use Rattle.policy_grammar.specs.Terminals.{code, kind_at};
 ghost use Rattle.policy_grammar.specs.declared.terminal.Terminal.TheVariants.{Minus, Plus, Star};
 ghost use Rattle.policy_grammar.specs.Words.{owner_word, sign_word};
-ghost use Rattle.policy_grammar.specs.Expressions.{IsOperand, IsFactor, IsTerm, IsExpr};
+ghost use Rattle.policy_grammar.specs.Expressions.{IsOperand, IsFactor, IsTerm, IsAdded, IsExpr};
 ghost use Rattle.policy_grammar.specs.Machine.{Symbol, operand, operators, is_owner, go};
 ghost use Rattle.policy_parser.specs.Answers.{Answers, IsOver};
 
-use crate::source::Source;
+use crate::source::{Source, both};
 use lists::Items;
 use policy_grammar::{ParseFault, Terminal};
 use policy_tree::{
@@ -27,19 +27,36 @@ impl<'a> Source<'a> {
             Answers (go self.now.limits self.now.lexemes.now at count (operand depth depth 0 ∷ below))
             (λ x. go self.now.limits self.now.lexemes.now x.1 count below) result }
     {
-        let (first, mut next, mut counted) = self.term(at, depth, 0)?;
+        let (first, next, counted) = self.term(at, depth, 0)?;
+        let (first, (rest, end)) = both(first, self.added(next, depth, counted))?;
+        Ok((ExprSyntax { at, first, rest }, end))
+    }
+
+    /// What is added there to a term or taken from it, where so many are open and so many operators came before.
+    fn added(
+        &self,
+        at: u32,
+        depth: u32,
+        before: u32,
+    ) -> Result<(Items<AddedSyntax>, u32), ParseFault>
+        requires within { at ≤ length self.now.lexemes.now }
+        requires opens { depth ≤ self.now.limits.nesting }
+        requires few { before ≤ self.now.limits.operators }
+        requires star { (kind_at self.now.lexemes.now at == code Star) ≡ false }
+        ensures later { IfOk result (λ x. (at ≤ x.1) × (x.1 ≤ length self.now.lexemes.now)) }
+        ensures is { IfOk result (λ x. IsAdded self.now.text.now self.now.lexemes.now at x.0 x.1) }
+        ensures over { IfOk result (λ x. IsOver self.now.lexemes.now x.1) }
+        ensures reads { (count : ℕ) (below : List Symbol) →
+            Answers (go self.now.limits self.now.lexemes.now at count (operators depth before ∷ below))
+            (λ x. go self.now.limits self.now.lexemes.now x.1 count below) result }
+    {
         let mut rest = Vec::new(self.alloc);
+        let mut next = at;
+        let mut counted = before;
         'sums: loop {
             let minus = match self.sign(next) {
                 Some(minus) => minus,
-                None => return Ok((
-                    ExprSyntax {
-                        at,
-                        first,
-                        rest: Items::from_vec(rest),
-                    },
-                    next,
-                )),
+                None => return Ok((Items::from_vec(rest), next)),
             };
             if counted >= self.limits.operators {
                 return Err(ParseFault::Many(next, self.limits.operators));

@@ -6,6 +6,7 @@ mod expressions;
 mod orders;
 mod policies;
 mod reading;
+mod sections;
 mod source;
 mod words;
 

@@ -1,63 +1,27 @@
-//! Reads policies.
+//! Reads the parts of policies.
 
-ghost use Rattle.std.specs.Prelude.{None, ◌≡◌, ◌==◌, ◌<◌, ◌≤◌, ◌+◌, ◌∷◌, [], ℕ, List, length, IfOk, IfSome, IfNone, IsTrue, false, map, ◌^◌, ◌-◌};
-ghost use Rattle.policy_grammar.specs.declared.terminal.Terminal.TheVariants.{Core, Thread, On, Load, Range, In, Start, Name, Task, Dot, Gets, Comma};
+ghost use Rattle.std.specs.Prelude.{◌≡◌, ◌==◌, ◌<◌, ◌≤◌, ◌+◌, ◌∷◌, [], ℕ, List, length, IfOk, IfSome, IfNone, IsTrue, false, map, ◌^◌, ◌-◌};
+ghost use Rattle.policy_grammar.specs.declared.terminal.Terminal.TheVariants.{Core, Thread, On, Load, Range, In, Start, Name, Task, Dot, Gets, Comma, Colon};
 ghost use Rattle.policy_grammar.specs.Terminals.{code, kind_at, word_at};
 ghost use Rattle.policy_grammar.specs.Words.{attr_word, put_word, event_word};
 ghost use Rattle.policy_grammar.specs.Expressions.{IsInt, IsRange};
-ghost use Rattle.policy_grammar.specs.Policies.{IsPolicy, IsLoad, IsAttr, IsAttrs, IsCase, IsHandler, IsHandlers, IsPlace, IsElect, IsSets};
-ghost use Rattle.policy_grammar.specs.Machine.{Symbol, the, int, load_rule, attrs, actions, case, cases, handlers, is_put, is_event, place, elect, field, operand, start, go};
-ghost use Rattle.policy_tree.specs.SyntaxTrees.{case_syntax_tree, handler_syntax_tree, syntax_tree};
+ghost use Rattle.policy_grammar.specs.Policies.{IsLoad, IsAttr, IsAttrs, IsCase, IsHandler, IsHandlers, IsPlace, IsElect, IsSets};
+ghost use Rattle.policy_grammar.specs.Machine.{Symbol, the, int, load_rule, attrs, actions, case, cases, handlers, is_put, is_event, place, elect, field, operand, unit, ands, ors, go};
+ghost use Rattle.policy_tree.specs.SyntaxTrees.{case_syntax_tree, condition_tree, handler_syntax_tree};
 ghost use Rattle.policy_grammar.specs.Breaks.{of_kind};
 ghost use Rattle.policy_parser.specs.Answers.{Answers};
 ghost use Rattle.policy_parser.specs.Cases.{Cased};
+ghost use Rattle.policy_parser.specs.Sections.{IsGuard};
 
-use crate::source::Source;
+use crate::source::{Source, both};
 use lists::Items;
 use policy_grammar::{ParseFault, Terminal};
 use policy_tree::{
-    AttrSyntax, CaseSyntax, ElectSyntax, Event, HandlerSyntax, IntSyntax, LoadSyntax, Name,
-    PlaceSyntax, Put, RangeSyntax, SetSyntax, Syntax,
+    AttrSyntax, CaseSyntax, ConditionSyntax, ElectSyntax, Event, HandlerSyntax, IntSyntax,
+    LoadSyntax, Name, PlaceSyntax, Put, RangeSyntax, SetSyntax,
 };
 
 impl<'a> Source<'a> {
-    /// The policy that the tokens are.
-    pub(crate) fn policy(&self) -> Result<Syntax, ParseFault>
-        ensures is { IfOk result (λ s. IsPolicy self.now.text.now self.now.lexemes.now (syntax_tree s)) }
-        ensures reads { Answers (go self.now.limits self.now.lexemes.now 0 0 start) (λ s. None) result }
-    {
-        let name_at = self.expect(0, Terminal::Policy)?;
-        let (name, load_at) = self.name_at(name_at)?;
-        let (load, attrs_at) = self.load(load_at)?;
-        let (attrs, place_at) = self.attrs(attrs_at)?;
-        let (place, elect_at) = self.place(place_at)?;
-        let (elect, handlers_at) = self.elect(elect_at)?;
-        let (handlers, filter_at) = self.handlers(handlers_at)?;
-        let guard_at = self.expect(filter_at, Terminal::Filter)?;
-        let (filter, choose_at, _count) = self.condition(guard_at, 0, 0)?;
-        let first_at = self.expect(choose_at, Terminal::Choose)?;
-        let (choose, steal_at) = self.order(first_at)?;
-        let second_at = self.expect(steal_at, Terminal::Steal)?;
-        let (steal, end) = self.order(second_at)?;
-        if (end as usize) < self.lexemes.len() {
-            return Err(ParseFault::Unexpected(end));
-        }
-        Ok(Syntax {
-            name,
-            load,
-            attrs,
-            place,
-            elect,
-            handlers,
-            filter_at,
-            filter,
-            choose_at,
-            choose,
-            steal_at,
-            steal,
-        })
-    }
-
     /// A number that may have a sign.
     fn int(&self, at: u32) -> Result<(IntSyntax, u32), ParseFault>
         requires within { at ≤ length self.now.lexemes.now }
@@ -109,7 +73,7 @@ impl<'a> Source<'a> {
     }
 
     /// What a thread adds to the load of its core.
-    fn load(&self, at: u32) -> Result<(LoadSyntax, u32), ParseFault>
+    pub(crate) fn load(&self, at: u32) -> Result<(LoadSyntax, u32), ParseFault>
         requires within { at ≤ length self.now.lexemes.now }
         ensures later { IfOk result (λ x. (at < x.1) × (x.1 ≤ length self.now.lexemes.now)) }
         ensures is { IfOk result (λ x. IsLoad self.now.lexemes.now at x.0 x.1) }
@@ -157,7 +121,7 @@ impl<'a> Source<'a> {
     }
 
     /// A name that must stand there: a word that isn't reserved.
-    fn name_at(&self, at: u32) -> Result<(Name, u32), ParseFault>
+    pub(crate) fn name_at(&self, at: u32) -> Result<(Name, u32), ParseFault>
         ensures next { IfOk result (λ x. (x.1 ≡ at + 1) × (x.1 ≤ length self.now.lexemes.now)) }
         ensures is { IfOk result (λ x. kind_at self.now.lexemes.now at ≡ code Name) }
         ensures word { IfOk result (λ x. x.0 ≡ word_at self.now.text.now self.now.lexemes.now at) }
@@ -171,7 +135,7 @@ impl<'a> Source<'a> {
     }
 
     /// The place rule, if there is one.
-    fn place(&self, at: u32) -> Result<(Option<PlaceSyntax>, u32), ParseFault>
+    pub(crate) fn place(&self, at: u32) -> Result<(Option<PlaceSyntax>, u32), ParseFault>
         requires within { at ≤ length self.now.lexemes.now }
         ensures later { IfOk result (λ x. (at ≤ x.1) × (x.1 ≤ length self.now.lexemes.now)) }
         ensures is { IfOk result (λ x. IsPlace self.now.text.now self.now.lexemes.now at x.0 x.1) }
@@ -193,7 +157,7 @@ impl<'a> Source<'a> {
     }
 
     /// The order of election, if there is one.
-    fn elect(&self, at: u32) -> Result<(Option<ElectSyntax>, u32), ParseFault>
+    pub(crate) fn elect(&self, at: u32) -> Result<(Option<ElectSyntax>, u32), ParseFault>
         requires within { at ≤ length self.now.lexemes.now }
         ensures later { IfOk result (λ x. (at ≤ x.1) × (x.1 ≤ length self.now.lexemes.now)) }
         ensures is { IfOk result (λ x. IsElect self.now.text.now self.now.lexemes.now at x.0 x.1) }
@@ -226,7 +190,7 @@ impl<'a> Source<'a> {
     }
 
     /// The attributes that stand there.
-    fn attrs(&self, at: u32) -> Result<(Items<AttrSyntax>, u32), ParseFault>
+    pub(crate) fn attrs(&self, at: u32) -> Result<(Items<AttrSyntax>, u32), ParseFault>
         requires within { at ≤ length self.now.lexemes.now }
         ensures later { IfOk result (λ x. (at ≤ x.1) × (x.1 ≤ length self.now.lexemes.now)) }
         ensures is { IfOk result (λ x. IsAttrs self.now.text.now self.now.lexemes.now at x.0 x.1) }
@@ -331,9 +295,8 @@ impl<'a> Source<'a> {
         if before >= self.limits.cases {
             return Err(ParseFault::Many(at, self.limits.cases));
         }
-        let (guard, colon_at, _count) = self.condition(at + 1, 0, 0)?;
-        let sets_at = self.expect(colon_at, Terminal::Colon)?;
-        let (sets, put_at, put) = self.actions(sets_at)?;
+        let (guard, sets_at) = self.guard(at + 1)?;
+        let (guard, (sets, put_at, put)) = both(guard, self.actions(sets_at))?;
         Ok((
             CaseSyntax {
                 at,
@@ -344,6 +307,20 @@ impl<'a> Source<'a> {
             },
             put_at + 1,
         ))
+    }
+
+    /// The condition of a case, and the colon behind it.
+    fn guard(&self, at: u32) -> Result<(ConditionSyntax, u32), ParseFault>
+        requires within { at ≤ length self.now.lexemes.now }
+        ensures later { IfOk result (λ x. (at < x.1) × (x.1 ≤ length self.now.lexemes.now)) }
+        ensures is { IfOk result (λ x. IsGuard self.now.text.now self.now.lexemes.now at (condition_tree x.0) x.1) }
+        ensures reads { (below : List Symbol) →
+            Answers (go self.now.limits self.now.lexemes.now at 0 (unit 0 ∷ ands 0 ∷ ors 0 ∷ the Colon ∷ below))
+            (λ x. go self.now.limits self.now.lexemes.now x.1 0 below) result }
+    {
+        let (guard, colon_at, _count) = self.condition(at, 0, 0)?;
+        let (guard, next) = both(guard, self.expect(colon_at, Terminal::Colon))?;
+        Ok((guard, next))
     }
 
     /// The cases that stand there, of which there is one at least.
@@ -408,7 +385,7 @@ impl<'a> Source<'a> {
     }
 
     /// The handlers that stand there.
-    fn handlers(&self, at: u32) -> Result<(Items<HandlerSyntax>, u32), ParseFault>
+    pub(crate) fn handlers(&self, at: u32) -> Result<(Items<HandlerSyntax>, u32), ParseFault>
         requires within { at ≤ length self.now.lexemes.now }
         ensures later { IfOk result (λ x. (at ≤ x.1) × (x.1 ≤ length self.now.lexemes.now)) }
         ensures is { IfOk result (λ x. IsHandlers self.now.text.now self.now.lexemes.now at (map handler_syntax_tree x.0) x.1) }

@@ -1,6 +1,6 @@
 //! The tokens that are read, and the text that they are of.
 
-ghost use Rattle.std.specs.Prelude.{◌≡◌, ◌==◌, ◌<◌, ◌≤◌, ◌+◌, ◌^◌, ◌∷◌, ℕ, List, length, All, IfOk, IfErr, IsTrue, true, false};
+ghost use Rattle.std.specs.Prelude.{◌≡◌, ◌==◌, ◌<◌, ◌≤◌, ◌+◌, ◌^◌, ◌∷◌, ℕ, List, length, All, Ok, Err, IfOk, IfErr, IsTrue, true, false};
 ghost use Rattle.policy_grammar.specs.Terminals.{code, kind_at, lexeme_at, word_at, is_word};
 ghost use Rattle.policy_grammar.specs.Machine.{Symbol, the, field, go};
 ghost use Rattle.policy_grammar.specs.declared.fault.ParseFault.TheVariants.{Memory, Unexpected};
@@ -86,5 +86,19 @@ impl<'a> Source<'a> {
         let lexeme = self.lexeme(at);
         let bytes = &self.text[lexeme.start as usize..lexeme.end as usize];
         Ok(Items::from_vec(Vec::from_slice(self.alloc, bytes)?))
+    }
+}
+
+/// Both parts, where the second was read. Where it wasn't, the first is dropped here, once for all readers.
+pub(crate) fn both<T: Drop, U>(
+    first: T,
+    second: Result<U, ParseFault>,
+) -> Result<(T, U), ParseFault>
+    ensures ok { IfOk result (λ x. (x.0 ≡ first) × (second ≡ Ok x.1)) }
+    ensures err { IfErr result (λ e. second ≡ Err e) }
+{
+    match second {
+        Ok(second) => Ok((first, second)),
+        Err(fault) => Err(fault),
     }
 }

@@ -149,24 +149,33 @@ group-returns-in_err-inner-clause-reads t c = λ below.
     rw (p.1, p.2)
     (passes _ (open-goes _ _ c.args.at c.args.count c.args.depth below c.requires.begins c.if-depth-self.false) (c.in_err-inner.ensures.reads (close ∷ below)))
 
-pub group-returns-in_err-next-clause-reads : goal.group-returns-in_err-next-clause-reads
-group-returns-in_err-next-clause-reads t c = λ below.
-    let p = err_from_is_err_and c.from_residual-in_err-next.result c.from_residual-in_err-next.ensures.1 in
+pub group-returns-in_err-inner-2-clause-reads : goal.group-returns-in_err-inner-2-clause-reads
+group-returns-in_err-inner-2-clause-reads t c = λ below.
+    let p = err_from_is_err_and c.from_residual-in_err-inner-2.result c.from_residual-in_err-inner-2.ensures.1 in
     rw (p.1, p.2)
-    (fails-at _ c.in_err-next.ensures.fails
+    (fails-at _ (rw c.in_err-inner-2.ensures.err at c.expect.ensures.fails)
     (open-goes _ _ c.args.at c.args.count c.args.depth below c.requires.begins c.if-depth-self.false
     ∙ c.in_ok-inner.ensures.reads (close ∷ below)
-    ∙ close-none _ _ c.in_ok-inner.end c.in_ok-inner.counted below c.in_err-next.ensures.isnt))
+    ∙ close-none _ _ c.in_ok-inner.end c.in_ok-inner.counted below (rw c.in_err-inner-2.ensures.err at c.expect.ensures.isnt)))
+
+pub group-returns-clause-later : goal.group-returns-clause-later
+group-returns-clause-later t c =
+    let next = rw c.in_ok-inner-2.ensures.ok.1 at c.expect.ensures.next in
+    (omega (arith, next.0, c.in_ok-inner.ensures.later), next.1)
 
 pub group-returns-clause-is : goal.group-returns-clause-is
 group-returns-clause-is t c =
+    let next = rw c.in_ok-inner-2.ensures.ok.1 at c.expect.ensures.next in
     rw c.in_ok-whole.ensures
+    (subst (λ v. IsUnit c.args.self.now.text.now c.args.self.now.lexemes.now c.args.at (grouped c.args.at (condition_tree v)) c.in_ok-inner-2.next)
+    (sym c.in_ok-inner-2.ensures.ok.0)
     (subst (λ n. IsUnit c.args.self.now.text.now c.args.self.now.lexemes.now c.args.at (grouped c.args.at (condition_tree c.in_ok-inner.inner)) n)
-    (sym c.in_ok-next.ensures.next.0) (unit_group c.requires.begins c.in_ok-inner.ensures.is c.in_ok-next.ensures.is))
+    (sym next.0) (unit_group c.requires.begins c.in_ok-inner.ensures.is (rw c.in_ok-inner-2.ensures.ok.1 at c.expect.ensures.is))))
 
 pub group-returns-clause-reads : goal.group-returns-clause-reads
 group-returns-clause-reads t c = λ below.
+    let next = rw c.in_ok-inner-2.ensures.ok.1 at c.expect.ensures.next in
     open-goes _ _ c.args.at c.args.count c.args.depth below c.requires.begins c.if-depth-self.false
     ∙ c.in_ok-inner.ensures.reads (close ∷ below)
-    ∙ close-goes _ _ c.in_ok-inner.end c.in_ok-inner.counted below c.in_ok-next.ensures.is
-    ∙ go-from _ _ c.in_ok-inner.counted below (sym c.in_ok-next.ensures.next.0)
+    ∙ close-goes _ _ c.in_ok-inner.end c.in_ok-inner.counted below (rw c.in_ok-inner-2.ensures.ok.1 at c.expect.ensures.is)
+    ∙ go-from _ _ c.in_ok-inner.counted below (sym next.0)

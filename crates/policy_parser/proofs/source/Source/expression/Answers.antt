@@ -1,9 +1,7 @@
-use Rattle.std.proofs.Common.{◌∙◌, List, sym, subst, arith}
+use Rattle.std.proofs.Common.{◌∙◌, sym, subst, arith}
 use Rattle.std.proofs.lemmas.Result.{err_from_is_err_and}
-use Rattle.policy_tree.specs.declared.syntax.AddedSyntax.{AddedSyntax}
-use Rattle.policy_grammar.specs.Expressions.{IsAdded, added_none, expr_of}
-use Rattle.policy_parser.proofs.Moves.{passes, added-goes, added-many, operators-over}
-use Rattle.policy_parser.proofs.Parts.{added-snoc}
+use Rattle.policy_grammar.specs.Expressions.{IsTerm, expr_of}
+use Rattle.policy_parser.proofs.Moves.{passes}
 use Rattle.policy_parser.proofs.source.Source.expression.Goals as goal
 
 pub returns-in_err-first-clause-reads : goal.returns-in_err-first-clause-reads
@@ -11,59 +9,26 @@ returns-in_err-first-clause-reads c = λ count below.
     let p = err_from_is_err_and c.from_residual.result c.from_residual.ensures.1 in
     rw (p.1, p.2) (c.in_err-first.ensures.reads count below)
 
-pub sums-init : goal.sums-init
-sums-init c = record {
-  later = c.in_ok-first.ensures.later.0;
-  within = c.in_ok-first.ensures.later.1;
-  few = c.in_ok-first.ensures.few;
-  short = omega (arith, c.new-rest.ensures.len);
-  star = c.in_ok-first.ensures.over;
-  is = subst (λ (us : List AddedSyntax). IsAdded c.args.self.now.text.now c.args.self.now.lexemes.now c.in_ok-first.next us c.in_ok-first.next)
-      (sym c.new-rest.ensures.items) added_none;
-  reads = c.in_ok-first.ensures.reads;
-}
+pub returns-in_err-first-2-clause-reads : goal.returns-in_err-first-2-clause-reads
+returns-in_err-first-2-clause-reads c = λ count below.
+    let p = err_from_is_err_and c.from_residual-in_err-first-2.result c.from_residual-in_err-first-2.ensures.1 in
+    rw (p.1, p.2) (passes _ (c.in_ok-first.ensures.reads count below) (rw c.in_err-first-2.ensures.err at (c.added.ensures.reads count below)))
 
-pub returns-in-None-clause-is : goal.returns-in-None-clause-is
-returns-in-None-clause-is c = rw c.from_vec.ensures (expr_of c.in_ok-first.ensures.is c.sums.invariant.is)
+pub returns-clause-later : goal.returns-clause-later
+returns-clause-later c =
+    let later = rw c.in_ok-first-2.ensures.ok.1 at c.added.ensures.later in
+    (omega (arith, later.0, c.in_ok-first.ensures.later), later.1)
 
-pub returns-in-None-clause-over : goal.returns-in-None-clause-over
-returns-in-None-clause-over c = record {
-  star = c.sums.invariant.star;
-  plus = c.in-None.ensures.plus;
-  minus = c.in-None.ensures.minus;
-}
+pub returns-clause-is : goal.returns-clause-is
+returns-clause-is c =
+    expr_of
+    (subst (λ t. IsTerm c.args.self.now.text.now c.args.self.now.lexemes.now c.args.at t c.in_ok-first.next) (sym c.in_ok-first-2.ensures.ok.0)
+    c.in_ok-first.ensures.is)
+    (rw c.in_ok-first-2.ensures.ok.1 at c.added.ensures.is)
 
-pub returns-in-None-clause-reads : goal.returns-in-None-clause-reads
-returns-in-None-clause-reads c = λ count below.
-    c.sums.invariant.reads count below
-    ∙ operators-over _ _ c.sums.next count c.args.depth c.sums.counted below c.sums.invariant.star c.in-None.ensures.plus c.in-None.ensures.minus
+pub returns-clause-over : goal.returns-clause-over
+returns-clause-over c = rw c.in_ok-first-2.ensures.ok.1 at c.added.ensures.over
 
-pub returns-then-counted-self-clause-reads : goal.returns-then-counted-self-clause-reads
-returns-then-counted-self-clause-reads c = λ count below.
-    c.sums.invariant.reads count below
-    ∙ added-many _ _ c.sums.next count c.args.depth c.sums.counted below c.in-Some.minus c.in-Some.ensures.some c.if-counted-self.true
-
-pub returns-in_err-term-clause-reads : goal.returns-in_err-term-clause-reads
-returns-in_err-term-clause-reads c = λ count below.
-    let p = err_from_is_err_and c.from_residual-in_err-term.result c.from_residual-in_err-term.ensures.1 in
-    rw (p.1, p.2)
-    (passes _
-    (c.sums.invariant.reads count below
-    ∙ added-goes _ _ c.sums.next count c.args.depth c.sums.counted below c.in-Some.minus c.in-Some.ensures.some c.if-counted-self.false)
-    (c.in_err-term.ensures.reads count below))
-
-pub sums-preserved : goal.sums-preserved
-sums-preserved c = record {
-  later = omega (arith, c.in_ok-term.ensures.later, c.sums.invariant.later);
-  within = c.in_ok-term.ensures.later.1;
-  few = c.in_ok-term.ensures.few;
-  short = omega (arith, c.in_ok-push.ensures.len, c.in_ok-term.ensures.later, c.sums.invariant.short);
-  star = c.in_ok-term.ensures.over;
-  is = subst (λ (us : List AddedSyntax). IsAdded c.args.self.now.text.now c.args.self.now.lexemes.now c.in_ok-first.next us c.in_ok-term.after)
-      (sym c.in_ok-push.ensures.items)
-      (added-snoc c.in-Some.minus c.sums.invariant.is c.in-Some.ensures.some c.in_ok-term.ensures.is);
-  reads = λ count below.
-      c.sums.invariant.reads count below
-      ∙ added-goes _ _ c.sums.next count c.args.depth c.sums.counted below c.in-Some.minus c.in-Some.ensures.some c.if-counted-self.false
-      ∙ c.in_ok-term.ensures.reads count below;
-}
+pub returns-clause-reads : goal.returns-clause-reads
+returns-clause-reads c = λ count below.
+    c.in_ok-first.ensures.reads count below ∙ (rw c.in_ok-first-2.ensures.ok.1 at (c.added.ensures.reads count below))

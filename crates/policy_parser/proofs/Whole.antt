@@ -1,0 +1,63 @@
+-- Policies from their sections.
+use Rattle.std.proofs.Common.{◌≡◌, ℕ, ◌+◌, List, Option, sym, ap, subst, arith, ◌∙◌}
+use Rattle.policy_tree.specs.declared.syntax.LoadSyntax.{LoadSyntax}
+use Rattle.policy_tree.specs.declared.syntax.AttrSyntax.{AttrSyntax}
+use Rattle.policy_tree.specs.declared.syntax.PlaceSyntax.{PlaceSyntax}
+use Rattle.policy_tree.specs.declared.syntax.ElectSyntax.{ElectSyntax}
+use Rattle.policy_tree.specs.declared.syntax.OrderSyntax.{OrderSyntax}
+use Rattle.policy_tree.specs.SyntaxTrees.{ConditionTree, HandlerSyntaxTree}
+use Rattle.policy_grammar.specs.declared.terminal.Lexeme.{Lexeme}
+use Rattle.policy_grammar.specs.declared.terminal.Terminal.TheVariants.{Policy, Name}
+use Rattle.policy_grammar.specs.Terminals.{code, kind_at, word_at}
+use Rattle.policy_grammar.specs.Policies.{IsLoad, IsPolicy, policy_of}
+use Rattle.policy_parser.specs.Sections.{IsHeader, IsFront, IsBack}
+
+-- the name and the load, from the places that the parser has
+pub header-parts : {text : List ℕ} {ts : List Lexeme} {name_at load_at to : ℕ} {name : List ℕ} {load : LoadSyntax} → kind_at ts 0 ≡ code Policy → name_at ≡ 0 + 1 →
+    kind_at ts name_at ≡ code Name → name ≡ word_at text ts name_at → load_at ≡ name_at + 1 → IsLoad ts load_at load to → IsHeader text ts name load to
+header-parts {text = text} {ts = ts} {to = to} {load = load} k e1 n w e2 d =
+    let two : _ ≡ 2 = omega (arith, e1, e2) in
+    record {
+      begins = k;
+      named = subst (λ m. kind_at ts m ≡ code Name) e1 n;
+      word = w ∙ ap (word_at text ts) e1;
+      loads = subst (λ m. IsLoad ts m load to) two d;
+    }
+
+-- a whole policy
+pub policy-parts : {text : List ℕ} {ts : List Lexeme} {at filter_at choose_at steal_at : ℕ} {name : List ℕ} {load : LoadSyntax} {attrs : List AttrSyntax}
+    {place : Option PlaceSyntax} {elect : Option ElectSyntax} {handlers : List HandlerSyntaxTree} {filter : ConditionTree} {choose steal : OrderSyntax} →
+    IsFront text ts name load attrs place elect at → IsBack text ts at handlers filter_at filter choose_at choose steal_at steal →
+    IsPolicy text ts (record {
+      name = name;
+      load = load;
+      attrs = attrs;
+      place = place;
+      elect = elect;
+      handlers = handlers;
+      filter_at = filter_at;
+      filter = filter;
+      choose_at = choose_at;
+      choose = choose;
+      steal_at = steal_at;
+      steal = steal;
+    })
+policy-parts {text = text} {ts = ts} {filter_at = filter_at} {choose_at = choose_at} {steal_at = steal_at} {load = load} {attrs = attrs} {place = place}
+    {elect = elect} {handlers = handlers} {filter = filter} {choose = choose} {steal = steal} f b =
+    subst (λ x. IsPolicy text ts (record {
+      name = x;
+      load = load;
+      attrs = attrs;
+      place = place;
+      elect = elect;
+      handlers = handlers;
+      filter_at = filter_at;
+      filter = filter;
+      choose_at = choose_at;
+      choose = choose;
+      steal_at = steal_at;
+      steal = steal;
+    }))
+    (sym f.header.word)
+    (policy_of f.header.begins f.header.named f.header.loads f.are f.rules.places f.rules.elects b.are b.begins b.filters b.choices.begins b.choices.chooses
+    b.choices.follows b.choices.steals)

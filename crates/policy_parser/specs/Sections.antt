@@ -1,0 +1,58 @@
+-- The sections of a policy, as the parser reads them.
+use Rattle.std.specs.Prelude.{ℕ, ◌+◌, ◌≡◌, List, length, Option}
+use Rattle.policy_tree.specs.declared.syntax.LoadSyntax.{LoadSyntax}
+use Rattle.policy_tree.specs.declared.syntax.AttrSyntax.{AttrSyntax}
+use Rattle.policy_tree.specs.declared.syntax.PlaceSyntax.{PlaceSyntax}
+use Rattle.policy_tree.specs.declared.syntax.ElectSyntax.{ElectSyntax}
+use Rattle.policy_tree.specs.declared.syntax.OrderSyntax.{OrderSyntax}
+use Rattle.policy_tree.specs.SyntaxTrees.{ConditionTree, HandlerSyntaxTree}
+use Rattle.policy_grammar.specs.declared.terminal.Lexeme.{Lexeme}
+use Rattle.policy_grammar.specs.declared.terminal.Terminal.TheVariants.{Policy, Name, Filter, Choose, Steal, Colon}
+use Rattle.policy_grammar.specs.Terminals.{code, kind_at, word_at}
+use Rattle.policy_grammar.specs.Expressions.{IsOrder}
+use Rattle.policy_grammar.specs.Conditions.{IsCondition}
+use Rattle.policy_grammar.specs.Policies.{IsLoad, IsAttrs, IsPlace, IsElect, IsHandlers}
+
+-- the name and the load
+pub record IsHeader (text : List ℕ) (ts : List Lexeme) (name : List ℕ) (load : LoadSyntax) (to : ℕ) : Type 0 where
+  pub begins : kind_at ts 0 ≡ code Policy
+  pub named : kind_at ts 1 ≡ code Name
+  pub word : name ≡ word_at text ts 1
+  pub loads : IsLoad ts 2 load to
+
+-- the rules that may be left out
+pub record IsRules (text : List ℕ) (ts : List Lexeme) (at : ℕ) (place : Option PlaceSyntax) (elect : Option ElectSyntax) (to : ℕ) : Type 0 where
+  pub mid : ℕ
+  pub places : IsPlace text ts at place mid
+  pub elects : IsElect text ts mid elect to
+
+-- all before the handlers
+pub record IsFront (text : List ℕ) (ts : List Lexeme) (name : List ℕ) (load : LoadSyntax) (attrs : List AttrSyntax)
+    (place : Option PlaceSyntax) (elect : Option ElectSyntax) (to : ℕ) : Type 0 where
+  pub attrs_at : ℕ
+  pub rules_at : ℕ
+  pub header : IsHeader text ts name load attrs_at
+  pub are : IsAttrs text ts attrs_at attrs rules_at
+  pub rules : IsRules text ts rules_at place elect to
+
+-- the two orders at the end
+pub record IsChoices (text : List ℕ) (ts : List Lexeme) (at : ℕ) (choose : OrderSyntax) (steal_at : ℕ) (steal : OrderSyntax) : Type 0 where
+  pub begins : kind_at ts at ≡ code Choose
+  pub chooses : IsOrder text ts (at + 1) choose steal_at
+  pub follows : kind_at ts steal_at ≡ code Steal
+  pub steals : IsOrder text ts (steal_at + 1) steal (length ts)
+
+-- the handlers and all behind them
+pub record IsBack (text : List ℕ) (ts : List Lexeme) (at : ℕ) (handlers : List HandlerSyntaxTree) (filter_at : ℕ) (filter : ConditionTree)
+    (choose_at : ℕ) (choose : OrderSyntax) (steal_at : ℕ) (steal : OrderSyntax) : Type 0 where
+  pub are : IsHandlers text ts at handlers filter_at
+  pub begins : kind_at ts filter_at ≡ code Filter
+  pub filters : IsCondition text ts (filter_at + 1) filter choose_at
+  pub choices : IsChoices text ts choose_at choose steal_at steal
+
+-- the condition of a case, and the colon
+pub record IsGuard (text : List ℕ) (ts : List Lexeme) (at : ℕ) (guard : ConditionTree) (to : ℕ) : Type 0 where
+  pub colon_at : ℕ
+  pub is : IsCondition text ts at guard colon_at
+  pub colon : kind_at ts colon_at ≡ code Colon
+  pub next : to ≡ colon_at + 1
