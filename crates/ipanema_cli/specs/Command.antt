@@ -11,12 +11,6 @@ pub data Asked : Type 0 where
   -- to play the trace in one file under the policy in the other
   play : (policy trace : List ℕ) → Asked
 
--- the texts that a command loads
-abbrev pub texts_of : Option Asked → List TextKind
-texts_of None = []
-texts_of (Some (check policy)) = kind.Policy ∷ []
-texts_of (Some (play policy trace)) = kind.Policy ∷ kind.Trace ∷ []
-
 -- the command loads such a text from the file of that name
 abbrev pub IsFileOf : Option Asked → TextKind → List ℕ → Type 0
 IsFileOf None which name = ⊥

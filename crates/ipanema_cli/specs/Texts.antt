@@ -1,7 +1,6 @@
 -- The texts that commands load.
-use Rattle.std.specs.Prelude.{◌≡◌, ℕ, ◌<◌, ◌≤◌, List, codes, fold, length}
+use Rattle.std.specs.Prelude.{ℕ, ◌<◌, ◌≤◌, List, codes, length}
 use Rattle.sched_base.specs.declared.limits.TheConstants.{MAX_POLICY_BYTES, MAX_TRACE_BYTES}
-use Rattle.sched_io.specs.Loads.{more_room, one_more}
 use Rattle.sched_io.specs.Told.{Told, MayHold}
 use Rattle.ipanema_cli.specs.declared.texts.TextKind.{TextKind}
 use Rattle.ipanema_cli.specs.declared.texts.TextKind.TheVariants as kind
@@ -20,11 +19,6 @@ too_long_line kind.Trace = codes "too-long trace\n"
 pub record MayRead (which : TextKind) (told : Told) (text : List ℕ) : Type 0 where
   pub held : MayHold told text
   pub short : length text ≤ room_of which
-
--- As far as the counts tell, each of these texts was loaded once, and all with just the room that they may take together.
-pub record AreLoaded (texts : List TextKind) (loads_before loads_after room_before room_after : ℕ) : Type 0 where
-  pub counted : loads_after ≡ fold (λ loads which. one_more loads) loads_before texts
-  pub measured : room_after ≡ fold (λ room which. more_room (room_of which) room) room_before texts
 
 -- The file may hold a text that is longer.
 abbrev pub MayBeLong : TextKind → Told → Type 0

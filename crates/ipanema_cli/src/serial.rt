@@ -2,13 +2,13 @@
 
 ghost use Rattle.std.specs.Prelude.{◌≡◌, ◌≢◌, ◌⊎◌, [], ◌∷◌, Some, IfErr, IfOk, IsErrOf, OnOk, codes, slice_get};
 ghost use Rattle.sched_io.specs.Faults.{Rose};
+ghost use Rattle.sched_io.specs.Loads.{Asks};
 ghost use Rattle.ipanema_cli.specs.Answers.{AnswersCheck, AnswersPlay, CanBePut, IsAnswer, output_of, status_of};
-ghost use Rattle.ipanema_cli.specs.Command.{asked_by, check, play, texts_of, words_of};
+ghost use Rattle.ipanema_cli.specs.Command.{asked_by, check, play, words_of};
 ghost use Rattle.ipanema_cli.specs.Ends.{Ends, Writes};
 ghost use Rattle.ipanema_cli.specs.Causes.{HasCause, OneOf};
-ghost use Rattle.ipanema_cli.specs.Loads.{FirstAreLoaded};
+ghost use Rattle.ipanema_cli.specs.Loads.{FirstAreLoaded, files_of};
 ghost use Rattle.ipanema_cli.specs.Stops.{IsStop};
-ghost use Rattle.ipanema_cli.specs.Texts.{AreLoaded};
 ghost use Rattle.ipanema_cli.specs.Truths.{IsTruthful};
 
 use crate::answers::{Answer, play_texts};
@@ -39,9 +39,9 @@ pub fn serial_command<F: Files, S: Sink>(
     ensures truthful { IsTruthful (asked_by (words_of words.now.items)) (F.told files.old)
         (S.written out.old) (S.written out.new) result }
     ensures loads { FirstAreLoaded (asked_by (words_of words.now.items)) (F.told files.old)
-        (F.loads files.old) (F.loads files.new) (F.room files.old) (F.room files.new) }
-    ensures loaded { OneOf (0 ∷ 1 ∷ 2 ∷ 7 ∷ 8 ∷ []) result → AreLoaded (texts_of (asked_by (words_of words.now.items)))
-        (F.loads files.old) (F.loads files.new) (F.room files.old) (F.room files.new) }
+        (F.asked files.old) (F.asked files.new) }
+    ensures loaded { OneOf (0 ∷ 1 ∷ 2 ∷ 7 ∷ 8 ∷ []) result → Asks (files_of (asked_by (words_of words.now.items)))
+        (F.asked files.old) (F.asked files.new) }
     ensures calm { (result ≡ 4) ⊎ (F.faults files.new ≡ F.faults files.old) }
     ensures quiet { (result ≡ 5) ⊎ (S.faults out.new ≡ S.faults out.old) }
 {
@@ -54,9 +54,9 @@ fn carry_out<F: Files, S: Sink>(alloc: Global, words: &[String], files: &mut F, 
         (Rose (F.faults files.old) (F.faults files.new)) (Rose (S.faults out.old) (S.faults out.new))
         (S.written out.old) (S.written out.new) result }
     ensures loads { FirstAreLoaded (asked_by (words_of words.now)) (F.told files.old)
-        (F.loads files.old) (F.loads files.new) (F.room files.old) (F.room files.new) }
-    ensures loaded { OneOf (0 ∷ 1 ∷ 2 ∷ 7 ∷ 8 ∷ []) result → AreLoaded (texts_of (asked_by (words_of words.now)))
-        (F.loads files.old) (F.loads files.new) (F.room files.old) (F.room files.new) }
+        (F.asked files.old) (F.asked files.new) }
+    ensures loaded { OneOf (0 ∷ 1 ∷ 2 ∷ 7 ∷ 8 ∷ []) result → Asks (files_of (asked_by (words_of words.now)))
+        (F.asked files.old) (F.asked files.new) }
     ensures calm { (result ≡ 4) ⊎ (F.faults files.new ≡ F.faults files.old) }
     ensures quiet { (result ≡ 5) ⊎ (S.faults out.new ≡ S.faults out.old) }
 {
@@ -75,9 +75,9 @@ fn answer_to<F: Files>(alloc: Global, words: &[String], files: &mut F) -> Result
     ensures stop { IfErr result (IsStop (asked_by (words_of words.now)) (F.told files.old)
         (Rose (F.faults files.old) (F.faults files.new))) }
     ensures loads { FirstAreLoaded (asked_by (words_of words.now)) (F.told files.old)
-        (F.loads files.old) (F.loads files.new) (F.room files.old) (F.room files.new) }
-    ensures loaded { OnOk result (AreLoaded (texts_of (asked_by (words_of words.now)))
-        (F.loads files.old) (F.loads files.new) (F.room files.old) (F.room files.new)) }
+        (F.asked files.old) (F.asked files.new) }
+    ensures loaded { OnOk result (Asks (files_of (asked_by (words_of words.now)))
+        (F.asked files.old) (F.asked files.new)) }
     ensures calm { IsErrOf result Stop.Unread ⊎ (F.faults files.new ≡ F.faults files.old) }
 {
     match request_of(words) {
@@ -93,8 +93,8 @@ fn check<F: Files>(alloc: Global, policy: &str, files: &mut F) -> Result<Answer,
     ensures shown { IfOk result CanBePut }
     ensures stop { IfErr result (IsStop (Some (check policy.now)) (F.told files.old)
         (Rose (F.faults files.old) (F.faults files.new))) }
-    ensures loads { AreLoaded (texts_of (Some (check policy.now)))
-        (F.loads files.old) (F.loads files.new) (F.room files.old) (F.room files.new) }
+    ensures loads { Asks (files_of (Some (check policy.now)))
+        (F.asked files.old) (F.asked files.new) }
     ensures calm { IsErrOf result Stop.Unread ⊎ (F.faults files.new ≡ F.faults files.old) }
 {
     let text = load(alloc, files, policy, TextKind::Policy)?;
@@ -108,9 +108,9 @@ fn play<F: Files>(alloc: Global, policy: &str, trace: &str, files: &mut F) -> Re
     ensures stop { IfErr result (IsStop (Some (play policy.now trace.now)) (F.told files.old)
         (Rose (F.faults files.old) (F.faults files.new))) }
     ensures loads { FirstAreLoaded (Some (play policy.now trace.now)) (F.told files.old)
-        (F.loads files.old) (F.loads files.new) (F.room files.old) (F.room files.new) }
-    ensures loaded { OnOk result (AreLoaded (texts_of (Some (play policy.now trace.now)))
-        (F.loads files.old) (F.loads files.new) (F.room files.old) (F.room files.new)) }
+        (F.asked files.old) (F.asked files.new) }
+    ensures loaded { OnOk result (Asks (files_of (Some (play policy.now trace.now)))
+        (F.asked files.old) (F.asked files.new)) }
     ensures calm { IsErrOf result Stop.Unread ⊎ (F.faults files.new ≡ F.faults files.old) }
 {
     let policy_text = load(alloc, files, policy, TextKind::Policy)?;

@@ -1,7 +1,7 @@
 //! Calls of the program over files and a sink in memory, each with its status and its bytes.
 
 use crate::top::ipanema;
-use sched_io::{MemoryFiles, MemorySink, OpenGate};
+use sched_io::{Files, MemoryFiles, MemorySink, OpenGate};
 use std::alloc::Global;
 use std::sync::Wait;
 use std::test::Fail;
@@ -272,5 +272,20 @@ fn longest_texts(rt: HostRuntime) -> Result<(), Fail> {
     let (status, out) = check(&rt, alloc, too_long.as_slice())?;
     assert_eq!(rt; status, 10);
     assert_eq!(rt; out.as_slice(), b"too-long policy\n".as_slice());
+    Ok(())
+}
+
+#[test]
+fn loads_are_kept(rt: HostRuntime) -> Result<(), Fail> {
+    let alloc = rt.alloc();
+    let mut files = MemoryFiles::new(alloc, Vec::new(alloc), Vec::new(alloc));
+    assert!(rt; files.load(alloc, "p", 9).is_err());
+    match files.asked() {
+        Some([(name, limit)]) => {
+            assert_eq!(rt; name.as_str(), "p");
+            assert_eq!(rt; *limit, 9);
+        }
+        _ => assert!(rt; false, "one load is kept"),
+    }
     Ok(())
 }

@@ -1,8 +1,8 @@
 //! The texts that commands load: how long they may be, and how they are loaded.
 
-ghost use Rattle.std.specs.Prelude.{◌≡◌, ◌≤◌, ◌⊎◌, ℕ, List, IfErr, IfOk, IsErrOf};
+ghost use Rattle.std.specs.Prelude.{◌≡◌, ◌≤◌, ◌⊎◌, ℕ, List, [], ◌∷◌, IfErr, IfOk, IsErrOf};
 ghost use Rattle.sched_io.specs.Faults.{Rose};
-ghost use Rattle.sched_io.specs.Loads.{more_room, one_more};
+ghost use Rattle.sched_io.specs.Loads.{Asks, request};
 ghost use Rattle.ipanema_cli.specs.Texts.{MayRead, room_of, too_long_line};
 ghost use Rattle.ipanema_cli.specs.Stops.{IsUnloaded};
 
@@ -54,8 +54,7 @@ pub fn load<F: Files>(
         (Rose (F.faults files.old) (F.faults files.new))) }
     ensures same { (other : List ℕ) → F.told files.new other ≡ F.told files.old other }
     ensures steady { IsErrOf result Stop.Unread ⊎ (F.faults files.new ≡ F.faults files.old) }
-    ensures loads { F.loads files.new ≡ one_more (F.loads files.old) }
-    ensures room { F.room files.new ≡ more_room (room_of kind) (F.room files.old) }
+    ensures asks { Asks (request name.now (room_of kind) ∷ []) (F.asked files.old) (F.asked files.new) }
 {
     match files.load(alloc, name, kind.room()) {
         Ok(text) => Ok(text),

@@ -2,11 +2,11 @@
 
 ghost use Rattle.std.specs.Prelude.{◌≡◌, ◌⊎◌, [], ◌∷◌};
 ghost use Rattle.sched_io.specs.Faults.{Rose};
-ghost use Rattle.ipanema_cli.specs.Command.{asked_by, texts_of, words_of};
+ghost use Rattle.sched_io.specs.Loads.{Asks};
+ghost use Rattle.ipanema_cli.specs.Command.{asked_by, words_of};
 ghost use Rattle.ipanema_cli.specs.Ends.{Ends};
 ghost use Rattle.ipanema_cli.specs.Causes.{HasCause, OneOf};
-ghost use Rattle.ipanema_cli.specs.Loads.{FirstAreLoaded};
-ghost use Rattle.ipanema_cli.specs.Texts.{AreLoaded};
+ghost use Rattle.ipanema_cli.specs.Loads.{FirstAreLoaded, files_of};
 ghost use Rattle.ipanema_cli.specs.Truths.{IsTruthful};
 
 use crate::answers::Answer;
@@ -39,12 +39,13 @@ pub fn ipanema<R: Threads + Wait + Sync, F: Files, S: Sink, G: Gate>(
     // What is said of a policy and of a trace is true.
     ensures truthful { IsTruthful (asked_by (words_of words.now.items)) (F.told files.old)
         (S.written out.old) (S.written out.new) result }
-    // As far as the files' counts tell, just the first of the command's texts are loaded, and none behind one that can't be read.
+    // Just the first of the command's files are loaded, each once and with its limit, and none behind one that is told to be
+    // missing or too long.
     ensures loads { FirstAreLoaded (asked_by (words_of words.now.items)) (F.told files.old)
-        (F.loads files.old) (F.loads files.new) (F.room files.old) (F.room files.new) }
-    // And where a text was answered, or no command was, all of them.
-    ensures loaded { OneOf (0 ∷ 1 ∷ 2 ∷ 7 ∷ 8 ∷ []) result → AreLoaded (texts_of (asked_by (words_of words.now.items)))
-        (F.loads files.old) (F.loads files.new) (F.room files.old) (F.room files.new) }
+        (F.asked files.old) (F.asked files.new) }
+    // And where a text was answered, or no command was, all of them are.
+    ensures loaded { OneOf (0 ∷ 1 ∷ 2 ∷ 7 ∷ 8 ∷ []) result → Asks (files_of (asked_by (words_of words.now.items)))
+        (F.asked files.old) (F.asked files.new) }
     // Where the files' count of faults moves, the call ends with 4, and where the sink's does, with 5.
     ensures calm { (result ≡ 4) ⊎ (F.faults files.new ≡ F.faults files.old) }
     ensures quiet { (result ≡ 5) ⊎ (S.faults out.new ≡ S.faults out.old) }

@@ -22,7 +22,8 @@ pub fn law_failed_steals()
 {}
 
 /// In still rounds each bad round has a steal, each steal lowers the spread of the loads by 2 at least, and no core is
-/// idle beside an overloaded one after as many rounds as half the first spread.
+/// idle beside an overloaded one from the Round on that comes N rounds after the first, for each N with 2 N at least the
+/// first spread.
 pub fn law_still_rounds()
     ensures { StillRoundsLaw }
 {}

@@ -1,1 +1,2 @@
+pub mod LoadsLemmas
 pub mod WrittenLemmas

@@ -7,14 +7,6 @@ use Rattle.sched_io.specs.declared.adapters.StdoutSink.{StdoutSink}
 abbrev pub disk_faults : {R : Type 0} → DiskFiles R → ℕ
 disk_faults files = files.faults
 
--- how often `load` was called
-abbrev pub disk_loads : {R : Type 0} → DiskFiles R → ℕ
-disk_loads files = files.loads
-
--- the limits of these calls, added up
-abbrev pub disk_room : {R : Type 0} → DiskFiles R → ℕ
-disk_room files = files.room
-
 -- how often a put failed
 abbrev pub stdout_faults : {R : Type 0} → StdoutSink R → ℕ
 stdout_faults sink = sink.faults

@@ -1,11 +1,17 @@
--- Loads of files, which a source counts.
-use Rattle.std.specs.Prelude.{ℕ, ◌+◌, min}
-use Rattle.sched_io.specs.declared.faults.TheConstants.{MOST_LOADS, MOST_ROOM}
+-- What a source of files was asked for.
+use Rattle.std.specs.Prelude.{◌≡◌, ℕ, List, ◌++◌, Option, Some, None}
 
--- the count after one load more; at its end it rises no more
-abbrev pub one_more : ℕ → ℕ
-one_more loads = min (loads + 1) MOST_LOADS
+-- a load of the file of that name, with room for so many bytes
+pub record Request : Type 0 where
+  pub name : List ℕ
+  pub limit : ℕ
 
--- the room of all loads after one more of that limit; at its end it grows no more
-abbrev pub more_room : ℕ → ℕ → ℕ
-more_room limit room = min (room + limit) MOST_ROOM
+abbrev pub request : List ℕ → ℕ → Request
+request name limit = record { name = name; limit = limit }
+
+-- These loads were made after those that the source told of: where it tells of its loads now it did so before, and these
+-- came behind them.
+abbrev pub Asks : List Request → Option (List Request) → Option (List Request) → Type 0
+Asks requests before None = Unit {0}
+Asks requests None (Some after) = ⊥
+Asks requests (Some before) (Some after) = after ≡ before ++ requests

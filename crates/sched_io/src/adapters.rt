@@ -1,5 +1,5 @@
 //! The real files and the real standard output. They tell nothing of what they hold, and no proof speaks of what
-//! the system does: they only count its failures, how often files are asked for, and with room for how many bytes.
+//! the system does: they only count its failures.
 
 ghost use Rattle.std.specs.Prelude.{◌≡◌, ℕ, List, None, Option};
 ghost use Rattle.sched_io.specs.Told.{Told, untold};
@@ -17,25 +17,16 @@ use std::{fs, io};
 pub struct DiskFiles<'a, R> {
     rt: &'a R,
     faults: u64,
-    loads: u64,
-    room: u64,
 }
 
 impl<'a, R> DiskFiles<'a, R> {
-    ghost use Rattle.sched_io.specs.Adapters.{disk_faults, disk_loads, disk_room};
+    ghost use Rattle.sched_io.specs.Adapters.{disk_faults};
 
     /// The files that this runtime reaches.
     pub fn new(rt: &'a R) -> DiskFiles<'a, R>
         ensures faults { disk_faults result ≡ 0 }
-        ensures loads { disk_loads result ≡ 0 }
-        ensures room { disk_room result ≡ 0 }
     {
-        DiskFiles {
-            rt,
-            faults: 0,
-            loads: 0,
-            room: 0,
-        }
+        DiskFiles { rt, faults: 0 }
     }
 }
 
@@ -52,13 +43,9 @@ impl<R: SystemFiles> Files for DiskFiles<'_, R> {
 
     ghost faults = { λ files. files.faults };
 
-    ghost loads = { λ files. files.loads };
-
-    ghost room = { λ files. files.room };
+    ghost asked = { λ _. None };
 
     fn load(&mut self, alloc: Global, name: &str, limit: u64) -> Result<Vec<u8>, LoadFault> {
-        self.loads = self.loads.saturating_add(1);
-        self.room = self.room.saturating_add(limit);
         match read_file(self.rt, alloc, name, limit) {
             Ok(bytes) if bytes.len() as u64 <= limit => Ok(bytes),
             Ok(_) => Err(LoadFault::TooLong),

@@ -5,12 +5,6 @@ use std::alloc::AllocError;
 /// Where a count of faults stands still.
 pub const MOST_FAULTS: u64 = u64::MAX;
 
-/// Where a count of loads stands still.
-pub const MOST_LOADS: u64 = u64::MAX;
-
-/// Where the room of all loads stands still, in bytes.
-pub const MOST_ROOM: u64 = u64::MAX;
-
 /// Why a file wasn't loaded.
 #[derive(Clone, Copy, Debug, PartialEq, Eq)]
 pub enum LoadFault {

@@ -12,7 +12,7 @@ mod sources;
 mod steady_sink;
 
 pub use adapters::{DiskFiles, StdoutSink};
-pub use faults::{IoMemory, LoadFault, MOST_FAULTS, MOST_LOADS, MOST_ROOM, PutFault};
+pub use faults::{IoMemory, LoadFault, MOST_FAULTS, PutFault};
 pub use gates::{Gate, OpenGate};
 pub use lines::{LINE_ROOM, Line, NUMBER_ROOM};
 pub use memory_files::MemoryFiles;

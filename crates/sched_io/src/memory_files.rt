@@ -1,43 +1,55 @@
 //! Files in memory.
 
-ghost use Rattle.std.specs.Prelude.{◌≡◌, ◌≢◌, ℕ, ◌+◌, ◌<◌, ◌≤◌, ◌⊎◌, List, Contains, IfOk, IsErrOf, MatchOption, length, min, string_bytes, vec_len};
+ghost use Rattle.std.specs.Prelude.{◌≡◌, ◌≢◌, ℕ, ◌<◌, ◌≤◌, ◌⊎◌, List, [], ◌∷◌, Contains, IfOk, IsErrOf, MatchOption, None, Some, length, map, string_bytes, vec_len};
 ghost use Rattle.sched_io.specs.Faults.{Rose};
 ghost use Rattle.sched_io.specs.InMemory.{told_among};
-ghost use Rattle.sched_io.specs.Loads.{more_room, one_more};
-ghost use Rattle.sched_io.specs.MemoryFiles.{told_by, faults_of, failing_of, loads_of, room_of};
+ghost use Rattle.sched_io.specs.Loads.{Asks, request};
+ghost use Rattle.sched_io.specs.MemoryFiles.{told_by, faults_of, failing_of, loads_of, asked_of, request_in, requests_in};
 ghost use Rattle.sched_io.specs.Told.{IfHolds, missing, holds};
 
 use crate::faults::LoadFault;
 use crate::sources::Files;
 use std::alloc::Global;
+use std::mem;
 
-/// Files in memory, each a name and its bytes, of which chosen loads fail. It tells all of them.
+/// Files in memory, each a name and its bytes, of which chosen loads fail. It tells all of them, and for which it was
+/// asked as long as there is memory to keep that.
 #[derive(Drop)]
 pub struct MemoryFiles {
     files: Vec<(String, Vec<u8>)>,
     failing: Vec<u64>,
     loads: u64,
-    room: u64,
+    asked: Option<Vec<(String, u64)>>,
     faults: u64,
 }
 
 impl MemoryFiles {
     /// These files, of which the loads with the numbers in `failing` fail, the first load having the number 0.
     /// Of files with one name the first counts. It takes no memory of its own.
-    pub fn new(_alloc: Global, files: Vec<(String, Vec<u8>)>, failing: Vec<u64>) -> MemoryFiles
+    pub fn new(alloc: Global, files: Vec<(String, Vec<u8>)>, failing: Vec<u64>) -> MemoryFiles
         ensures told { (name : List ℕ) →
             told_by result name ≡ told_among (λ f. string_bytes f.0) (λ f. f.1.items) files.items name }
         ensures failing { failing_of result ≡ failing.items }
         ensures loads { loads_of result ≡ 0 }
-        ensures room { room_of result ≡ 0 }
+        ensures asked { asked_of result ≡ Some [] }
         ensures faults { faults_of result ≡ 0 }
     {
         MemoryFiles {
             files,
             failing,
             loads: 0,
-            room: 0,
+            asked: Some(Vec::new(alloc)),
             faults: 0,
+        }
+    }
+
+    /// The loads so far, each a name and its limit in bytes, as long as there was memory to keep them.
+    pub fn asked(&self) -> Option<&[(String, u64)]>
+        ensures { MatchOption result (asked_of self.now ≡ None) (λ kept. asked_of self.now ≡ Some (map request_in kept.now)) }
+    {
+        match &self.asked {
+            Some(kept) => Some(kept.as_slice()),
+            None => None,
         }
     }
 }
@@ -55,14 +67,27 @@ fn bytes_under<'a>(files: &'a [(String, Vec<u8>)], name: &str) -> Option<&'a [u8
     None
 }
 
+/// The loads that were kept, with one more. Nothing, where there is no memory for it.
+fn with_request(
+    alloc: Global,
+    kept: Option<Vec<(String, u64)>>,
+    name: &str,
+    limit: u64,
+) -> Option<Vec<(String, u64)>>
+    ensures { Asks (request name.now limit ∷ []) (requests_in kept) (requests_in result) }
+{
+    let mut kept = kept?;
+    let name = String::from_str(alloc, name).ok()?;
+    kept.push((name, limit)).ok()?;
+    Some(kept)
+}
+
 impl Files for MemoryFiles {
     ghost told = { told_by };
 
     ghost faults = { faults_of };
 
-    ghost loads = { loads_of };
-
-    ghost room = { room_of };
+    ghost asked = { asked_of };
 
     fn load(&mut self, alloc: Global, name: &str, limit: u64) -> Result<Vec<u8>, LoadFault>
         ensures bytes { IfOk result (λ bytes. IfHolds (told_by self.old name.now) (λ held. bytes.items ≡ held)) }
@@ -77,8 +102,7 @@ impl Files for MemoryFiles {
         ensures same { (other : List ℕ) → told_by self.new other ≡ told_by self.old other }
         ensures later { faults_of self.old ≤ faults_of self.new }
         ensures steady { IsErrOf result LoadFault.Failed ⊎ (faults_of self.new ≡ faults_of self.old) }
-        ensures counted { loads_of self.new ≡ one_more (loads_of self.old) }
-        ensures measured { room_of self.new ≡ more_room limit (room_of self.old) }
+        ensures asks { Asks (request name.now limit ∷ []) (asked_of self.old) (asked_of self.new) }
 
         // Just the chosen loads fail, and those of a missing name.
         ensures chosen { Contains (failing_of self.old) (loads_of self.old) → IsErrOf result LoadFault.Failed }
@@ -88,7 +112,7 @@ impl Files for MemoryFiles {
     {
         let fails = self.failing.contains(&self.loads);
         self.loads = self.loads.saturating_add(1);
-        self.room = self.room.saturating_add(limit);
+        self.asked = with_request(alloc, mem::take(&mut self.asked), name, limit);
         let Some(bytes) = bytes_under(self.files.as_slice(), name) else {
             return Err(LoadFault::Failed);
         };

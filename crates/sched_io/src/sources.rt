@@ -1,15 +1,15 @@
 //! Where files come from.
 
-ghost use Rattle.std.specs.Prelude.{◌≡◌, ◌≢◌, ℕ, ◌<◌, ◌≤◌, ◌⊎◌, List, IfOk, IsErrOf, length, vec_len};
+ghost use Rattle.std.specs.Prelude.{◌≡◌, ◌≢◌, ℕ, ◌<◌, ◌≤◌, ◌⊎◌, List, [], ◌∷◌, IfOk, IsErrOf, Option, length, vec_len};
 ghost use Rattle.sched_io.specs.Faults.{Rose};
-ghost use Rattle.sched_io.specs.Loads.{more_room, one_more};
+ghost use Rattle.sched_io.specs.Loads.{Asks, Request, request};
 ghost use Rattle.sched_io.specs.Told.{Told, IfHolds, missing};
 
 use crate::faults::LoadFault;
 use std::alloc::Global;
 
-/// A source of files. It may tell of a name whether a file has it, and of a file its bytes; it counts its faults, its
-/// loads and the bytes that these have room for.
+/// A source of files. It may tell of a name whether a file has it, of a file its bytes, and for which files it was asked;
+/// it counts its faults.
 pub trait Files {
     /// What it tells of a name.
     ghost told: { Self → List ℕ → Told };
@@ -17,11 +17,8 @@ pub trait Files {
     /// How often the outside has failed.
     ghost faults: { Self → ℕ };
 
-    /// How often a file was asked for.
-    ghost loads: { Self → ℕ };
-
-    /// For how many bytes in all there was room when files were asked for: the limits of the loads, added up.
-    ghost room: { Self → ℕ };
+    /// For which files it was asked so far, in order and each with its limit, where it tells that.
+    ghost asked: { Self → Option (List Request) };
 
     /// The bytes of that file, at most `limit`.
     fn load(&mut self, alloc: Global, name: &str, limit: u64) -> Result<Vec<u8>, LoadFault>
@@ -41,7 +38,6 @@ pub trait Files {
         ensures same { (other : List ℕ) → told self.new other ≡ told self.old other }
         ensures later { faults self.old ≤ faults self.new }
 
-        // Each load counts, however it ends, and with it the bytes that it has room for.
-        ensures counted { loads self.new ≡ one_more (loads self.old) }
-        ensures measured { room self.new ≡ more_room limit (room self.old) };
+        // Where it tells for which files it was asked, this is one more, however it ends.
+        ensures asks { Asks (request name.now limit ∷ []) (asked self.old) (asked self.new) };
 }

@@ -1,4 +1,4 @@
--- What `check` loads is the one text of its command.
+-- What `check` loads is the one file of its command, and words that are no command load none.
 use Rattle.std.proofs.Common.{Option, subst}
 use Rattle.ipanema_cli.specs.Command.{Asked}
 use Rattle.ipanema_cli.specs.Loads.{FirstAreLoaded}
@@ -6,6 +6,5 @@ use Rattle.ipanema_cli.proofs.serial.answer_to.Goals as goal
 
 pub returns-in-Check-clause-loads : goal.returns-in-Check-clause-loads
 returns-in-Check-clause-loads g c =
-    subst (λ (asked : Option Asked). FirstAreLoaded asked (g.F.Files.told c.args.files.now) (g.F.Files.loads c.args.files.now) (g.F.Files.loads c.check.new.files)
-    (g.F.Files.room c.args.files.now) (g.F.Files.room c.check.new.files))
+    subst (λ (asked : Option Asked). FirstAreLoaded asked (g.F.Files.told c.args.files.now) (g.F.Files.asked c.args.files.now) (g.F.Files.asked c.check.new.files))
     c.in-Check.ensures (record { count = 1; loaded = c.check.ensures.loads; goes_on = tt })

@@ -1,33 +1,29 @@
--- Behind the first load the policy's text is loaded, and behind the second both are.
-use Rattle.std.proofs.Common.{◌∙◌, ap, arith}
-use Rattle.sched_io.specs.Loads.{more_room, one_more}
-use Rattle.ipanema_cli.specs.Texts.{room_of}
-use Rattle.ipanema_cli.specs.declared.texts.TextKind.TheVariants as kind
+-- Behind the first load the policy's file is loaded, and behind the second both are.
+use Rattle.std.proofs.Common.{arith, Result, Ok, Err}
+use Rattle.std.specs.Result.{OnOk}
+use Rattle.sched_io.proofs.LoadsLemmas.{Asks-append}
 use Rattle.ipanema_cli.proofs.serial.play.Goals as goal
 
 pub returns-in_err-policy_text-clause-loads : goal.returns-in_err-policy_text-clause-loads
-returns-in_err-policy_text-clause-loads g c = record {
-  count = 1;
-  loaded = record { counted = c.load.ensures.loads; measured = c.load.ensures.room };
-  goes_on = λ more. absurd (omega arith);
-}
+returns-in_err-policy_text-clause-loads g c = record { count = 1; loaded = c.load.ensures.asks; goes_on = λ more. absurd (omega arith) }
 
 pub returns-in_err-trace_text-clause-loads : goal.returns-in_err-trace_text-clause-loads
 returns-in_err-trace_text-clause-loads g c = record {
   count = 2;
-  loaded = record {
-    counted = c.load-2.ensures.loads ∙ ap one_more c.load.ensures.loads;
-    measured = c.load-2.ensures.room ∙ ap (more_room (room_of kind.Trace)) c.load.ensures.room;
-  };
+  loaded = Asks-append _ _ _ _ _ c.load.ensures.asks c.load-2.ensures.asks;
   goes_on = λ more. (c.in_ok-policy_text.policy_text.items, c.in_ok-policy_text.ensures.text);
 }
 
 pub returns-clause-loads : goal.returns-clause-loads
 returns-clause-loads g c = record {
   count = 2;
-  loaded = record {
-    counted = c.load-2.ensures.loads ∙ ap one_more c.load.ensures.loads;
-    measured = c.load-2.ensures.room ∙ ap (more_room (room_of kind.Trace)) c.load.ensures.room;
-  };
+  loaded = Asks-append _ _ _ _ _ c.load.ensures.asks c.load-2.ensures.asks;
   goes_on = λ more. (c.in_ok-policy_text.policy_text.items, c.in_ok-policy_text.ensures.text);
 }
+
+whatever_comes : {T E P : Type 0} (r : Result T E) → P → OnOk r P
+whatever_comes (Ok x) holds = holds
+whatever_comes (Err e) holds = tt
+
+pub returns-clause-loaded : goal.returns-clause-loaded
+returns-clause-loaded g c = whatever_comes c.play_texts.result (Asks-append _ _ _ _ _ c.load.ensures.asks c.load-2.ensures.asks)
