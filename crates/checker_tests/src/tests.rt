@@ -4,11 +4,9 @@ ghost use Rattle.std.specs.Prelude.{◌≡◌, ◌≤◌, vec_len, IfOk, IfSome,
 ghost use Rattle.linear_form.specs.System.{IsBound, IsRow, IsTerm};
 
 use linear_cert::{Cert, Mult, check};
-use linear_form::{
-    AtomFault, Bound, MAX_COEF, MAX_END, MAX_ROW_BOUND, MAX_ROWS, MAX_VARIABLES, Point, Row,
-    System, Term,
-};
+use linear_form::{AtomFault, Bound, Point, Row, System, Term};
 use lists::Items;
+use sched_base::{MAX_END, MAX_ROW_BOUND, MAX_ROW_COEFFICIENT, MAX_ROWS, MAX_VARIABLES};
 use std::alloc::{AllocError, Global};
 use std::test::Fail;
 
@@ -17,7 +15,7 @@ fn term_of(variables: u32, least: u32, var: u32, coef: i64) -> Option<Term>
     ensures fits { IfSome result (IsTerm variables) }
     ensures place { IfSome result (λ term. (least ≤ term.var) × (term.var ≡ var)) }
 {
-    if var < least || var >= variables || coef == 0 || coef.unsigned_abs() > MAX_COEF {
+    if var < least || var >= variables || coef == 0 || coef.unsigned_abs() > MAX_ROW_COEFFICIENT {
         return None;
     }
     Some(Term { var, coef })

@@ -1,6 +1,6 @@
 -- Where a text has no tokens, and what is answered.
 use Rattle.std.specs.Prelude.{ℕ, ◌^◌, ◌≡◌, ◌<◌, ◌≤◌, List, length, take, drop, slice_index, Result, Ok, Err}
-use Rattle.policy_lexer.specs.declared.token.TheConstants.{NAME_LIMIT}
+use Rattle.sched_base.specs.declared.limits.TheConstants.{MAX_NAME_BYTES}
 use Rattle.policy_lexer.specs.declared.token.Token.{Token}
 use Rattle.policy_lexer.specs.declared.token.TokenKind.TheVariants.{Word, Number}
 use Rattle.policy_lexer.specs.declared.fault.LexFault.{LexFault}
@@ -19,7 +19,7 @@ pub record Reaches (text : List ℕ) (at : ℕ) : Type 0 where
 abbrev pub IsBroken : List ℕ → LexFault → Type 0
 IsBroken text (NotAscii at) = Reaches text at × (128 ≤ slice_index text at)
 IsBroken text (BadByte at) = Reaches text at × (slice_index text at < 128) × HasNoPiece (drop at text)
-IsBroken text (LongName at) = Reaches text at × ((size : ℕ) × IsFirstPiece (drop at text) size (token Word) × (NAME_LIMIT < size))
+IsBroken text (LongName at) = Reaches text at × ((size : ℕ) × IsFirstPiece (drop at text) size (token Word) × (MAX_NAME_BYTES < size))
 IsBroken text (WideNumber at) = Reaches text at × ((size : ℕ) × (value : ℕ) × IsFirstPiece (drop at text) size (token (Number value)) × (2 ^ 64 ≤ value))
 IsBroken text Memory = ⊥
 

@@ -10,4 +10,4 @@ mod token;
 pub use fault::LexFault;
 pub use laws::law_one_reading;
 pub use reading::lex;
-pub use token::{NAME_LIMIT, Symbol, TEXT_LIMIT, Token, TokenKind, Tokens};
+pub use token::{Symbol, Token, TokenKind, Tokens};

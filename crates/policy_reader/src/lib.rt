@@ -8,5 +8,4 @@ mod reading;
 
 pub use fault::{FaultKind, PolicyFault, TextFault};
 pub use laws::{law_one_answer, law_spells_resolved};
-pub use policy_lexer::TEXT_LIMIT;
 pub use reading::read_policy;

@@ -5,7 +5,7 @@ ghost use Rattle.policy_types.specs.References.{attribute_named, attributes_of, 
 
 use crate::sites::{Feature, variable_of};
 use policy_tree::{Attr, AttrList, Name, Owner};
-use sched_base::VARIABLES;
+use sched_base::MAX_VARIABLES;
 
 /// The attributes that a policy declares, of cores and of threads.
 #[derive(Drop)]
@@ -39,7 +39,7 @@ impl Scope {
     {
         match self.feature(owner, word) {
             Some(feature) => variable_of(owner, feature),
-            None => VARIABLES as u32,
+            None => MAX_VARIABLES as u32,
         }
     }
 }

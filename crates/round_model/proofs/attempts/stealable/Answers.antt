@@ -6,7 +6,7 @@ use Rattle.round_model.specs.Work.{before}
 use Rattle.round_model.proofs.Elections.{item_at}
 use Rattle.round_model.proofs.Outcomes.{attempt_taken}
 use Rattle.round_model.proofs.States.{listed_at}
-use Rattle.round_model.proofs.attempts.loot.Goals as goal
+use Rattle.round_model.proofs.attempts.stealable.Goals as goal
 
 pub returns-then-filter_holds : goal.returns-then-filter_holds
 returns-then-filter_holds c m reads is =
