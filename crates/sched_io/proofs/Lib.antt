@@ -1,2 +1,2 @@
-pub mod LoadsLemmas
+pub mod PieceLemmas
 pub mod WrittenLemmas
