@@ -109,7 +109,7 @@ fn single(byte: u8) -> Option<Symbol>
         b'(' => Some(Symbol::Open),
         b')' => Some(Symbol::Close),
         b'{' => Some(Symbol::Begin),
-        b'}' => Some(Symbol::End),
+        b'}' => Some(Symbol::Finish),
         b'+' => Some(Symbol::Plus),
         b'-' => Some(Symbol::Minus),
         b'*' => Some(Symbol::Star),

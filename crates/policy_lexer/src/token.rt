@@ -20,7 +20,7 @@ pub enum Symbol {
     /// `{`
     Begin,
     /// `}`
-    End,
+    Finish,
     /// `+`
     Plus,
     /// `-`
