@@ -2,8 +2,8 @@
 
 use policy_grammar::ParseFault;
 use policy_lexer::{LexFault, lex};
-use sched_base::MAX_POLICY_BYTES;
 use policy_parser::parse;
+use sched_base::MAX_POLICY_BYTES;
 use std::alloc::{AllocError, Global};
 
 /// The answer to the text.

@@ -2,10 +2,10 @@
 
 use crate::reading_again::{Unread, read_again};
 use policy_lexer::lex;
-use sched_base::MAX_POLICY_BYTES;
 use policy_parser::parse;
 use policy_printer::{PrintFault, print};
 use policy_tree::Syntax;
+use sched_base::MAX_POLICY_BYTES;
 use std::alloc::{AllocError, Global};
 
 /// What is printed of the text's syntax, where the syntax that it is read to again prints the same.

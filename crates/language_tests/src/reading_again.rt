@@ -8,10 +8,10 @@ ghost use Rattle.language_tests.specs.Unread.{IsUnread};
 
 use policy_grammar::ParseFault;
 use policy_lexer::{LexFault, lex};
-use sched_base::MAX_POLICY_BYTES;
 use policy_parser::parse;
 use policy_printer::{PrintFault, print};
 use policy_tree::Syntax;
+use sched_base::MAX_POLICY_BYTES;
 use std::alloc::Global;
 
 /// Why a printed text isn't read again.

@@ -3,10 +3,10 @@
 
 use crate::shown::show_policy;
 use policy_lexer::lex;
-use sched_base::MAX_POLICY_BYTES;
 use policy_parser::parse;
 use policy_tree::Syntax;
 use policy_types::{TypeFault, resolve};
+use sched_base::MAX_POLICY_BYTES;
 use std::alloc::{AllocError, Global};
 
 /// The syntax of a text, if it has one.

@@ -1,5 +1,5 @@
 -- Where a text has no tokens, and what is answered.
-use Rattle.std.specs.Prelude.{ℕ, ◌^◌, ◌≡◌, ◌<◌, ◌≤◌, List, length, take, drop, slice_index, Result, Ok, Err}
+use Rattle.std.specs.Prelude.{ℕ, ◌^◌, ◌≡◌, ◌≢◌, ◌<◌, ◌≤◌, List, length, take, drop, slice_index, Result, Ok, Err}
 use Rattle.sched_base.specs.declared.limits.TheConstants.{MAX_NAME_BYTES}
 use Rattle.policy_lexer.specs.declared.token.Token.{Token}
 use Rattle.policy_lexer.specs.declared.token.TokenKind.TheVariants.{Word, Number}
@@ -33,6 +33,10 @@ IsFault text (BadByte at) = IsBroken text (BadByte at) × HasTokens (take at tex
 IsFault text (LongName at) = IsBroken text (LongName at) × HasTokens (take at text)
 IsFault text (WideNumber at) = IsBroken text (WideNumber at) × HasTokens (take at text)
 IsFault text Memory = Unit {0}
+
+-- the text has this fault, which is one of texts
+abbrev pub IsRealFault : List ℕ → LexFault → Type 0
+IsRealFault text fault = IsFault text fault × (fault ≢ Memory)
 
 -- the result is this answer, or the want of memory
 abbrev pub IsUnlessMemory : Result (List Token) LexFault → Result (List Token) LexFault → Type 0

@@ -17,6 +17,11 @@ abbrev pub IsStep : List ℕ → Step → Type 0
 IsStep text (Gap size) = IsFirstPiece text size gap
 IsStep text (Token kind size) = IsFirstPiece text size (token kind) × KeepsLimits kind size
 
+-- how many bytes the step goes on
+abbrev pub size_of_step : Step → ℕ
+size_of_step (Gap size) = size
+size_of_step (Token kind size) = size
+
 -- the text, which begins at this offset of a longer one, begins with this fault
 abbrev pub IsFirstFault : List ℕ → ℕ → LexFault → Type 0
 IsFirstFault text at (NotAscii place) = (place ≡ at) × (128 ≤ slice_index text 0)

@@ -78,7 +78,10 @@ pub(crate) fn variable_of(owner: Owner, feature: Feature) -> u32
         (Owner::Thread, Feature::Weight) => variables::WEIGHT,
         (Owner::Thread, Feature::Fresh) => variables::FRESH,
         (Owner::Itself, Feature::Attribute(at)) => attribute_from(variables::SELF_ATTRIBUTES, at),
-        (Owner::Victim | Owner::Core, Feature::Attribute(at)) => attribute_from(variables::OTHER_ATTRIBUTES, at),
+        (Owner::Victim | Owner::Core, Feature::Attribute(at)) => attribute_from(
+            variables::OTHER_ATTRIBUTES,
+            at,
+        ),
         (Owner::Thread, Feature::Attribute(at)) => attribute_from(variables::THREAD_ATTRIBUTES, at),
         _ => MAX_VARIABLES as u32,
     }

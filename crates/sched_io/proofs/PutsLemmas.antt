@@ -29,12 +29,15 @@ module _ (a b : List (List ℕ)) (x y z : Shown) where
   }
 
   later : WritesAll a x y → (count : ℕ) × StopsBehind count b y z → (count : ℕ) × StopsBehind count (a ++ b) x z
-  later first (count, stops) = (length a + count, record {
-    inside = omega (arith, length-append a b, stops.inside);
-    bytes = subst (λ (w : List (List ℕ)). Adds (joined w) x.written z.written) (sym (take-append-add a b count))
-        (subst (λ (w : List ℕ). Adds w x.written z.written) (sym (joined-append a (take count b))) (Adds-append (joined a) (joined (take count b)) _ _ _ first.bytes stops.bytes));
-    pieces = subst (λ (w : List (List ℕ)). Grows w x.offered z.offered) (sym (ap (λ (n : ℕ). take n (a ++ b)) (add_assoc (length a) count 1) ∙ take-append-add a b (count + 1))) (Grows-append a (take (count + 1) b) _ _ _ first.pieces stops.pieces);
-  })
+  later first (count, stops) = (
+    length a + count,
+    record {
+      inside = omega (arith, length-append a b, stops.inside);
+      bytes = subst (λ (w : List (List ℕ)). Adds (joined w) x.written z.written) (sym (take-append-add a b count))
+          (subst (λ (w : List ℕ). Adds w x.written z.written) (sym (joined-append a (take count b))) (Adds-append (joined a) (joined (take count b)) _ _ _ first.bytes stops.bytes));
+      pieces = subst (λ (w : List (List ℕ)). Grows w x.offered z.offered) (sym (ap (λ (n : ℕ). take n (a ++ b)) (add_assoc (length a) count 1) ∙ take-append-add a b (count + 1))) (Grows-append a (take (count + 1) b) _ _ _ first.pieces stops.pieces);
+    },
+  )
 
   -- all of the first lines were put, and a put of the others failed
   pub stops_later : WritesAll a x y → WritesPart b y z → WritesPart (a ++ b) x z
@@ -45,11 +48,14 @@ module _ (a b : List (List ℕ)) (x y z : Shown) where
   }
 
 sooner : (a b : List (List ℕ)) (x z : Shown) → (count : ℕ) × StopsBehind count a x z → (count : ℕ) × StopsBehind count (a ++ b) x z
-sooner a b x z (count, stops) = (count, record {
-  inside = omega (arith, length-append a b, stops.inside);
-  bytes = subst (λ (w : List (List ℕ)). Adds (joined w) x.written z.written) (sym (take-append-le count a b (omega (arith, stops.inside)))) stops.bytes;
-  pieces = subst (λ (w : List (List ℕ)). Grows w x.offered z.offered) (sym (take-append-le (count + 1) a b (omega (arith, stops.inside)))) stops.pieces;
-})
+sooner a b x z (count, stops) = (
+  count,
+  record {
+    inside = omega (arith, length-append a b, stops.inside);
+    bytes = subst (λ (w : List (List ℕ)). Adds (joined w) x.written z.written) (sym (take-append-le count a b (omega (arith, stops.inside)))) stops.bytes;
+    pieces = subst (λ (w : List (List ℕ)). Grows w x.offered z.offered) (sym (take-append-le (count + 1) a b (omega (arith, stops.inside)))) stops.pieces;
+  },
+)
 
 -- a put of the first lines failed
 pub stops_sooner : (a b : List (List ℕ)) (x z : Shown) → WritesPart a x z → WritesPart (a ++ b) x z
@@ -68,7 +74,7 @@ module _ (lines : List (List ℕ)) (at : ℕ) (x y z : Shown) (inside : at < len
   stops_here first second =
       let parts = stops_sooner (take at lines ++ get_or lines at [] ∷ []) (drop (at + 1) lines) x z (stops_later (take at lines) (get_or lines at [] ∷ []) x y z first second) in
       subst (λ (w : List (List ℕ)). WritesPart w x z)
-          (ap (λ (w : List (List ℕ)). w ++ drop (at + 1) lines) (sym (take_more lines at [] inside)) ∙ take-append-drop (at + 1) lines) parts
+      (ap (λ (w : List (List ℕ)). w ++ drop (at + 1) lines) (sym (take_more lines at [] inside)) ∙ take-append-drop (at + 1) lines) parts
 
 -- the loop has come to the end of the lines
 pub puts_whole : (lines : List (List ℕ)) (at : ℕ) (x y : Shown) → length lines ≤ at → WritesAll (take at lines) x y → WritesAll lines x y

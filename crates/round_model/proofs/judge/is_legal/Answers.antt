@@ -2,7 +2,7 @@ use Rattle.std.proofs.Common.{◌↔◌, IsTrue, sym, subst}
 use Rattle.policy_tree.specs.Meaning.{meaning_of}
 use Rattle.round_model.specs.declared.entry.Entry.{Entry}
 use Rattle.round_model.specs.Legal.{LegalNext}
-use Rattle.round_model.proofs.judge.step_ok.Goals as goal
+use Rattle.round_model.proofs.judge.is_legal.Goals as goal
 
 pub returns-in-Round : goal.returns-in-Round
 unfolding LegalNext
