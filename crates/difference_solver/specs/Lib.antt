@@ -1,0 +1,6 @@
+pub mod Distance
+pub mod Distances
+pub mod Meaning
+pub mod Passing
+pub mod Ranges
+pub mod Shortening
