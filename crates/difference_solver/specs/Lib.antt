@@ -1,3 +1,5 @@
+pub mod Closing
+pub mod Decides
 pub mod Distance
 pub mod Distances
 pub mod Meaning

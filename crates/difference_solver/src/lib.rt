@@ -13,4 +13,4 @@ mod rows;
 mod solver;
 
 pub use decided::{Decided, SolveMemory};
-// pub use solver::decide_differences;
+pub use solver::decide_differences;
