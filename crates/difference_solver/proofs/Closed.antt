@@ -1,9 +1,8 @@
 -- Why the table is closed at the middle behind a step, and stays closed at the others (Floyd and Warshall).
-use Rattle.std.proofs.Common.{◌≡◌, ◌≢◌, ℕ, ◌+◌, ◌<◌, ◌≤◌, ℤ, pos, ◌+ℤ◌, ◌≤ℤ◌, ◌<ℤ◌, inl, inr, ◌⊎◌, ap, sym, subst, ◌∙◌, refl, arith}
+use Rattle.std.proofs.Common.{◌≡◌, ℕ, ◌+◌, ◌<◌, ℤ, pos, ◌+ℤ◌, ◌≤ℤ◌, inl, inr, ap, sym, subst, arith}
 use Rattle.std.proofs.lemmas.Int.{ints}
 use Rattle.std.proofs.lemmas.Bool.{cases_eq}
 use Rattle.difference_solver.specs.declared.distance.Distance.{Distance}
-use Rattle.difference_solver.specs.Distance.{joined}
 use Rattle.difference_solver.specs.Distances.{Table, between}
 use Rattle.difference_solver.specs.Passing.{Passes}
 use Rattle.difference_solver.specs.Closing.{IsClosedAt}

@@ -1,5 +1,5 @@
 -- Each row with a number is the difference of two nodes. So what rows, each times 1, add up to stays small.
-use Rattle.std.proofs.Common.{◌≡◌, ℕ, suc, ◌+◌, ◌-◌, ◌*◌, ◌/◌, ◌%◌, ◌^◌, ◌<◌, ◌≤◌, List, [], ◌∷◌, length, All, Option, Some, get_or, slice_get, ℤ, pos, negsuc, ◌+ℤ◌, ◌*ℤ◌, neg_ℤ, unsigned_abs, inl, inr, ◌⊎◌, ap, sym, subst, ◌∙◌, refl, arith}
+use Rattle.std.proofs.Common.{◌≡◌, ℕ, suc, ◌+◌, ◌-◌, ◌*◌, ◌/◌, ◌%◌, ◌^◌, ◌<◌, ◌≤◌, List, [], ◌∷◌, length, All, Some, get_or, ℤ, pos, negsuc, neg_ℤ, unsigned_abs, inl, inr, ap, subst, ◌∙◌, arith}
 use Rattle.std.proofs.lemmas.Int.{ints}
 use Rattle.std.proofs.lemmas.Bool.{cases_eq, cases_lt}
 use Rattle.std.proofs.lemmas.Bool.Decides.{nat_tests}
@@ -7,14 +7,13 @@ use Rattle.std.proofs.lemmas.List.{get_or_past}
 use Rattle.std.proofs.lemmas.Option.{slice_get-get_or}
 use Rattle.linear_form.specs.declared.form.Bound.{Bound}
 use Rattle.linear_form.specs.declared.form.Row.{Row}
-use Rattle.linear_form.specs.declared.form.Term.{Term}
-use Rattle.linear_form.specs.Solution.{left_side, value_at}
-use Rattle.linear_form.specs.System.{IsBound, IsRow, IsSystem}
+use Rattle.linear_form.specs.Solution.{value_at}
+use Rattle.linear_form.specs.System.{IsSystem}
 use Rattle.linear_cert.specs.declared.cert.Mult.{Mult}
 use Rattle.linear_cert.specs.declared.rows.Column.{Column}
 use Rattle.linear_cert.specs.declared.rows.Column.TheVariants.{Variable, RightSide}
 use Rattle.linear_cert.specs.Rows.{NamesRow, numbered_row, range_row, single_row, lower_row, upper_row}
-use Rattle.linear_cert.specs.Columns.{column_sum, entry, times, value_in}
+use Rattle.linear_cert.specs.Columns.{column_sum, entry, times}
 use Rattle.linear_cert.specs.Right.{range_of}
 use Rattle.linear_cert.proofs.Numbered.{numbered_below, numbered_past, lower_at, upper_at}
 use Rattle.difference_solver.specs.Meaning.{IsEdge, Keeps, IsOnce, unit}

@@ -1,5 +1,5 @@
 -- Distances from few rows are small numbers, and a node below itself gives a right leaf.
-use Rattle.std.proofs.Common.{◌≡◌, ℕ, ◌+◌, ◌*◌, ◌^◌, ◌<◌, ◌≤◌, max, List, length, take, All, ℤ, pos, ◌+ℤ◌, ◌<ℤ◌, unsigned_abs, FitsSigned, length-take-le, ap, sym, subst, ◌∙◌, refl, arith}
+use Rattle.std.proofs.Common.{ℕ, ◌^◌, ◌<◌, ◌≤◌, List, length, take, All, length-take-le, arith}
 use Rattle.std.specs.Int.{w128}
 use Rattle.std.proofs.Math.Nat.{pow-le-pow_right}
 use Rattle.std.proofs.lemmas.Int.{ints, fits_signed_from_abs}
@@ -15,7 +15,7 @@ use Rattle.linear_cert.specs.Columns.{PartialSumsFit, column_sum}
 use Rattle.linear_cert.specs.Right.{IsRightLeaf}
 use Rattle.difference_solver.specs.declared.distance.Distance.{Distance}
 use Rattle.difference_solver.specs.Distances.{Table, between}
-use Rattle.difference_solver.specs.Meaning.{IsDistance, IsOnce, Keeps, unit}
+use Rattle.difference_solver.specs.Meaning.{IsDistance, IsOnce}
 use Rattle.difference_solver.specs.Passing.{IsSmall, AreSmall}
 use Rattle.difference_solver.specs.Closing.{IsState, IsShortBehind, IsBelowItself}
 use Rattle.difference_solver.proofs.Edges.{IsColumn, of_variable, of_bounds, sum_small}

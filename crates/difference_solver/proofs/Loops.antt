@@ -1,10 +1,9 @@
 -- The loops of a step: what has been passed so far, and what is still as it was.
-use Rattle.std.proofs.Common.{◌≡◌, ℕ, ◌+◌, ◌<◌, ◌≤◌, inl, inr, ap, sym, subst, ◌∙◌, refl, arith}
+use Rattle.std.proofs.Common.{◌≡◌, ℕ, ◌+◌, ◌<◌, ◌≤◌, inl, inr, sym, subst, ◌∙◌, refl, arith}
 use Rattle.std.proofs.lemmas.Bool.{cases_eq, cases_lt}
-use Rattle.difference_solver.specs.declared.distance.Distance.{Distance}
 use Rattle.difference_solver.specs.Distances.{Table, Puts, between}
-use Rattle.difference_solver.specs.Passing.{passed, PassesFrom, Passes, AreSmall}
-use Rattle.difference_solver.proofs.Steps.{to_middle, from_middle, same_passed, kept_small}
+use Rattle.difference_solver.specs.Passing.{passed, PassesFrom}
+use Rattle.difference_solver.proofs.Steps.{to_middle, from_middle, same_passed}
 
 -- of the distances from one node those to the first nodes have been passed
 pub record PassedTo (middle from to : ℕ) (old now : Table) : Type 0 where

@@ -4,7 +4,7 @@ use Rattle.std.proofs.lemmas.Nat.{div-mul-add, mod-mul-add}
 use Rattle.linear_form.specs.declared.form.Bound.{Bound}
 use Rattle.difference_solver.specs.declared.distance.Distance.{Distance}
 use Rattle.difference_solver.specs.Distance.{no_distance}
-use Rattle.difference_solver.specs.Distances.{Table, IsTable, Puts, between}
+use Rattle.difference_solver.specs.Distances.{Table, IsTable, Puts}
 use Rattle.difference_solver.specs.Ranges.{HasRanges, range_distance}
 
 -- a place lies in the table
@@ -36,8 +36,8 @@ puts_distance table from to distance is_table lf lt =
       size = refl;
       here = get_or-set_same table.items _ distance no_distance within;
       others = λ i j li lj differ.
-        let ne : i * table.size + j ≢ from * table.size + to = λ same. differ (same_row table.size i j from to lj lt same) (same_column table.size i j from to lj lt same) in
-        get_or-set_other table.items _ _ distance no_distance ne;
+          let ne : i * table.size + j ≢ from * table.size + to = λ same. differ (same_row table.size i j from to lj lt same) (same_column table.size i j from to lj lt same) in
+          get_or-set_other table.items _ _ distance no_distance ne;
     }
 
 -- a table that was filled place by place
@@ -45,7 +45,7 @@ pub filled : (bounds : List Bound) (rows size : ℕ) (items : List Distance) →
 filled bounds rows size items is_size each = record {
   size = is_size;
   each = λ i j li lj.
-    let row : (i * size + j) / size ≡ i = div-mul-add i size j lj in
-    let column : (i * size + j) % size ≡ j = mod-mul-add i size j lj in
-    rw (row, column) at (each (i * size + j) (place_below size i j li lj));
+      let row : (i * size + j) / size ≡ i = div-mul-add i size j lj in
+      let column : (i * size + j) % size ≡ j = mod-mul-add i size j lj in
+      rw (row, column) at (each (i * size + j) (place_below size i j li lj));
 }

@@ -1,5 +1,5 @@
 -- What one row does to a table of distances, and several rows one after another.
-use Rattle.std.proofs.Common.{◌≡◌, ℕ, ◌+◌, ◌*◌, ◌<◌, ◌≤◌, List, length, Option, Some, All, take, get_or, slice_get, [], pos, ◌≤ℤ◌, ◌<ℤ◌, inl, inr, ◌⊎◌, ap, sym, subst, ◌∙◌, refl, arith}
+use Rattle.std.proofs.Common.{◌≡◌, ℕ, ◌+◌, ◌*◌, ◌<◌, ◌≤◌, List, length, Some, All, take, get_or, slice_get, [], pos, ◌<ℤ◌, inl, inr, ◌⊎◌, ap, sym, subst, ◌∙◌, refl, arith}
 use Rattle.std.proofs.lemmas.Int.{ints, by_lt_z}
 use Rattle.std.proofs.lemmas.List.{take_more, take_all}
 use Rattle.std.proofs.lemmas.List.Elements.{All-push, All-weaker}
@@ -8,7 +8,6 @@ use Rattle.std.proofs.lemmas.Bool.{cases_eq}
 use Rattle.linear_form.specs.declared.form.Bound.{Bound}
 use Rattle.linear_form.specs.declared.form.Row.{Row}
 use Rattle.linear_cert.specs.Rows.{numbered_row}
-use Rattle.linear_cert.proofs.Numbered.{numbered_below}
 use Rattle.difference_solver.specs.declared.distance.Distance.{Distance}
 use Rattle.difference_solver.specs.Distance.{distance_of_row}
 use Rattle.difference_solver.specs.Distances.{Table, Puts, between}

@@ -1,12 +1,12 @@
 -- Why the distances to the zero are a solution, once the table is closed.
-use Rattle.std.proofs.Common.{◌≡◌, ℕ, ◌+◌, ◌<◌, ◌≤◌, List, [], ◌∷◌, ◌++◌, length, get_or, All, ℤ, pos, ◌+ℤ◌, ◌≤ℤ◌, inl, inr, ◌⊎◌, FitsSigned, ap, sym, subst, ◌∙◌, refl, arith}
+use Rattle.std.proofs.Common.{◌≡◌, ℕ, ◌+◌, ◌<◌, ◌≤◌, List, [], ◌∷◌, ◌++◌, length, get_or, All, ℤ, pos, inl, inr, FitsSigned, sym, subst, ◌∙◌, arith}
 use Rattle.std.specs.Int.{w64}
 use Rattle.std.proofs.lemmas.Int.{ints}
 use Rattle.std.proofs.lemmas.Bool.{cases_eq}
 use Rattle.std.proofs.lemmas.List.{get_or_at, get_or_append_left, get_or_past, get_or_default}
 use Rattle.linear_form.specs.declared.form.Bound.{Bound}
 use Rattle.linear_form.specs.declared.form.Row.{Row}
-use Rattle.linear_form.specs.Solution.{IsWithin, RowHolds, Solves, value_at, left_side}
+use Rattle.linear_form.specs.Solution.{IsWithin, RowHolds, Solves, value_at}
 use Rattle.linear_form.specs.System.{IsBound}
 use Rattle.linear_cert.specs.Right.{range_of}
 use Rattle.difference_solver.specs.Distances.{Table, between}
@@ -54,9 +54,9 @@ module _ (bounds : List Bound) (rows : List Row) (table : Table) (state : IsStat
     solves = record {
       one_each = one_each;
       within = λ k d lk.
-        let range : get_or bounds k d ≡ range_of bounds k = get_or_default bounds k d _ lk in
-        let value = value_is k (omega arith) in
-        rw (range, value) (in_range k lk);
+          let range : get_or bounds k d ≡ range_of bounds k = get_or_default bounds k d _ lk in
+          let value = value_is k (omega arith) in
+          rw (range, value) (in_range k lk);
       rows_hold = λ k d lk. row_holds (get_or rows k d) (state.kept k d lk);
     }
 

@@ -1,5 +1,5 @@
 -- The table that the ranges and the rows give is one to start from.
-use Rattle.std.proofs.Common.{◌≡◌, ◌≢◌, ℕ, ◌+◌, ◌*◌, ◌^◌, ◌<◌, ◌≤◌, ◌==◌, true, false, max, List, length, All, ℤ, pos, ◌+ℤ◌, ◌≤ℤ◌, neg_ℤ, inl, inr, ◌⊎◌, length-append, ap, sym, subst, ◌∙◌, refl, arith}
+use Rattle.std.proofs.Common.{◌≡◌, ◌≢◌, ℕ, ◌+◌, ◌*◌, ◌<◌, ◌≤◌, ◌==◌, true, false, List, length, All, neg_ℤ, inl, inr, length-append, ap, sym, subst, ◌∙◌, refl, arith}
 use Rattle.std.proofs.lemmas.Int.{ints}
 use Rattle.std.proofs.lemmas.Bool.{cases_eq}
 use Rattle.std.proofs.lemmas.Bool.Decides.{nat_tests}
@@ -10,7 +10,7 @@ use Rattle.linear_cert.specs.Rows.{lower_row, upper_row}
 use Rattle.linear_cert.specs.Right.{range_of}
 use Rattle.difference_solver.specs.declared.distance.Distance.{Distance}
 use Rattle.difference_solver.specs.Distance.{no_distance, distance_of_row, joined}
-use Rattle.difference_solver.specs.Distances.{Table, between}
+use Rattle.difference_solver.specs.Distances.{Table}
 use Rattle.difference_solver.specs.Meaning.{IsDistance, Keeps}
 use Rattle.difference_solver.specs.Ranges.{HasRanges, lower_distance, range_distance, upper_distance}
 use Rattle.difference_solver.specs.Shortening.{Shortens}
@@ -94,45 +94,46 @@ module _ (bounds : List Bound) (rows : List Row) (system : IsSystem (record { bo
     start_state = record {
       size = shortens.size ∙ has.size;
       distances = λ i j li lj.
-        let size = shortens.size ∙ has.size in
-        let ri : i < ranges.size = omega (arith, li, shortens.size) in
-        let rj : j < ranges.size = omega (arith, lj, shortens.size) in
-        shortens.distances i j ri rj (subst (IsDistance bounds rows i j) (sym (has.each i j ri rj)) (range_is i j (omega (arith, ri, has.size)) (omega (arith, rj, has.size))));
+          let size = shortens.size ∙ has.size in
+          let ri : i < ranges.size = omega (arith, li, shortens.size) in
+          let rj : j < ranges.size = omega (arith, lj, shortens.size) in
+          shortens.distances i j ri rj (subst (IsDistance bounds rows i j) (sym (has.each i j ri rj)) (range_is i j (omega (arith, ri, has.size)) (omega (arith, rj, has.size))));
       upper = λ v lv.
-        let rv : v < ranges.size = omega (arith, lv, has.size) in
-        let rn : length bounds < ranges.size = omega (arith, has.size) in
-        let is = has.each v (length bounds) rv rn ∙ range_other v (length bounds) (omega (arith, lv)) in
-        let up = ap (λ (d : Distance). d.bound) (upper_at_variable v lv) in
-        let down = ap (λ (d : Distance). d.bound) lower_at_zero in
-        omega (arith, ints, shortens.less v (length bounds) rv rn, ap (λ (d : Distance). d.bound) is, up, down);
+          let rv : v < ranges.size = omega (arith, lv, has.size) in
+          let rn : length bounds < ranges.size = omega (arith, has.size) in
+          let is = has.each v (length bounds) rv rn ∙ range_other v (length bounds) (omega (arith, lv)) in
+          let up = ap (λ (d : Distance). d.bound) (upper_at_variable v lv) in
+          let down = ap (λ (d : Distance). d.bound) lower_at_zero in
+          omega (arith, ints, shortens.less v (length bounds) rv rn, ap (λ (d : Distance). d.bound) is, up, down);
       lower = λ v lv.
-        let rv : v < ranges.size = omega (arith, lv, has.size) in
-        let rn : length bounds < ranges.size = omega (arith, has.size) in
-        let is = has.each (length bounds) v rn rv ∙ range_other (length bounds) v (omega (arith, lv)) in
-        let up = ap (λ (d : Distance). d.bound) upper_at_zero in
-        let down = ap (λ (d : Distance). d.bound) (lower_at_variable v lv) in
-        omega (arith, ints, shortens.less (length bounds) v rn rv, ap (λ (d : Distance). d.bound) is, up, down);
+          let rv : v < ranges.size = omega (arith, lv, has.size) in
+          let rn : length bounds < ranges.size = omega (arith, has.size) in
+          let is = has.each (length bounds) v rn rv ∙ range_other (length bounds) v (omega (arith, lv)) in
+          let up = ap (λ (d : Distance). d.bound) upper_at_zero in
+          let down = ap (λ (d : Distance). d.bound) (lower_at_variable v lv) in
+          omega (arith, ints, shortens.less (length bounds) v rn rv, ap (λ (d : Distance). d.bound) is, up, down);
       zero =
-        let rn : length bounds < ranges.size = omega (arith, has.size) in
-        let is = has.each (length bounds) (length bounds) rn rn ∙ range_same (length bounds) in
-        omega (arith, ints, shortens.less (length bounds) (length bounds) rn rn, ap (λ (d : Distance). d.bound) is);
+          let rn : length bounds < ranges.size = omega (arith, has.size) in
+          let is = has.each (length bounds) (length bounds) rn rn ∙ range_same (length bounds) in
+          omega (arith, ints, shortens.less (length bounds) (length bounds) rn rn, ap (λ (d : Distance). d.bound) is);
       kept = kept;
     }
 
     pub start_short : IsShortBehind 0 (length bounds) table
     start_short = record {
       each = λ i j li lj.
-        let ri : i < ranges.size = omega (arith, li, shortens.size) in
-        let rj : j < ranges.size = omega (arith, lj, shortens.size) in
-        let is = ap (λ (d : Distance). length d.mults) (has.each i j ri rj) in
-        shortens.short i j 2 ri rj (omega arith) (omega (arith, is, range_short i j, upper_short i, lower_short j));
+          let ri : i < ranges.size = omega (arith, li, shortens.size) in
+          let rj : j < ranges.size = omega (arith, lj, shortens.size) in
+          let is = ap (λ (d : Distance). length d.mults) (has.each i j ri rj) in
+          shortens.short i j 2 ri rj (omega arith) (omega (arith, is, range_short i j, upper_short i, lower_short j));
       first = λ none k lk.
-        let rk : k < ranges.size = omega (arith, lk, shortens.size) in
-        let rn : length bounds < ranges.size = omega (arith, has.size) in
-        let to = ap (λ (d : Distance). length d.mults) (has.each k (length bounds) rk rn) in
-        let from = ap (λ (d : Distance). length d.mults) (has.each (length bounds) k rn rk) in
-        let down = ap (λ (d : Distance). length d.mults) lower_at_zero in
-        let up = ap (λ (d : Distance). length d.mults) upper_at_zero in
-        (shortens.short k (length bounds) 1 rk rn (omega arith) (omega (arith, to, range_short k (length bounds), upper_short k, down)),
-        shortens.short (length bounds) k 1 rn rk (omega arith) (omega (arith, from, range_short (length bounds) k, lower_short k, up)));
+          let rk : k < ranges.size = omega (arith, lk, shortens.size) in
+          let rn : length bounds < ranges.size = omega (arith, has.size) in
+          let to = ap (λ (d : Distance). length d.mults) (has.each k (length bounds) rk rn) in
+          let from = ap (λ (d : Distance). length d.mults) (has.each (length bounds) k rn rk) in
+          let down = ap (λ (d : Distance). length d.mults) lower_at_zero in
+          let up = ap (λ (d : Distance). length d.mults) upper_at_zero in (
+            shortens.short k (length bounds) 1 rk rn (omega arith) (omega (arith, to, range_short k (length bounds), upper_short k, down)),
+            shortens.short (length bounds) k 1 rn rk (omega arith) (omega (arith, from, range_short (length bounds) k, lower_short k, up)),
+          );
     }

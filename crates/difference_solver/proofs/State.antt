@@ -1,18 +1,17 @@
 -- What a step keeps: each distance is as it was, or less and over the node in the middle.
-use Rattle.std.proofs.Common.{◌≡◌, ◌≢◌, ℕ, zero, suc, ◌+◌, ◌*◌, ◌^◌, ◌<◌, ◌≤◌, max, List, length, All, pos, ◌+ℤ◌, ◌≤ℤ◌, ◌<ℤ◌, inl, inr, ◌⊎◌, ◌++◌, length-append, add-one, ap, sym, subst, ◌∙◌, refl, arith}
+use Rattle.std.proofs.Common.{◌≡◌, ◌≢◌, ℕ, zero, suc, ◌+◌, ◌*◌, ◌^◌, ◌<◌, ◌≤◌, max, List, length, ◌+ℤ◌, ◌≤ℤ◌, inl, inr, length-append, add-one, ap, sym, subst, ◌∙◌, refl, arith}
 use Rattle.std.proofs.lemmas.Int.{ints, by_lt_z}
 use Rattle.std.proofs.lemmas.Bool.{cases_eq}
 use Rattle.std.proofs.lemmas.Nat.{pow-add, pow_pos}
 use Rattle.std.proofs.lemmas.List.Elements.{All-weaker}
 use Rattle.linear_form.specs.declared.form.Bound.{Bound}
 use Rattle.linear_form.specs.declared.form.Row.{Row}
-use Rattle.linear_cert.specs.declared.cert.Mult.{Mult}
 use Rattle.difference_solver.specs.declared.distance.Distance.{Distance}
 use Rattle.difference_solver.specs.Distance.{joined}
 use Rattle.difference_solver.specs.Distances.{Table, between}
 use Rattle.difference_solver.specs.Meaning.{IsDistance, Keeps}
-use Rattle.difference_solver.specs.Passing.{passed, shorter, Passes}
-use Rattle.difference_solver.specs.Closing.{IsState, IsShortBehind, IsClosedAt}
+use Rattle.difference_solver.specs.Passing.{shorter, Passes}
+use Rattle.difference_solver.specs.Closing.{IsState, IsShortBehind}
 use Rattle.difference_solver.proofs.Steps.{over_middle, to_middle, from_middle, joins, stays}
 use Rattle.difference_solver.proofs.Sums.{joined_is_distance}
 
@@ -108,9 +107,9 @@ module _ (middle : ℕ) (old new : Table) (passes : Passes middle old new) (lm :
       let same_size = passes.size in
       record {
         each = λ i j li lj.
-          let first = (short.first refl i (omega (arith, li))).0 in
-          let second = (short.first refl j (omega (arith, lj))).1 in
-          short_if 2 i j (short.each i j (omega (arith, li)) (omega (arith, lj))) (subst (λ m. length (between old i m).mults + length (between old m j).mults ≤ 2) (sym same) (omega (arith, first, second))) (cases_moved i j (omega (arith, li)) (omega (arith, lj)));
+            let first = (short.first refl i (omega (arith, li))).0 in
+            let second = (short.first refl j (omega (arith, lj))).1 in
+            short_if 2 i j (short.each i j (omega (arith, li)) (omega (arith, lj))) (subst (λ m. length (between old i m).mults + length (between old m j).mults ≤ 2) (sym same) (omega (arith, first, second))) (cases_moved i j (omega (arith, li)) (omega (arith, lj)));
         first = λ none. absurd (omega (arith, none));
       }
 
@@ -119,10 +118,10 @@ module _ (middle : ℕ) (old new : Table) (passes : Passes middle old new) (lm :
       let same_size = passes.size in
       record {
         each = λ i j li lj.
-          let own = short.each i j (omega (arith, li)) (omega (arith, lj)) in
-          let first = short.each i middle (omega (arith, li)) lm in
-          let second = short.each middle j lm (omega (arith, lj)) in
-          short_if (max 2 (2 ^ suc (suc steps))) i j (omega (arith, own, twice (suc steps))) (omega (arith, first, second, twice (suc steps), twice steps, pow_pos steps)) (cases_moved i j (omega (arith, li)) (omega (arith, lj)));
+            let own = short.each i j (omega (arith, li)) (omega (arith, lj)) in
+            let first = short.each i middle (omega (arith, li)) lm in
+            let second = short.each middle j lm (omega (arith, lj)) in
+            short_if (max 2 (2 ^ suc (suc steps))) i j (omega (arith, own, twice (suc steps))) (omega (arith, first, second, twice (suc steps), twice steps, pow_pos steps)) (cases_moved i j (omega (arith, li)) (omega (arith, lj)));
         first = λ none. absurd (omega (arith, none));
       }
 

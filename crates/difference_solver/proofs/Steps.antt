@@ -1,5 +1,5 @@
 -- What a step does to one distance.
-use Rattle.std.proofs.Common.{◌≡◌, ◌≢◌, ℕ, ◌<◌, ◌≤◌, Bool, true, false, ◌==◌, ◌||◌, ◌+ℤ◌, ◌≤ℤ◌, ◌<ℤ◌, int_lt, FitsSigned, ap, refl, arith}
+use Rattle.std.proofs.Common.{◌≡◌, ◌≢◌, ℕ, ◌<◌, true, false, ◌==◌, ◌+ℤ◌, ◌≤ℤ◌, ◌<ℤ◌, int_lt, FitsSigned, refl, arith}
 use Rattle.std.specs.Int.{w128}
 use Rattle.std.proofs.lemmas.Int.{ints}
 use Rattle.std.proofs.lemmas.Bool.Decides.{nat_tests}

@@ -1,17 +1,16 @@
 -- Distances from rows: of none, of one, and of one distance behind another.
-use Rattle.std.proofs.Common.{◌≡◌, ℕ, ◌+◌, ◌*◌, ◌<◌, List, [], ◌∷◌, ◌++◌, length, All, Option, Some, ℤ, pos, ◌+ℤ◌, ◌*ℤ◌, ap, sym, ◌∙◌, refl, arith}
+use Rattle.std.proofs.Common.{◌≡◌, ℕ, ◌+◌, ◌*◌, ◌<◌, List, [], ◌∷◌, ◌++◌, length, Some, ℤ, ◌+ℤ◌, refl, arith}
 use Rattle.std.proofs.lemmas.Int.{ints}
 use Rattle.std.proofs.lemmas.List.Elements.{All-nil, All-cons, All-append}
 use Rattle.linear_form.specs.declared.form.Bound.{Bound}
 use Rattle.linear_form.specs.declared.form.Row.{Row}
 use Rattle.linear_form.specs.Sum.{sum_over}
-use Rattle.linear_cert.specs.declared.cert.Mult.{Mult}
 use Rattle.linear_cert.specs.declared.rows.Column.TheVariants.{Variable, RightSide}
 use Rattle.linear_cert.specs.Rows.{NamesRow, numbered_row}
-use Rattle.linear_cert.specs.Columns.{column_sum, entry, times, value_in}
+use Rattle.linear_cert.specs.Columns.{entry, times}
 use Rattle.difference_solver.specs.declared.distance.Distance.{Distance}
 use Rattle.difference_solver.specs.Distance.{no_distance, distance_of_row, joined}
-use Rattle.difference_solver.specs.Meaning.{IsDistance, IsEdge, IsOnce, unit}
+use Rattle.difference_solver.specs.Meaning.{IsDistance, IsEdge, IsOnce}
 
 -- a sum over two lists
 sum_over-append : {X : Type 0} (f : X → ℤ) (xs ys : List X) → sum_over f (xs ++ ys) ≡ sum_over f xs +ℤ sum_over f ys

@@ -1,5 +1,5 @@
 -- A distance: at most how far one value lies above another, and the rows, each times 1, whose sum says so.
-use Rattle.std.specs.Prelude.{ℕ, List, [], ◌∷◌, ◌++◌, ℤ, pos, ◌+ℤ◌}
+use Rattle.std.specs.Prelude.{ℕ, [], ◌∷◌, ◌++◌, ℤ, pos, ◌+ℤ◌}
 use Rattle.linear_cert.specs.declared.cert.Mult.{Mult}
 use Rattle.difference_solver.specs.declared.distance.Distance.{Distance}
 

@@ -1,9 +1,9 @@
 -- What the rows of the system do to the table of distances.
-use Rattle.std.specs.Prelude.{◌≡◌, ℕ, ◌<◌, ◌≤◌, List, length, All, ◌≤ℤ◌}
+use Rattle.std.specs.Prelude.{◌≡◌, ℕ, ◌<◌, ◌≤◌, List, length, ◌≤ℤ◌}
 use Rattle.linear_form.specs.declared.form.Bound.{Bound}
 use Rattle.linear_form.specs.declared.form.Row.{Row}
 use Rattle.difference_solver.specs.Distances.{Table, between}
-use Rattle.difference_solver.specs.Meaning.{IsDistance, Keeps}
+use Rattle.difference_solver.specs.Meaning.{IsDistance}
 
 -- a distance is as it was, or less and that of one row
 pub record Shortens (bounds : List Bound) (rows : List Row) (old new : Table) : Type 0 where

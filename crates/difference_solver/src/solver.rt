@@ -29,7 +29,6 @@ pub fn decide_differences(alloc: Global, system: &System) -> Result<Decided, Sol
     ensures decides { IfOk result (Decides system.now.bounds system.now.rows) }
     ensures shallow { IfOk result HoldsShallowly }
 {
-    let _rows = system.rows();
     let mut distances = range_distances(alloc, system)?;
     shorten_by_rows(alloc, &mut distances, system)?;
     match close(alloc, &mut distances, system)? {

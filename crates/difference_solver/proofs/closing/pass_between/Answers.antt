@@ -1,8 +1,8 @@
-use Rattle.std.proofs.Common.{◌≡◌, ◌+◌, ◌+ℤ◌, ◌≤ℤ◌, ap, sym, ◌∙◌, refl, arith, false, true, int_lt}
+use Rattle.std.proofs.Common.{◌≡◌, ◌+ℤ◌, sym, ◌∙◌, refl, arith, false, true, int_lt}
 use Rattle.difference_solver.specs.Distance.{joined}
-use Rattle.difference_solver.specs.Distances.{Puts, between}
-use Rattle.difference_solver.specs.Passing.{passed, shorter, IsSmall}
-use Rattle.difference_solver.proofs.Steps.{sum_fits, over_middle, joins, stays, puts_nothing}
+use Rattle.difference_solver.specs.Distances.{between}
+use Rattle.difference_solver.specs.Passing.{IsSmall}
+use Rattle.difference_solver.proofs.Steps.{sum_fits, over_middle, puts_nothing}
 use Rattle.difference_solver.proofs.closing.pass_between.Goals as goal
 
 pub are_less-requires : goal.are_less-requires

@@ -1,4 +1,4 @@
-use Rattle.std.proofs.Common.{◌<◌, arith}
+use Rattle.std.proofs.Common.{arith}
 use Rattle.difference_solver.proofs.Steps.{kept_small}
 use Rattle.difference_solver.proofs.Loops.{one_to, still_to, still_from}
 use Rattle.difference_solver.proofs.closing.pass_from.Goals as goal

@@ -1,9 +1,7 @@
-use Rattle.std.proofs.Common.{◌≡◌, ℕ, ◌+◌, ◌*◌, ◌<◌, ◌<ℤ◌, length, Some, get_or, slice_get, FitsSigned, to_z, of_z, to_z-of_z, ap, sym, subst, ◌∙◌, arith, rules}
+use Rattle.std.proofs.Common.{◌≡◌, ◌<ℤ◌, length, Some, get_or, FitsSigned, to_z, of_z, to_z-of_z, ap, sym, subst, ◌∙◌, arith, rules}
 use Rattle.std.specs.Int.{w64}
-use Rattle.std.proofs.lemmas.Int.{ints}
 use Rattle.std.proofs.lemmas.Bool.{false≢true}
 use Rattle.std.proofs.lemmas.Option.{slice_get-get_or, get_or_from_slice_get}
-use Rattle.linear_form.specs.declared.form.Row.{Row}
 use Rattle.linear_cert.specs.Rows.{numbered_row}
 use Rattle.linear_cert.proofs.Numbered.{numbered_below}
 use Rattle.difference_solver.specs.Distance.{distance_of_row}

@@ -1,4 +1,4 @@
-use Rattle.std.proofs.Common.{◌≡◌, ◌+◌, ◌<◌, ◌≤◌, ◌∙◌, length, arith}
+use Rattle.std.proofs.Common.{◌∙◌, arith}
 use Rattle.difference_solver.proofs.Shorter.{both, one_more_kept, all_kept}
 use Rattle.difference_solver.proofs.rows.shorten_by_rows.Goals as goal
 

@@ -1,6 +1,4 @@
-use Rattle.std.proofs.Common.{◌≡◌, ◌+◌, ◌-◌, ◌<◌, ◌≤◌, length, ap, arith}
-use Rattle.difference_solver.specs.Distances.{between}
-use Rattle.difference_solver.specs.Closing.{IsState}
+use Rattle.std.proofs.Common.{◌≡◌, ◌+◌, ◌-◌, ◌<◌, length, ap, arith}
 use Rattle.difference_solver.proofs.Leaf.{are_small}
 use Rattle.difference_solver.proofs.State.{next_state, one_short}
 use Rattle.difference_solver.proofs.Closed.{closed_on}

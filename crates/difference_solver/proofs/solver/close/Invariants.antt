@@ -1,4 +1,4 @@
-use Rattle.std.proofs.Common.{◌≡◌, ℕ, ◌+◌, ◌<◌, ◌≤◌, length}
+use Rattle.std.proofs.Common.{ℕ, ◌+◌, ◌<◌, length}
 use Rattle.difference_solver.specs.Closing.{IsState, IsShortBehind, IsClosedAt}
 use Rattle.difference_solver.proofs.solver.close.Given as goal
 

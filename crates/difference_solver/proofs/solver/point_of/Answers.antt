@@ -1,6 +1,5 @@
-use Rattle.std.proofs.Common.{◌≡◌, ℕ, ◌+◌, ◌<◌, ◌≤◌, List, [], ◌∷◌, ◌++◌, length, get_or, pos, ℤ, FitsSigned, vec_len, to_z, of_z, to_z-of_z, ap, sym, ◌∙◌, inl, inr, arith, rules}
+use Rattle.std.proofs.Common.{◌≡◌, [], ◌∷◌, ◌++◌, length, FitsSigned, to_z, of_z, to_z-of_z, ap, sym, ◌∙◌, arith, rules}
 use Rattle.std.specs.Int.{w64}
-use Rattle.std.proofs.lemmas.Grind.{common_steps}
 use Rattle.difference_solver.specs.Distances.{between}
 use Rattle.difference_solver.proofs.Solution.{value_fits, one_value, solves}
 use Rattle.difference_solver.proofs.solver.point_of.Goals as goal
