@@ -1,0 +1,5 @@
+pub mod Cuts
+pub mod Digits
+pub mod ManyMults
+pub mod Mults
+pub mod Words

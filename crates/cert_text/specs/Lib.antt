@@ -1,0 +1,4 @@
+pub mod Cuts
+pub mod Faults
+pub mod Nodes
+pub mod Text
