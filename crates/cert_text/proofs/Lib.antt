@@ -1,3 +1,4 @@
+pub mod BadLines
 pub mod Cuts
 pub mod Digits
 pub mod ManyMults

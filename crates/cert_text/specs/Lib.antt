@@ -1,4 +1,5 @@
 pub mod Cuts
 pub mod Faults
 pub mod Nodes
+pub mod Reading
 pub mod Text

@@ -11,5 +11,5 @@ mod reading;
 mod writing;
 
 pub use fault::{CertFault, CertText};
-// pub use reading::read_cert;
+pub use reading::read_cert;
 pub use writing::write_cert;
