@@ -1,5 +1,5 @@
 -- Which line of a text is bad: no other line begins the text there, since a text is cut at line feeds in one way.
-use Rattle.std.proofs.Common.{◌≡◌, ◌≢◌, ℕ, suc, ◌+◌, ◌-◌, ◌^◌, ◌<◌, ◌≤◌, List, [], ◌∷◌, ◌++◌, length, All, get_or, ℤ, pos, negsuc, FitsSigned, codes, decimal, append_assoc, length-append, inl, inr, ap, sym, subst, ◌∙◌, refl, arith}
+use Rattle.std.proofs.Common.{◌≡◌, ◌≢◌, ℕ, suc, ◌+◌, ◌-◌, ◌^◌, ◌<◌, ◌≤◌, List, [], ◌∷◌, ◌++◌, length, All, get_or, ℤ, pos, negsuc, FitsSigned, codes, decimal, append_assoc, length-append, inl, ap, sym, subst, ◌∙◌, refl, arith}
 use Rattle.std.specs.Fmt.{signed_decimal}
 use Rattle.std.specs.Int.{w64}
 use Rattle.std.proofs.lemmas.Int.{ints}
@@ -83,10 +83,10 @@ no_takes line none _ _ _ same (takes_split room coming variable at is) = none.no
 pub bad_line : (room number : ℕ) (text line behind : List ℕ) → IsCut 10 text line behind → IsNoLine line → (coming : List ℕ) → IsBadAt (room ∷ coming) number text number
 bad_line room number text line behind cut none coming =
     bad_here (room ∷ coming) number text (λ absent _. cc absent) (λ other rest after is takes.
-      no_takes line none (room ∷ coming) other after (same_line line behind other rest cut.first (takes_lacks_feed _ _ _ takes) (sym cut.whole ∙ is)).0 takes)
+    no_takes line none (room ∷ coming) other after (same_line line behind other rest cut.first (takes_lacks_feed _ _ _ takes) (sym cut.whole ∙ is)).0 takes)
 
 -- a split with no room
-leaf_not_split : (mults : List Mult) (variable : ℕ) (at : ℤ) → leaf_line mults ≢ split_line variable at
+pub leaf_not_split : (mults : List Mult) (variable : ℕ) (at : ℤ) → leaf_line mults ≢ split_line variable at
 leaf_not_split mults variable at same =
     let first : 108 ≡ 115 = ap (λ xs. get_or xs 0 0) same in
     omega (arith, first)
@@ -100,7 +100,7 @@ no_room_takes variable at _ _ _ same k none _ is (takes_split room coming v z fi
 pub bad_split : (room number : ℕ) (text line behind : List ℕ) (variable : ℕ) (at : ℤ) → IsCut 10 text line behind → line ≡ split_line variable at → room ≡ 0 → (coming : List ℕ) → IsBadAt (room ∷ coming) number text number
 bad_split room number text line behind variable at cut is_split none coming =
     bad_here (room ∷ coming) number text (λ absent _. cc absent) (λ other rest after is takes.
-      no_room_takes variable at coming other after (sym is_split ∙ (same_line line behind other rest cut.first (takes_lacks_feed _ _ _ takes) (sym cut.whole ∙ is)).0) room none (room ∷ coming) refl takes)
+    no_room_takes variable at coming other after (sym is_split ∙ (same_line line behind other rest cut.first (takes_lacks_feed _ _ _ takes) (sym cut.whole ∙ is)).0) room none (room ∷ coming) refl takes)
 
 -- the node may not stand there
 pub bad_node : (room number : ℕ) (text line behind : List ℕ) (n : Node) → IsCut 10 text line behind → IsLineOf n line → (MayStand room n → ⊥) → (coming : List ℕ) → IsBadAt (room ∷ coming) number text number
@@ -112,7 +112,7 @@ bad_node room number text line behind (node.Split variable at) cut is not_there 
 pub later : (coming after : List ℕ) (number : ℕ) (text line rest : List ℕ) (at : ℕ) → text ≡ line ++ 10 ∷ rest → Takes coming line after → IsBadAt after (number + 1) rest at → IsBadAt coming number text at
 later coming after number text line rest at is takes bad = subst (λ t. IsBadAt coming number t at) (sym is) (bad_later coming after number line rest at takes bad)
 
-takes_with_room : (room : ℕ) (coming : List ℕ) (variable : ℕ) (at : ℤ) → 0 < room → IsSplit variable at → Takes (room ∷ coming) (split_line variable at) ((room - 1) ∷ (room - 1) ∷ coming)
+pub takes_with_room : (room : ℕ) (coming : List ℕ) (variable : ℕ) (at : ℤ) → 0 < room → IsSplit variable at → Takes (room ∷ coming) (split_line variable at) ((room - 1) ∷ (room - 1) ∷ coming)
 takes_with_room room coming variable at some is =
     let whole : suc (room - 1) ≡ room = omega arith in
     subst (λ r. Takes (r ∷ coming) (split_line variable at) ((room - 1) ∷ (room - 1) ∷ coming)) whole (takes_split (room - 1) coming variable at is)

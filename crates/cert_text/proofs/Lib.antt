@@ -3,4 +3,5 @@ pub mod Cuts
 pub mod Digits
 pub mod ManyMults
 pub mod Mults
+pub mod OneReading
 pub mod Words

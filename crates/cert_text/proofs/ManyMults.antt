@@ -1,11 +1,9 @@
 -- Multipliers that are read one after another.
-use Rattle.std.proofs.Common.{◌≡◌, ◌≢◌, ℕ, suc, ◌+◌, ◌<◌, ◌≤◌, List, [], ◌∷◌, ◌++◌, length, All, append_assoc, length-append, ap, sym, subst, ◌∙◌, refl, arith}
-use Rattle.std.proofs.lemmas.List.{append-nil}
-use Rattle.std.proofs.lemmas.List.Elements.{All-nil, All-cons}
+use Rattle.std.proofs.Common.{◌≡◌, ℕ, suc, ◌<◌, List, [], ◌∷◌, ◌++◌, length, append_assoc, length-append, ap, sym, ◌∙◌, refl, arith}
 use Rattle.linear_cert.specs.declared.cert.Mult.{Mult}
 use Rattle.cert_text.specs.Cuts.{StartsWith}
 use Rattle.cert_text.specs.Nodes.{AreMults, BeginsWithMult, BeginsWithNoMult}
-use Rattle.cert_text.specs.Text.{IsMult, mult_text, mults_text}
+use Rattle.cert_text.specs.Text.{mult_text, mults_text}
 use Rattle.cert_text.proofs.Cuts.{same_cut}
 use Rattle.cert_text.proofs.Digits.{word_lacks_space}
 use Rattle.cert_text.proofs.Mults.{mults_text-append, mults_text-one}
@@ -15,7 +13,7 @@ pub record Left (text : List ℕ) : Type 0 where
   pub mults : List Mult
   pub are : AreMults text mults
 
-spaced : (mults : List Mult) → StartsWith 32 (mults_text mults)
+pub spaced : (mults : List Mult) → StartsWith 32 (mults_text mults)
 spaced [] = tt
 spaced (mult ∷ rest) = refl
 

@@ -1,5 +1,5 @@
 -- The parts of a line are those of its node: a line is cut in one way.
-use Rattle.std.proofs.Common.{◌≡◌, ◌≢◌, ℕ, ◌^◌, ◌<◌, List, [], ◌∷◌, ◌++◌, length, All, true, take, drop, eqb, get_or, ℤ, decimal, inl, inr, ap, sym, subst, ◌∙◌, refl, arith, length-append}
+use Rattle.std.proofs.Common.{◌≡◌, ◌≢◌, ℕ, ◌^◌, ◌<◌, List, ◌∷◌, ◌++◌, length, true, take, drop, eqb, get_or, ℤ, decimal, inl, inr, ap, sym, ◌∙◌, refl, arith, length-append}
 use Rattle.std.specs.Fmt.{signed_decimal}
 use Rattle.std.proofs.lemmas.List.{get_or_at, take-append-drop}
 use Rattle.std.proofs.lemmas.Bool.Decides.{Decides-eqb}
@@ -8,7 +8,7 @@ use lib.Pointwise.{pointwise}
 use Rattle.linear_cert.specs.declared.cert.Mult.{Mult}
 use Rattle.cert_text.specs.Cuts.{Lacks, IsCut, StartsWith}
 use Rattle.cert_text.specs.Nodes.{BeginsWithMult, word_of}
-use Rattle.cert_text.specs.Text.{IsMult, IsSplit, mult_text}
+use Rattle.cert_text.specs.Text.{IsMult}
 use Rattle.cert_text.proofs.Cuts.{same_cut}
 use Rattle.cert_text.proofs.Digits.{decimal_lacks, word_lacks_space}
 

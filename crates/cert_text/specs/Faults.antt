@@ -2,8 +2,6 @@
 use Rattle.std.specs.Prelude.{◌≡◌, ℕ, suc, ◌+◌, List, [], ◌∷◌, ◌++◌, All, ℤ}
 use Rattle.linear_cert.specs.declared.cert.Mult.{Mult}
 use Rattle.linear_cert.specs.declared.cert.TheConstants.{MAX_SPLITS}
-use Rattle.cert_text.specs.declared.fault.CertFault.{CertFault}
-use Rattle.cert_text.specs.declared.fault.CertFault.TheVariants.{BadText, Memory}
 use Rattle.cert_text.specs.Text.{IsMult, IsSplit, leaf_line, split_line}
 
 -- A line is taken. The lists say how many splits may stand one within another in each part that is still to come, the
@@ -24,8 +22,3 @@ pub data IsBadAt : List ℕ → ℕ → List ℕ → ℕ → Type 0 where
 -- the first bad line of a text, by number from 1
 abbrev pub IsFirstBadLine : List ℕ → ℕ → Type 0
 IsFirstBadLine text at = IsBadAt (MAX_SPLITS ∷ []) 1 text at
-
--- a refusal names the first bad line, but for want of memory
-abbrev pub IsFaultOf : List ℕ → CertFault → Type 0
-IsFaultOf text (BadText at) = IsFirstBadLine text at
-IsFaultOf text Memory = Unit {0}

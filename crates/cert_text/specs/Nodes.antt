@@ -1,5 +1,5 @@
 -- The lines of nodes: what a line says, or that it says nothing.
-use Rattle.std.specs.Prelude.{◌≡◌, ◌≢◌, ℕ, List, [], ◌∷◌, ◌++◌, All, ℤ, Option, Some, None, decimal}
+use Rattle.std.specs.Prelude.{◌≡◌, ◌≢◌, ℕ, List, ◌∷◌, ◌++◌, All, ℤ, decimal}
 use Rattle.linear_cert.specs.declared.cert.Mult.{Mult}
 use Rattle.cert_text.specs.declared.node.Node.{Node}
 use Rattle.cert_text.specs.declared.node.Node.TheVariants.{Leaf, Split}

@@ -1,8 +1,9 @@
 //! Reads certificates.
 
-ghost use Rattle.std.specs.Prelude.{◌↔◌, ◌+◌, ◌<◌, ◌^◌, length, IfErr, IfOk, IsTrue};
-ghost use Rattle.linear_cert.specs.Right.{cert_tree};
-ghost use Rattle.cert_text.specs.Faults.{IsFaultOf};
+ghost use Rattle.std.specs.Prelude.{◌↔◌, ℕ, ◌+◌, ◌<◌, ◌^◌, length, IfErr, IfOk, IsTrue};
+ghost use Rattle.linear_cert.specs.Right.{CertTree, cert_tree};
+ghost use Rattle.cert_text.specs.Answers.{GivesUnlessMemory, IsFaultOf, RefusesUnlessMemory};
+ghost use Rattle.cert_text.specs.Faults.{IsFirstBadLine};
 ghost use Rattle.cert_text.specs.Reading.{FailsIn, IsNextNode, IsPart, MayStand};
 ghost use Rattle.cert_text.specs.Text.{SpellsCertificate};
 
@@ -15,6 +16,18 @@ use std::alloc::Global;
 /// The certificate that the text spells, or the first bad line. It calls itself for the parts of a
 /// split, at most `MAX_SPLITS` deep.
 pub fn read_cert(alloc: Global, text: &[u8]) -> Result<Cert, CertFault>
+    requires { length text.now < u32.MAX }
+    ensures cert { IfOk result (λ cert. SpellsCertificate text.now (cert_tree cert)) }
+    ensures fault { IfErr result (IsFaultOf text.now) }
+
+    // A text that spells a certificate isn't refused, and one with a bad line is refused for the first one.
+    ensures reads { (tree : CertTree) → SpellsCertificate text.now tree → GivesUnlessMemory tree result }
+    ensures refuses { (line : ℕ) → IsFirstBadLine text.now line → RefusesUnlessMemory line result }
+{
+    read_whole(alloc, text)
+}
+
+fn read_whole(alloc: Global, text: &[u8]) -> Result<Cert, CertFault>
     requires { length text.now < u32.MAX }
     ensures cert { IfOk result (λ cert. SpellsCertificate text.now (cert_tree cert)) }
     ensures fault { IfErr result (IsFaultOf text.now) }

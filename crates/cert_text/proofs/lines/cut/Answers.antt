@@ -1,4 +1,4 @@
-use Rattle.std.proofs.Common.{◌≡◌, ◌<◌, length, arith}
+use Rattle.std.proofs.Common.{arith}
 use Rattle.std.proofs.lemmas.List.{take_rest}
 use Rattle.cert_text.proofs.Cuts.{cut_at, lacks_all}
 use Rattle.cert_text.proofs.lines.cut.Goals as goal

@@ -1,4 +1,3 @@
-use Rattle.std.proofs.Common.{sym}
 use Rattle.cert_text.proofs.Cuts.{lacks_before, starts_behind}
 use Rattle.cert_text.proofs.lines.front.Goals as goal
 

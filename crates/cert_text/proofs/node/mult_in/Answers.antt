@@ -1,4 +1,4 @@
-use Rattle.std.proofs.Common.{decimal, sym, ◌∙◌}
+use Rattle.std.proofs.Common.{decimal}
 use Rattle.cert_text.proofs.Words.{nowhere, word_parts}
 use Rattle.cert_text.proofs.node.mult_in.Goals as goal
 

@@ -1,7 +1,6 @@
-use Rattle.std.proofs.Common.{◌≡◌, ◌<◌, ◌≤◌, ◌+◌, ◌∷◌, [], ◌++◌, List, All, length, subst, sym, arith, rules}
+use Rattle.std.proofs.Common.{◌<◌, length, arith}
 use Rattle.std.proofs.lemmas.Grind.{common_steps}
 use Rattle.std.proofs.lemmas.List.Elements.{All-push}
-use Rattle.linear_cert.specs.declared.cert.Mult.{Mult}
 use Rattle.cert_text.specs.Text.{IsMult}
 use Rattle.cert_text.proofs.ManyMults.{Left, more_read, shorter, left_behind, stuck}
 use Rattle.cert_text.proofs.node.mults_in.Goals as goal

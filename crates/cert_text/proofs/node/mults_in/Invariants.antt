@@ -1,7 +1,5 @@
-use Rattle.std.proofs.Common.{◌≡◌, ◌≤◌, ◌+◌, ◌++◌, List, All, length, vec_len}
-use Rattle.linear_cert.specs.declared.cert.Mult.{Mult}
+use Rattle.std.proofs.Common.{◌≡◌, ◌≤◌, ◌+◌, ◌++◌, All, length, vec_len}
 use Rattle.cert_text.specs.Text.{IsMult, mults_text}
-use Rattle.cert_text.specs.Nodes.{AreMults}
 use Rattle.cert_text.proofs.ManyMults.{Left}
 use Rattle.cert_text.proofs.node.mults_in.Given as goal
 

@@ -1,4 +1,4 @@
-use Rattle.std.proofs.Common.{◌≡◌, ℕ, ◌<◌, ◌^◌, decimal, sym, ◌∙◌, arith, rules}
+use Rattle.std.proofs.Common.{◌≡◌, sym, ◌∙◌, arith, rules}
 use Rattle.std.proofs.lemmas.Fmt.{decimal_injective}
 use Rattle.cert_text.proofs.numbers.narrow_in.Goals as goal
 

@@ -1,7 +1,6 @@
-use Rattle.std.proofs.Common.{◌≡◌, ◌<◌, ◌+◌, ◌-◌, length, length-append, ap, arith}
+use Rattle.std.proofs.Common.{length, length-append, ap, arith}
 use Rattle.std.proofs.lemmas.Result.{err_from_is_err_and}
 use Rattle.linear_cert.specs.Right.{cert_tree}
-use Rattle.cert_text.specs.Text.{cert_text}
 use Rattle.cert_text.proofs.BadLines.{fails_left, fails_right, lines_fit}
 use Rattle.cert_text.proofs.reading.+read_part.Goals as goal
 

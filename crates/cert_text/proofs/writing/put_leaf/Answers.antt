@@ -1,4 +1,3 @@
-use Rattle.std.proofs.Common.{◌<◌, arith}
 use Rattle.linear_cert.specs.declared.cert.Mult.{Mult}
 use Rattle.cert_text.proofs.Mults.{one_more, all_more}
 use Rattle.cert_text.proofs.writing.put_leaf.Goals as goal

@@ -1,4 +1,4 @@
-use Rattle.std.proofs.Common.{◌≡◌, ◌++◌, take, All, codes}
+use Rattle.std.proofs.Common.{◌≡◌, ◌++◌, take, All}
 use Rattle.cert_text.specs.Text.{IsMult, leaf_line}
 use Rattle.cert_text.proofs.writing.put_leaf.Given as goal
 
