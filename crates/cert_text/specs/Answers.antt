@@ -5,6 +5,7 @@ use Rattle.linear_cert.specs.Right.{CertTree, cert_tree}
 use Rattle.cert_text.specs.declared.fault.CertFault.{CertFault}
 use Rattle.cert_text.specs.declared.fault.CertFault.TheVariants.{BadText, Memory}
 use Rattle.cert_text.specs.Faults.{IsFirstBadLine}
+use Rattle.cert_text.specs.Text.{SpellsCertificate}
 
 -- a refusal names the first bad line, but for want of memory
 abbrev pub IsFaultOf : List ℕ → CertFault → Type 0
@@ -28,3 +29,11 @@ NamesUnlessMemory line Memory = Unit {0}
 abbrev pub RefusesUnlessMemory : ℕ → Result Cert CertFault → Type 0
 RefusesUnlessMemory line (Ok cert) = ⊥
 RefusesUnlessMemory line (Err fault) = NamesUnlessMemory line fault
+
+-- a text that spells a certificate gives that one
+abbrev pub MustGive : List ℕ → Result Cert CertFault → Type 0
+MustGive text result = (tree : CertTree) → SpellsCertificate text tree → GivesUnlessMemory tree result
+
+-- a text with a bad line is refused for the first one
+abbrev pub MustRefuse : List ℕ → Result Cert CertFault → Type 0
+MustRefuse text result = (line : ℕ) → IsFirstBadLine text line → RefusesUnlessMemory line result

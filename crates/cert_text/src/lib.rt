@@ -1,6 +1,8 @@
-//! The text of certificates: a line for each node, a split before its left part and that before its right part.
+//! The text of certificates: a line for each node, a split before its left part, and that before its
+//! right part.
 //!
-//! A split is `split V K`, and a leaf is `leaf` with ` R:M` for each multiplier. Each line ends with a line feed.
+//! A split is `split V K`, and a leaf is `leaf` with ` R:M` for each multiplier. Each line ends with
+//! a line feed.
 #![tactic(auto)]
 
 mod fault;

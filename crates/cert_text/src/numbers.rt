@@ -57,8 +57,8 @@ pub fn signed_in(word: &[u8]) -> Option<i64>
         Ok(number) => number,
         Err(_no_number) => return None,
     };
-    let mut buffer = Buffer::new();
-    if buffer.format(number) == text {
+    let mut spelling = Buffer::new();
+    if spelling.format(number) == text {
         Some(number)
     } else {
         None

@@ -1,9 +1,8 @@
 //! Reads certificates.
 
-ghost use Rattle.std.specs.Prelude.{◌↔◌, ℕ, ◌+◌, ◌<◌, ◌^◌, length, IfErr, IfOk, IsTrue};
-ghost use Rattle.linear_cert.specs.Right.{CertTree, cert_tree};
-ghost use Rattle.cert_text.specs.Answers.{GivesUnlessMemory, IsFaultOf, RefusesUnlessMemory};
-ghost use Rattle.cert_text.specs.Faults.{IsFirstBadLine};
+ghost use Rattle.std.specs.Prelude.{◌↔◌, ◌+◌, ◌<◌, ◌^◌, length, IfErr, IfOk, IsTrue};
+ghost use Rattle.linear_cert.specs.Right.{cert_tree};
+ghost use Rattle.cert_text.specs.Answers.{IsFaultOf, MustGive, MustRefuse};
 ghost use Rattle.cert_text.specs.Reading.{FailsIn, IsNextNode, IsPart, MayStand};
 ghost use Rattle.cert_text.specs.Text.{SpellsCertificate};
 
@@ -20,9 +19,9 @@ pub fn read_cert(alloc: Global, text: &[u8]) -> Result<Cert, CertFault>
     ensures cert { IfOk result (λ cert. SpellsCertificate text.now (cert_tree cert)) }
     ensures fault { IfErr result (IsFaultOf text.now) }
 
-    // A text that spells a certificate isn't refused, and one with a bad line is refused for the first one.
-    ensures reads { (tree : CertTree) → SpellsCertificate text.now tree → GivesUnlessMemory tree result }
-    ensures refuses { (line : ℕ) → IsFirstBadLine text.now line → RefusesUnlessMemory line result }
+    // A text that spells a certificate isn't refused, and one with a bad line is.
+    ensures reads { MustGive text.now result }
+    ensures refuses { MustRefuse text.now result }
 {
     read_whole(alloc, text)
 }
@@ -54,8 +53,8 @@ struct Rest<'a> {
 // The certificate that the rest begins with, where so many splits may stand one within another.
 fn read_part(alloc: Global, rest: &mut Rest<'_>, room: u32) -> Result<Cert, CertFault>
     requires { rest.old.number + length rest.old.bytes.now < 2 ^ 32 }
-    ensures part { IfOk result (λ cert.
-        IsPart room rest.old.number rest.old.bytes.now (cert_tree cert) rest.new.bytes.now rest.new.number) }
+    ensures part { IfOk result (λ cert. IsPart room rest.old.number rest.old.bytes.now
+        (cert_tree cert) rest.new.bytes.now rest.new.number) }
     ensures fault { IfErr result (FailsIn room rest.old.number rest.old.bytes.now) }
 {
     match next_node(alloc, rest, room)? {
@@ -76,8 +75,8 @@ fn read_part(alloc: Global, rest: &mut Rest<'_>, room: u32) -> Result<Cert, Cert
 // The node of the next line, if it may stand there.
 fn next_node(alloc: Global, rest: &mut Rest<'_>, room: u32) -> Result<Node, CertFault>
     requires { rest.old.number + length rest.old.bytes.now < 2 ^ 32 }
-    ensures node { IfOk result (λ node.
-        IsNextNode room rest.old.number rest.old.bytes.now node rest.new.bytes.now rest.new.number) }
+    ensures node { IfOk result (λ node. IsNextNode room rest.old.number rest.old.bytes.now
+        node rest.new.bytes.now rest.new.number) }
     ensures fault { IfErr result (FailsIn room rest.old.number rest.old.bytes.now) }
 {
     let number = rest.number;

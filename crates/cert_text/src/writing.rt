@@ -39,7 +39,8 @@ fn put_cert(text: &mut Vec<u8>, cert: &Cert) -> Result<(), AllocError>
 }
 
 fn put_leaf(text: &mut Vec<u8>, mults: &[Mult]) -> Result<(), AllocError>
-    ensures text { OnOk result (text.new.items ≡ text.old.items ++ (leaf_line mults.now ++ 10 ∷ [])) }
+    ensures text { let line = leaf_line mults.now ++ 10 ∷ [] in
+        OnOk result (text.new.items ≡ text.old.items ++ line) }
     ensures in_range { OnOk result (All IsMult mults.now) }
 {
     text.extend_from_slice(b"leaf")?;
@@ -61,7 +62,8 @@ fn put_mult(text: &mut Vec<u8>, mult: Mult) -> Result<(), AllocError>
 }
 
 fn put_split(text: &mut Vec<u8>, variable: u32, at: i64) -> Result<(), AllocError>
-    ensures text { OnOk result (text.new.items ≡ text.old.items ++ (split_line variable at ++ 10 ∷ [])) }
+    ensures text { let line = split_line variable at ++ 10 ∷ [] in
+        OnOk result (text.new.items ≡ text.old.items ++ line) }
     ensures in_range { OnOk result (IsSplit variable at) }
 {
     text.extend_from_slice(b"split ")?;

@@ -18,12 +18,14 @@ pub record IsState (bounds : List Bound) (rows : List Row) (table : Table) : Typ
 -- behind so many steps, of which the first goes over the zero, the distances come from few rows
 pub record IsShortBehind (steps zero : ℕ) (table : Table) : Type 0 where
   pub each : (i j : ℕ) → i < table.size → j < table.size → length (between table i j).mults ≤ max 2 (2 ^ steps)
-  pub first : steps ≡ 0 → (k : ℕ) → k < table.size → (length (between table k zero).mults ≤ 1) × (length (between table zero k).mults ≤ 1)
+  pub first : steps ≡ 0 → (k : ℕ) → k < table.size →
+      (length (between table k zero).mults ≤ 1) × (length (between table zero k).mults ≤ 1)
 
 -- no distance is more than the one over this node
 abbrev pub IsClosedAt : ℕ → Table → Type 0
 IsClosedAt middle table =
-    (i j : ℕ) → i < table.size → j < table.size → (between table i j).bound ≤ℤ ((between table i middle).bound +ℤ (between table middle j).bound)
+    (i j : ℕ) → i < table.size → j < table.size →
+    (between table i j).bound ≤ℤ ((between table i middle).bound +ℤ (between table middle j).bound)
 
 -- the node lies below itself
 abbrev pub IsBelowItself : Table → ℕ → Type 0

@@ -9,5 +9,7 @@ use Rattle.difference_solver.specs.Meaning.{IsDistance}
 pub record Shortens (bounds : List Bound) (rows : List Row) (old new : Table) : Type 0 where
   pub size : new.size ≡ old.size
   pub less : (i j : ℕ) → i < old.size → j < old.size → (between new i j).bound ≤ℤ (between old i j).bound
-  pub distances : (i j : ℕ) → i < old.size → j < old.size → IsDistance bounds rows i j (between old i j) → IsDistance bounds rows i j (between new i j)
-  pub short : (i j limit : ℕ) → i < old.size → j < old.size → 0 < limit → length (between old i j).mults ≤ limit → length (between new i j).mults ≤ limit
+  pub distances : (i j : ℕ) → i < old.size → j < old.size →
+      IsDistance bounds rows i j (between old i j) → IsDistance bounds rows i j (between new i j)
+  pub short : (i j limit : ℕ) → i < old.size → j < old.size → 0 < limit →
+      length (between old i j).mults ≤ limit → length (between new i j).mults ≤ limit

@@ -19,11 +19,11 @@ use linear_form::{Point, System};
 use lists::Items;
 use std::alloc::{AllocError, Global};
 
-/// Decides the system, want of memory aside: either a certificate shows that it has no solution, or a
-/// point is one.
+/// Decides the system, want of memory aside: a certificate shows that it has no solution, or a point
+/// is one.
 ///
 /// It takes the shortest distances between all values, over one value after another, as Floyd and
-/// Warshall do. The certificate is one leaf, a cycle of rows that a value lies below itself by.
+/// Warshall do. The certificate is one leaf: rows, each once, along a cycle of negative length.
 pub fn decide_differences(alloc: Global, system: &System) -> Result<Decided, SolveMemory>
     requires { IsDifference system.now.rows }
     ensures decides { IfOk result (Decides system.now.bounds system.now.rows) }

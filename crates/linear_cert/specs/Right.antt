@@ -77,4 +77,5 @@ past bounds variable at = slice_set bounds variable (part_past (range_of bounds 
 abbrev pub IsRight : List Bound → List Row → CertTree → Type 0
 IsRight bounds rows (leaf mults) = IsRightLeaf bounds rows mults
 IsRight bounds rows (split variable at left right) =
-    CanBeCut bounds variable at × IsRight (up_to bounds variable at) rows left × IsRight (past bounds variable at) rows right
+    CanBeCut bounds variable at ×
+    IsRight (up_to bounds variable at) rows left × IsRight (past bounds variable at) rows right

@@ -1,7 +1,7 @@
 //! Certificates that a system of linear rows has no solution, and their checker.
 //!
-//! A certificate is a sum of rows that says `0 <= c` with c negative, as in Farkas' lemma, or it cuts the range of a
-//! variable in two and has a certificate for either part.
+//! A certificate is a sum of rows that says `0 <= c` with c negative, as in Farkas' lemma. Or it cuts
+//! the range of a variable in two, and has a certificate for either part.
 #![tactic(auto)]
 
 mod cert;
