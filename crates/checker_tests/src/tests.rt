@@ -76,15 +76,25 @@ fn ranges_of(alloc: Global, ranges: &[(i64, i64)]) -> Result<Option<Vec<Bound>>,
     Ok(Some(list))
 }
 
-type Rows<'a> = &'a [(&'a [(u32, i64)], i64)];
+pub(crate) type Rows<'a> = &'a [(&'a [(u32, i64)], i64)];
 
-fn system_of(alloc: Global, ranges: &[(i64, i64)], rows: Rows) -> Result<System, Fail> {
+pub(crate) fn system_of(alloc: Global, ranges: &[(i64, i64)], rows: Rows) -> Result<System, Fail> {
     let mut system = System::new(alloc, ranges_of(alloc, ranges)?.ok_or("no such ranges")?);
     for (terms, bound) in rows {
-        let variables = system.variable_count();
-        system.add_atom(row_of(alloc, variables, terms, *bound)?.ok_or("no such row")?)?;
+        add(alloc, &mut system, terms, *bound)?;
     }
     Ok(system)
+}
+
+pub(crate) fn add(
+    alloc: Global,
+    system: &mut System,
+    terms: &[(u32, i64)],
+    bound: i64,
+) -> Result<(), Fail> {
+    let row = row_of(alloc, system.variable_count(), terms, bound)?;
+    system.add_atom(row.ok_or("no such row")?)?;
+    Ok(())
 }
 
 fn leaf_of(alloc: Global, mults: &[(u32, u64)]) -> Result<Cert, Fail> {
@@ -148,7 +158,7 @@ fn row_limit_and_points(rt: HostRuntime) -> Result<(), Fail> {
 }
 
 // Twice the variable is at most 1 and at least 1.
-const HALF: Rows = &[(&[(0, 2)], 1), (&[(0, -2)], -1)];
+pub(crate) const HALF: Rows = &[(&[(0, 2)], 1), (&[(0, -2)], -1)];
 
 // Rows whose bounds, times a large multiplier, reach half of what 128 bits hold.
 const LARGE: Rows = &[(&[(0, 1)], 1 << 62), (&[(0, -1)], -(1 << 62))];

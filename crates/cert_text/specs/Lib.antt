@@ -1,0 +1,6 @@
+pub mod Answers
+pub mod Cuts
+pub mod Faults
+pub mod Nodes
+pub mod Reading
+pub mod Text
