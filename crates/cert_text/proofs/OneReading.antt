@@ -12,6 +12,7 @@ use Rattle.cert_text.specs.declared.fault.CertFault.{CertFault}
 use Rattle.cert_text.specs.declared.fault.CertFault.TheVariants.{BadText, Memory}
 use Rattle.cert_text.specs.Answers.{GivesUnlessMemory, IsFaultOf, RefusesUnlessMemory}
 use Rattle.cert_text.specs.Faults.{Takes, takes_leaf, takes_split, IsBadAt, bad_here, bad_later, IsFirstBadLine}
+use Rattle.cert_text.specs.Laws.{OneReading}
 use Rattle.cert_text.specs.Nodes.{word_of}
 use Rattle.cert_text.specs.Reading.{nodes_of}
 use Rattle.cert_text.specs.Text.{AreInRange, IsMult, IsSplit, SpellsCertificate, cert_text, leaf_line, mults_text, split_line}
@@ -171,11 +172,22 @@ same_certificate (split v y left right) (split w z low high) rest behind fit_one
     let second = same_certificate right high rest behind fit_one.2 fit_two.2 first.1 in
     (cc (numbers.0, numbers.1, first.0, second.0), second.1)
 
+pub one_spelled : (text : List ℕ) (one two : CertTree) → SpellsCertificate text one → SpellsCertificate text two → one ≡ two
+one_spelled text one two first second =
+    let same = ap (λ t. t ++ []) (sym first.text_is ∙ second.text_is) in
+    (same_certificate one two [] [] first.in_range second.in_range same).0
+
+-- the law of one reading
+pub one_reading : OneReading
+one_reading = record {
+  one_certificate = one_spelled;
+  one_bad_line = λ text one two first second. one_bad_line (MAX_SPLITS ∷ []) 1 text one two first second;
+  not_both = spelled_is_good;
+}
+
 -- what is answered rightly is answered as it must be
 pub must_give : (text : List ℕ) (result : Result Cert CertFault) → IfOk result (λ cert. SpellsCertificate text (cert_tree cert)) → IfErr result (IsFaultOf text) → (tree : CertTree) → SpellsCertificate text tree → GivesUnlessMemory tree result
-must_give text (Ok cert) given fault tree spells =
-    let same = ap (λ t. t ++ []) (sym given.text_is ∙ spells.text_is) in
-    (same_certificate (cert_tree cert) tree [] [] given.in_range spells.in_range same).0
+must_give text (Ok cert) given fault tree spells = one_spelled text (cert_tree cert) tree given spells
 must_give text (Err (BadText line)) given fault tree spells = spelled_is_good text tree line spells fault
 must_give text (Err Memory) given fault tree spells = tt
 

@@ -6,6 +6,7 @@
 #![tactic(auto)]
 
 mod fault;
+mod laws;
 mod lines;
 mod node;
 mod numbers;
@@ -13,5 +14,6 @@ mod reading;
 mod writing;
 
 pub use fault::{CertFault, CertText};
+pub use laws::law_one_reading;
 pub use reading::read_cert;
 pub use writing::write_cert;
