@@ -13,7 +13,8 @@ pub const MAX_NUMBER: u64 = 1 << 62;
 pub fn gcd(a: u64, b: u64) -> u64
     requires a { 0 < a }
     requires b { 0 < b }
-    ensures { result ≡ gcd a b }
+    ensures value { result ≡ gcd a b }
+    ensures positive { 0 < result }
 {
     let mut greater = a;
     let mut less = b;

@@ -1,8 +1,11 @@
 //! Deciders of linear systems: elimination, and a search over boxes.
 #![tactic(auto)]
 
+mod derived;
 mod factors;
 mod fault;
+mod numbered;
 
-pub use factors::{added, gcd};
+pub use derived::{Combined, Derived, Shape, coefficient, combine};
+pub use numbered::{bound_in, coefficient_in};
 pub use fault::SolveMemory;

@@ -9,7 +9,7 @@ loop-less-preserved c = record {
   divisors = λ g is. c.loop-less.invariant.divisors g (IsGcd-from_mod c.loop-less.greater c.loop-less.less g is);
 }
 
-pub returns : goal.returns
-returns c =
+pub returns-clause-value : goal.returns-clause-value
+returns-clause-value c =
     let greater = c.loop-less.greater in
     gcd_is _ _ greater (c.loop-less.invariant.divisors greater (IsGcd-from_zero greater c.loop-less.less (omega arith))) c.loop-less.invariant.positive c.requires.a
