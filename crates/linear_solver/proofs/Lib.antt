@@ -1,3 +1,5 @@
 pub mod Divisors
 pub mod Additions
 pub mod KeptSums
+pub mod Magnitudes
+pub mod FirstRows

@@ -4,7 +4,9 @@ use Rattle.linear_solver.specs.declared.derived.Shape.{Shape}
 use Rattle.linear_solver.specs.declared.derived.Derived.{Derived}
 use Rattle.linear_solver.specs.declared.derived.Combined.{Combined}
 use Rattle.linear_solver.specs.declared.derived.Combined.TheVariants.{TooLarge, LeftOut, Kept}
-use Rattle.linear_solver.specs.Elimination.{IsSmall, kept}
+use Rattle.linear_form.specs.declared.form.Row.{Row}
+use Rattle.linear_form.specs.declared.form.Bound.{Bound}
+use Rattle.linear_solver.specs.Elimination.{IsSmall, kept, numbered_count}
 
 -- a row with so many numbers, each of them in range
 pub record HasShape (shape : Shape) (row : Derived) : Type 0 where
@@ -17,3 +19,7 @@ abbrev pub IsKept : Derived → Combined → Type 0
 IsKept sum TooLarge = All IsSmall (kept sum) → ⊥
 IsKept sum LeftOut = kept sum ≡ []
 IsKept sum (Kept row) = (kept sum ≡ row ∷ []) × (row ≡ sum) × IsSmall row
+
+-- how many numbers each derived row of a system has
+abbrev pub shape_of : List Bound → List Row → Shape
+shape_of bounds rows = record { variables = length bounds; numbered = numbered_count bounds rows }

@@ -4,8 +4,10 @@
 mod derived;
 mod factors;
 mod fault;
+mod first;
 mod numbered;
 
 pub use derived::{Combined, Derived, Shape, coefficient, combine};
 pub use numbered::{bound_in, coefficient_in};
+pub use first::{first_list, shape_of};
 pub use fault::SolveMemory;
