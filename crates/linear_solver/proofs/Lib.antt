@@ -3,3 +3,4 @@ pub mod Additions
 pub mod KeptSums
 pub mod Magnitudes
 pub mod FirstRows
+pub mod Extensions

@@ -2,6 +2,7 @@
 #![tactic(auto)]
 
 mod derived;
+mod eliminate;
 mod factors;
 mod fault;
 mod first;
@@ -10,4 +11,5 @@ mod numbered;
 pub use derived::{Combined, Derived, Shape, coefficient, combine};
 pub use numbered::{bound_in, coefficient_in};
 pub use first::{first_list, shape_of};
+pub use eliminate::{contradiction, next_list};
 pub use fault::SolveMemory;

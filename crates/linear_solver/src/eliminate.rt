@@ -1,0 +1,153 @@
+//! Elimination of the variables, one after another (Fourier and Motzkin).
+
+ghost use Rattle.std.specs.Prelude.{◌≡◌, ◌<◌, ◌≤◌, ◌<ℤ◌, if◌then◌else◌, [], ◌∷◌, ◌++◌, pos, length, int_lt, slice_index_or, All, IfNone, IfOk, IfSome, MatchOption};
+ghost use Rattle.linear_form.specs.System.{IsSystem};
+ghost use Rattle.linear_solver.specs.Elimination.{HasNoContradiction, IsContradiction, IsRefutedByElimination, coef_of, kept, lacks, next_list, sum_without, sums_in, sums_with};
+ghost use Rattle.linear_solver.specs.Shapes.{Extends, HasShape, IsList, RefutesAt};
+
+use crate::derived::{Combined, Derived, MAX_DERIVED, Shape, coefficient, combine, has_no_term};
+use crate::fault::SolveMemory;
+use std::alloc::Global;
+
+// The list without the variable, if it stays within the sizes.
+pub fn next_list(alloc: Global, shape: Shape, variable: u32, list: Vec<Derived>)
+-> Result<Option<Vec<Derived>>, SolveMemory>
+    requires known { variable < shape.variables }
+    requires list { IsList shape list.items }
+    ensures { IfOk result (Extends shape [] (next_list variable list.items)) }
+{
+    let mut sums = match sums_in(alloc, shape, variable, list.as_slice())? {
+        Some(sums) => sums,
+        None => return Ok(None),
+    };
+    let mut next = list;
+    next.retain(|row| lacks(row, variable));
+    if next.len() + sums.len() > MAX_DERIVED {
+        return Ok(None);
+    }
+    next.append(&mut sums)?;
+    Ok(Some(next))
+}
+
+fn lacks(row: &Derived, variable: u32) -> bool
+    ensures { result ≡ lacks variable row.now }
+{
+    match row.coefs.as_slice().get(variable as usize) {
+        Some(coef) => *coef == 0,
+        None => true,
+    }
+}
+
+fn sums_in(alloc: Global, shape: Shape, variable: u32, list: &[Derived])
+-> Result<Option<Vec<Derived>>, SolveMemory>
+    requires known { variable < shape.variables }
+    requires list { IsList shape list.now }
+    ensures { IfOk result (Extends shape [] (sums_in variable list.now)) }
+{
+    let mut sums = Vec::new(alloc);
+    for p in list {
+        match with_sums_of(alloc, shape, variable, list, p, sums)? {
+            Some(more) => sums = more,
+            None => return Ok(None),
+        }
+    }
+    Ok(Some(sums))
+}
+
+// The sums so far and those of one more row.
+fn with_sums_of(
+    alloc: Global,
+    shape: Shape,
+    variable: u32,
+    list: &[Derived],
+    p: &Derived,
+    sums: Vec<Derived>,
+) -> Result<Option<Vec<Derived>>, SolveMemory>
+    requires known { variable < shape.variables }
+    requires list { IsList shape list.now }
+    requires p { HasShape shape p.now }
+    requires sums { IsList shape sums.items }
+    ensures { let more = if int_lt (pos 0) (coef_of variable p.now) then sums_with variable list.now p.now else [] in
+        IfOk result (Extends shape sums.items more) }
+{
+    if coefficient(p, variable) > 0 {
+        with_sums(alloc, shape, variable, list, p, sums)
+    } else {
+        Ok(Some(sums))
+    }
+}
+
+fn with_sums(
+    alloc: Global,
+    shape: Shape,
+    variable: u32,
+    list: &[Derived],
+    p: &Derived,
+    sums: Vec<Derived>,
+) -> Result<Option<Vec<Derived>>, SolveMemory>
+    requires known { variable < shape.variables }
+    requires list { IsList shape list.now }
+    requires p { HasShape shape p.now }
+    requires positive { pos 0 <ℤ coef_of variable p.now }
+    requires sums { IsList shape sums.items }
+    ensures { IfOk result (Extends shape sums.items (sums_with variable list.now p.now)) }
+{
+    let mut sums = sums;
+    for q in list {
+        match with_sum(alloc, shape, variable, p, q, sums)? {
+            Some(more) => sums = more,
+            None => return Ok(None),
+        }
+    }
+    Ok(Some(sums))
+}
+
+fn with_sum(
+    alloc: Global,
+    shape: Shape,
+    variable: u32,
+    p: &Derived,
+    q: &Derived,
+    sums: Vec<Derived>,
+) -> Result<Option<Vec<Derived>>, SolveMemory>
+    requires known { variable < shape.variables }
+    requires p { HasShape shape p.now }
+    requires q { HasShape shape q.now }
+    requires positive { pos 0 <ℤ coef_of variable p.now }
+    requires sums { IsList shape sums.items }
+    ensures { let more = if int_lt (coef_of variable q.now) (pos 0) then kept (sum_without variable p.now q.now) else [] in
+        IfOk result (Extends shape sums.items more) }
+{
+    if coefficient(q, variable) >= 0 {
+        return Ok(Some(sums));
+    }
+    match combine(alloc, shape, variable, p, q)? {
+        Combined::TooLarge => Ok(None),
+        Combined::LeftOut => Ok(Some(sums)),
+        Combined::Kept(sum) => with_row(sums, sum),
+    }
+}
+
+fn with_row(sums: Vec<Derived>, sum: Derived) -> Result<Option<Vec<Derived>>, SolveMemory>
+    ensures { IfOk result (λ r. MatchOption r (MAX_DERIVED ≤ length sums.items)
+        (λ more. (length sums.items < MAX_DERIVED) × (more.items ≡ sums.items ++ sum ∷ []))) }
+{
+    if sums.len() >= MAX_DERIVED {
+        return Ok(None);
+    }
+    let mut sums = sums;
+    sums.push(sum)?;
+    Ok(Some(sums))
+}
+
+/// The first row of the list that says that 0 is at most a negative number.
+pub fn contradiction(list: &[Derived]) -> Option<usize>
+    ensures { MatchOption result (HasNoContradiction list.now) (RefutesAt list.now) }
+{
+    for (place, row) in list.iter().enumerate() {
+        if row.bound < 0 && has_no_term(row.coefs.as_slice()) {
+            return Some(place);
+        }
+    }
+    None
+}
