@@ -2,6 +2,7 @@
 #![tactic(auto)]
 
 mod form;
+mod shape;
 mod system;
 mod value;
 

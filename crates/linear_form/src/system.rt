@@ -1,10 +1,13 @@
 //! Systems: bounds on the variables, and rows that are added one by one.
 
-ghost use Rattle.std.specs.Prelude.{◌≡◌, ◌↔◌, ◌≤◌, [], ◌∷◌, ◌++◌, length, vec_len, IsTrue, OnOk, OnErr, All};
+ghost use Rattle.std.specs.Prelude.{◌≡◌, ◌↔◌, ◌≤◌, [], ◌∷◌, ◌++◌, length, vec_len, IsTrue, OnOk, OnErr, All, SomeIff, ◌<◌, ◌^◌};
+ghost use Rattle.linear_form.specs.Difference.{IsDifference};
+ghost use Rattle.linear_form.specs.Points.{points_of};
 ghost use Rattle.linear_form.specs.Solution.{Solves};
 ghost use Rattle.linear_form.specs.System.{IsBound, IsRow};
 
 use crate::form::{Bound, MAX_ROWS, MAX_VARIABLES, Point, Row};
+use crate::shape::{are_differences, points_of};
 use crate::value::{all_hold, all_within};
 use std::alloc::Global;
 use std::marker::Model;
@@ -76,6 +79,21 @@ impl System {
         vals.len() == bounds.len()
             && all_within(bounds, vals)
             && all_hold(self.rows.as_slice(), vals)
+    }
+
+    /// Whether each row has no term, a variable or minus a variable, or a variable minus another: then Bellman's and
+    /// Ford's search for negative cycles decides the system.
+    pub fn is_difference(&self) -> bool
+        ensures { IsTrue result ↔ IsDifference self.now.rows }
+    {
+        are_differences(self.rows.as_slice())
+    }
+
+    /// How many points the ranges have, the product of their lengths; none where it passes `2^128 - 1`.
+    pub fn points(&self) -> Option<u128>
+        ensures { SomeIff result (points_of self.now.bounds < 2 ^ 128) (points_of self.now.bounds) }
+    {
+        points_of(self.bounds.as_slice())
     }
 
     /// The ranges of the variables, in the order of their numbers.
