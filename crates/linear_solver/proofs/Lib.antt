@@ -4,3 +4,6 @@ pub mod KeptSums
 pub mod Magnitudes
 pub mod FirstRows
 pub mod Extensions
+pub mod Follows
+pub mod RightLeaves
+pub mod Refutation

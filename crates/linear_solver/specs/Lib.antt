@@ -1,3 +1,4 @@
 pub mod Sums
 pub mod Elimination
+pub mod Leaves
 pub mod Shapes

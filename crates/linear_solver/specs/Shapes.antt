@@ -9,6 +9,8 @@ use Rattle.linear_solver.specs.declared.derived.Combined.TheVariants.{TooLarge, 
 use Rattle.linear_form.specs.declared.form.Row.{Row}
 use Rattle.linear_form.specs.declared.form.Bound.{Bound}
 use Rattle.linear_solver.specs.declared.derived.TheConstants.{MAX_DERIVED}
+use Rattle.linear_cert.specs.declared.cert.Mult.{Mult}
+use Rattle.linear_solver.specs.Leaves.{multipliers_from}
 use Rattle.linear_solver.specs.Elimination.{IsContradiction, IsSmall, IsWithinSizes, kept, numbered_count}
 
 -- a row with so many numbers, each of them in range
@@ -41,3 +43,9 @@ Extends shape list more (Some both) = (both.items ≡ list ++ more) × IsList sh
 pub record RefutesAt (list : List Derived) (place : ℕ) : Type 0 where
   pub known : place < length list
   pub refutes : (d : Derived) → IsContradiction (slice_index_or list place d)
+
+-- the multipliers of a contradiction of the list
+pub record LeafIn (list : List Derived) (leaf : List Mult) : Type 0 where
+  pub place : ℕ
+  pub refutes : RefutesAt list place
+  pub leaf_is : (d : Derived) → leaf ≡ multipliers_from 0 (slice_index_or list place d).mults

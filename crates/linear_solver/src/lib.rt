@@ -2,14 +2,12 @@
 #![tactic(auto)]
 
 mod derived;
-mod eliminate;
+mod elimination;
 mod factors;
 mod fault;
 mod first;
+mod leaf;
 mod numbered;
 
-pub use derived::{Combined, Derived, Shape, coefficient, combine};
-pub use numbered::{bound_in, coefficient_in};
-pub use first::{first_list, shape_of};
-pub use eliminate::{contradiction, next_list};
+pub use elimination::eliminate;
 pub use fault::SolveMemory;

@@ -2,15 +2,20 @@
 
 ghost use Rattle.std.specs.Prelude.{◌≡◌, ◌<◌, ◌≤◌, ◌<ℤ◌, if◌then◌else◌, [], ◌∷◌, ◌++◌, pos, length, int_lt, slice_index_or, All, IfNone, IfOk, IfSome, MatchOption};
 ghost use Rattle.linear_form.specs.System.{IsSystem};
+ghost use Rattle.linear_cert.specs.Right.{IsRightLeaf};
 ghost use Rattle.linear_solver.specs.Elimination.{HasNoContradiction, IsContradiction, IsRefutedByElimination, coef_of, kept, lacks, next_list, sum_without, sums_in, sums_with};
-ghost use Rattle.linear_solver.specs.Shapes.{Extends, HasShape, IsList, RefutesAt};
+ghost use Rattle.linear_solver.specs.Shapes.{Extends, HasShape, IsList, LeafIn, RefutesAt};
 
 use crate::derived::{Combined, Derived, MAX_DERIVED, Shape, coefficient, combine, has_no_term};
 use crate::fault::SolveMemory;
-use std::alloc::Global;
+use crate::first::{first_list, shape_of};
+use crate::leaf::leaf_of;
+use linear_cert::MultList;
+use linear_form::{Bound, Row};
+use std::alloc::{AllocError, Global};
 
 // The list without the variable, if it stays within the sizes.
-pub fn next_list(alloc: Global, shape: Shape, variable: u32, list: Vec<Derived>)
+fn next_list(alloc: Global, shape: Shape, variable: u32, list: Vec<Derived>)
 -> Result<Option<Vec<Derived>>, SolveMemory>
     requires known { variable < shape.variables }
     requires list { IsList shape list.items }
@@ -140,8 +145,19 @@ fn with_row(sums: Vec<Derived>, sum: Derived) -> Result<Option<Vec<Derived>>, So
     Ok(Some(sums))
 }
 
-/// The first row of the list that says that 0 is at most a negative number.
-pub fn contradiction(list: &[Derived]) -> Option<usize>
+// The multipliers of the list's first contradiction.
+fn leaf_in(alloc: Global, shape: Shape, list: &[Derived]) -> Result<Option<MultList>, AllocError>
+    requires { All (HasShape shape) list.now }
+    ensures { IfOk result (λ leaf. MatchOption leaf (HasNoContradiction list.now) (LeafIn list.now)) }
+{
+    match contradiction(list) {
+        Some(place) => Ok(Some(leaf_of(alloc, list[place].mults.as_slice())?)),
+        None => Ok(None),
+    }
+}
+
+// The first row of the list that says that 0 is at most a negative number.
+fn contradiction(list: &[Derived]) -> Option<usize>
     ensures { MatchOption result (HasNoContradiction list.now) (RefutesAt list.now) }
 {
     for (place, row) in list.iter().enumerate() {
@@ -150,4 +166,27 @@ pub fn contradiction(list: &[Derived]) -> Option<usize>
         }
     }
     None
+}
+
+/// A certificate that bounds and rows have no solution, if elimination within its sizes finds one. It
+/// eliminates each variable in turn, and looks at every list for a row that says that 0 is at most a
+/// negative number. That row's multipliers are the certificate, as in Farkas' lemma.
+pub fn eliminate(alloc: Global, bounds: &[Bound], rows: &[Row]) -> Result<Option<MultList>, SolveMemory>
+    requires { IsSystem (record { bounds = bounds.now; rows = rows.now }) }
+    ensures right { IfOk result (λ leaf. IfSome leaf (IsRightLeaf bounds.now rows.now)) }
+    ensures complete { IfOk result (λ leaf. IfNone leaf (IsRefutedByElimination bounds.now rows.now → ⊥)) }
+{
+    let shape = shape_of(bounds, rows);
+    let mut list = first_list(alloc, bounds, rows)?;
+    for variable in 0..shape.variables {
+        match leaf_in(alloc, shape, list.as_slice())? {
+            Some(leaf) => return Ok(Some(leaf)),
+            None => {}
+        }
+        match next_list(alloc, shape, variable, list)? {
+            Some(next) => list = next,
+            None => return Ok(None),
+        }
+    }
+    Ok(leaf_in(alloc, shape, list.as_slice())?)
 }

@@ -5,7 +5,7 @@ use Rattle.std.proofs.lemmas.Result.{IfOk-weaker}
 use Rattle.linear_solver.specs.Elimination.{IsSmall, coef_of, kept, sum_without}
 use Rattle.linear_solver.specs.Shapes.{HasShape}
 use Rattle.linear_solver.proofs.Extensions.{extends_row, lt_test, sum_shape, within_back}
-use Rattle.linear_solver.proofs.eliminate.with_sum.Goals as goal
+use Rattle.linear_solver.proofs.elimination.with_sum.Goals as goal
 
 pub returns-in-TooLarge : goal.returns-in-TooLarge
 returns-in-TooLarge c = λ within.

@@ -1,7 +1,7 @@
 use Rattle.std.proofs.Common.{◌≡◌, ◌++◌, take}
 use Rattle.linear_solver.specs.Elimination.{sums_with}
 use Rattle.linear_solver.specs.Shapes.{IsList}
-use Rattle.linear_solver.proofs.eliminate.with_sums.Given as goal
+use Rattle.linear_solver.proofs.elimination.with_sums.Given as goal
 
 abbrev pub invariant-loop-q : goal.invariant-loop-q
 invariant-loop-q l = record {

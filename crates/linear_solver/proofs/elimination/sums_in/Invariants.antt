@@ -2,7 +2,7 @@ use Rattle.std.proofs.Common.{◌≡◌, if◌then◌else◌, [], int_lt, pos, t
 use Rattle.std.specs.List.{flat_map}
 use Rattle.linear_solver.specs.Elimination.{coef_of, sums_with}
 use Rattle.linear_solver.specs.Shapes.{IsList}
-use Rattle.linear_solver.proofs.eliminate.sums_in.Given as goal
+use Rattle.linear_solver.proofs.elimination.sums_in.Given as goal
 
 abbrev pub invariant-loop-p : goal.invariant-loop-p
 invariant-loop-p l = record {

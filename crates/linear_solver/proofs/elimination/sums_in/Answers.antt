@@ -2,7 +2,7 @@ use Rattle.std.proofs.Common.{if◌then◌else◌, [], int_lt, pos}
 use Rattle.linear_solver.specs.declared.derived.Derived.{Derived}
 use Rattle.linear_solver.specs.Elimination.{coef_of, sums_with}
 use Rattle.linear_solver.proofs.Extensions.{stops}
-use Rattle.linear_solver.proofs.eliminate.sums_in.Goals as goal
+use Rattle.linear_solver.proofs.elimination.sums_in.Goals as goal
 
 pub returns-in-None : goal.returns-in-None
 returns-in-None c =

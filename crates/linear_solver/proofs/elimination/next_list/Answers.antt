@@ -5,7 +5,7 @@ use Rattle.std.proofs.lemmas.List.Elements.{All-append, All-filter}
 use Rattle.linear_solver.specs.Elimination.{lacks, sums_in}
 use Rattle.linear_solver.specs.Shapes.{HasShape}
 use Rattle.linear_solver.proofs.Extensions.{within_back}
-use Rattle.linear_solver.proofs.eliminate.next_list.Goals as goal
+use Rattle.linear_solver.proofs.elimination.next_list.Goals as goal
 
 pub returns-in-None : goal.returns-in-None
 returns-in-None c = λ within.
