@@ -7,3 +7,5 @@ pub mod Extensions
 pub mod Follows
 pub mod RightLeaves
 pub mod Refutation
+pub mod RowLeaves
+pub mod Corners

@@ -1,7 +1,8 @@
 -- How large the numbers of the numbered rows are, and sums of such numbers.
-use Rattle.std.proofs.Common.{◌≡◌, ℕ, zero, suc, ◌+◌, ◌-◌, ◌*◌, ◌/◌, ◌%◌, ◌^◌, ◌<◌, ◌≤◌, ◌==◌, if◌then◌else◌, Bool, true, false, List, [], ◌∷◌, length, get_or, slice_get, All, Option, Some, None, option_map, ℤ, pos, negsuc, ◌+ℤ◌, unsigned_abs, inl, inr, subst, sym, ap, ◌∙◌, refl, arith}
+use Rattle.std.proofs.Common.{◌≡◌, ℕ, zero, suc, ◌+◌, ◌-◌, ◌*◌, ◌/◌, ◌%◌, ◌^◌, ◌<◌, ◌≤◌, ◌==◌, if◌then◌else◌, Bool, true, false, List, [], ◌∷◌, length, get_or, slice_get, All, Option, Some, None, option_map, ℤ, pos, negsuc, ◌+ℤ◌, unsigned_abs, FitsSigned, to_z, of_z, inl, inr, subst, sym, ap, ◌∙◌, refl, arith}
 use Rattle.std.proofs.lemmas.Bool.{cases_lt}
-use Rattle.std.proofs.lemmas.Int.{ints}
+use Rattle.std.specs.Int.{w128}
+use Rattle.std.proofs.lemmas.Int.{ints, to_z-of_z, fits_signed_from_abs}
 use Rattle.std.proofs.lemmas.Option.{get_or_from_slice_get, slice_get_within, slice_get-get_or}
 use Rattle.linear_form.specs.declared.form.Term.{Term}
 use Rattle.linear_form.specs.declared.form.Row.{Row}
@@ -56,3 +57,15 @@ number_small bounds rows is column number = elim (cases_lt number (length rows))
       let fits : unsigned_abs (value_in (entry column) (option_map (if place % 2 == 0 then lower_row (place / 2) else upper_row (place / 2)) (slice_get bounds (place / 2)))) ≤ 2 ^ 62 = omega (arith, small) in
       subst (λ (row : Option Row). unsigned_abs (value_in (entry column) row) ≤ 2 ^ 62) (sym (numbered_past bounds rows number past)) fits
 ]
+
+-- one more term's end in a sum of i of them
+pub ends_more : (s p : ℤ) (i : ℕ) → unsigned_abs s ≤ i * 2 ^ 83 → unsigned_abs p ≤ 2 ^ 83 → unsigned_abs (s +ℤ p) ≤ (i + 1) * 2 ^ 83
+ends_more s p i h k = omega (arith, ints)
+
+-- thirty of them fit
+pub ends_fit : (s : ℤ) (i : ℕ) → i ≤ 30 → unsigned_abs s ≤ i * 2 ^ 83 → FitsSigned w128 s
+ends_fit s i le h = fits_signed_from_abs w128 s (omega arith)
+
+-- a sum comes back from its bits as it was
+pub ends_stored : (s p : ℤ) → FitsSigned w128 p → FitsSigned w128 (s +ℤ p) → to_z w128 (of_z w128 (s +ℤ to_z w128 (of_z w128 p))) ≡ s +ℤ p
+ends_stored s p fits sum_fits = rw (to_z-of_z w128 p fits) (to_z-of_z w128 (s +ℤ p) sum_fits)

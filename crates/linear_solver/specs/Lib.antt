@@ -2,3 +2,4 @@ pub mod Sums
 pub mod Elimination
 pub mod Leaves
 pub mod Shapes
+pub mod Boxes

@@ -3,6 +3,7 @@
 
 mod derived;
 mod elimination;
+mod ends;
 mod factors;
 mod fault;
 mod first;
@@ -10,4 +11,6 @@ mod leaf;
 mod numbered;
 
 pub use elimination::eliminate;
+pub use ends::{greatest, is_refuted, least, low_ends};
+pub use leaf::row_leaf;
 pub use fault::SolveMemory;
