@@ -9,3 +9,5 @@ pub mod RightLeaves
 pub mod Refutation
 pub mod RowLeaves
 pub mod Corners
+pub mod Heights
+pub mod Spreads

@@ -70,3 +70,16 @@ width range = unsigned_abs (range.hi -ℤ range.lo)
 abbrev pub height : List Bound → ℕ
 height [] = 0
 height (range ∷ rest) = halvings (width range) + height rest
+
+-- the row holds somewhere in the box, or may do so, and doesn't hold everywhere
+pub record IsOpen (bounds : List Bound) (row : Row) : Type 0 where
+  pub some : least bounds row.terms ≤ℤ row.bound
+  pub few : row.bound <ℤ greatest bounds row.terms
+
+-- how much a term changes over the box
+abbrev pub spread : List Bound → Term → ℕ
+spread bounds term = unsigned_abs term.coef * width (range_of bounds term.var)
+
+-- no term changes
+abbrev pub AreFixed : List Bound → List Term → Type 0
+AreFixed bounds terms = All (λ term. spread bounds term ≡ 0) terms

@@ -3,3 +3,4 @@ pub mod Elimination
 pub mod Leaves
 pub mod Shapes
 pub mod Boxes
+pub mod Steps

@@ -1,6 +1,7 @@
 //! Deciders of linear systems: elimination, and a search over boxes.
 #![tactic(auto)]
 
+mod choice;
 mod derived;
 mod elimination;
 mod ends;
@@ -13,4 +14,5 @@ mod numbered;
 pub use elimination::eliminate;
 pub use ends::{greatest, is_refuted, least, low_ends};
 pub use leaf::row_leaf;
+pub use choice::{Choice, Cut, Look, look_over};
 pub use fault::SolveMemory;
