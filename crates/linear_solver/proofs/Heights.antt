@@ -36,7 +36,7 @@ halvings-zero : halvings 0 ≡ 0
 unfolding halvings
 halvings-zero = up_to-zero 0
 
-halvings-some : (number : ℕ) → 0 < number → halvings number ≡ 1 + halvings (number / 2)
+pub halvings-some : (number : ℕ) → 0 < number → halvings number ≡ 1 + halvings (number / 2)
 unfolding halvings
 halvings-some zero some = absurd (omega arith)
 halvings-some (suc n) some = up_to-some n (suc n) some ∙ ap (λ k. 1 + k) (up_to-same n (suc n / 2) (suc n / 2) (omega arith) (omega arith))

@@ -11,3 +11,4 @@ pub mod RowLeaves
 pub mod Corners
 pub mod Heights
 pub mod Spreads
+pub mod Joining

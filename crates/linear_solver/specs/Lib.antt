@@ -4,3 +4,4 @@ pub mod Leaves
 pub mod Shapes
 pub mod Boxes
 pub mod Steps
+pub mod Found

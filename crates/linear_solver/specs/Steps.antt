@@ -2,6 +2,7 @@
 use Rattle.std.specs.Prelude.{◌≡◌, ℕ, ◌<◌, List, length, slice_index_or, slice_set, All}
 use Rattle.linear_form.specs.declared.form.Row.{Row}
 use Rattle.linear_form.specs.declared.form.Bound.{Bound}
+use Rattle.linear_form.specs.System.{IsSystem}
 use Rattle.linear_solver.specs.declared.choice.Look.{Look}
 use Rattle.linear_solver.specs.declared.choice.Look.TheVariants.{Refuted, Implied, Open as Open'}
 use Rattle.linear_solver.specs.declared.choice.Reach.{Reach}
@@ -44,3 +45,8 @@ pub record IsPartition (bounds : List Bound) (rows : List Row) (cut : Partition)
   pub can : CanBeCut bounds cut.variable cut.at
   pub low : IsPart bounds rows (up_to bounds cut.variable cut.at) cut.low
   pub high : IsPart bounds rows (past bounds cut.variable cut.at) cut.high
+
+-- the ranges that are searched are those of a system
+abbrev pub IsSystemPart : List Row → Part → Type 0
+IsSystemPart rows (Closed leaf) = Unit {0}
+IsSystemPart rows (Open part) = IsSystem (record { bounds = part.items; rows = rows })

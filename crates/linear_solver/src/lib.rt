@@ -11,10 +11,8 @@ mod first;
 mod leaf;
 mod numbered;
 mod parts;
+mod searching;
 
 pub use elimination::eliminate;
-pub use ends::{greatest, is_refuted, least, low_ends};
-pub use leaf::row_leaf;
-pub use choice::{Choice, Cut, Look, look_over};
-pub use parts::{Part, Partition, cut_off, halved};
 pub use fault::SolveMemory;
+pub use searching::{Effort, Found, search};
