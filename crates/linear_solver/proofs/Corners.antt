@@ -55,7 +55,7 @@ module _ (bounds : List Bound) where
   low_ends_solve rows system implied = record {
     one_each = length-map bounds (λ (range : Bound). range.lo);
     within = λ k d lt.
-      let value = lows_at k lt ∙ ap (λ (range : Bound). range.lo) (get_or_default bounds k _ d lt) in
-      (omega (arith, ints, value), omega (arith, ints, value, (system.bounds_fit k d lt).ordered));
+        let value = lows_at k lt ∙ ap (λ (range : Bound). range.lo) (get_or_default bounds k _ d lt) in
+        (omega (arith, ints, value), omega (arith, ints, value, (system.bounds_fit k d lt).ordered));
     rows_hold = λ k d lt. omega (arith, ints, low_side (get_or rows k d).terms (system.rows_fit k d lt).terms system.bounds_fit, implied k d lt);
   }

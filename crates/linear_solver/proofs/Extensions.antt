@@ -61,7 +61,10 @@ sum_shape shape x y p q hp hq small = record {
 pub extends_row : (shape : Shape) (list more : List Derived) (row : Derived) → IsList shape list → HasShape shape row → more ≡ row ∷ [] → (r : Option (Vec Derived Global)) → MatchOption r (MAX_DERIVED ≤ length list) (λ both. (length list < MAX_DERIVED) × (both.items ≡ list ++ row ∷ [])) → Extends shape list more r
 extends_row shape list more row is fits one None full = λ within.
     omega (arith, within.few, full, length-append list more, ap length one)
-extends_row shape list more row is fits one (Some both) pushed = (pushed.1 ∙ ap (λ xs. list ++ xs) (sym one), record {
-  few = omega (arith, ap length pushed.1, length-append list (row ∷ []), pushed.0);
-  shapes = subst (All (HasShape shape)) (sym pushed.1) (All-push (HasShape shape) list row is.shapes fits);
-})
+extends_row shape list more row is fits one (Some both) pushed = (
+  pushed.1 ∙ ap (λ xs. list ++ xs) (sym one),
+  record {
+    few = omega (arith, ap length pushed.1, length-append list (row ∷ []), pushed.0);
+    shapes = subst (All (HasShape shape)) (sym pushed.1) (All-push (HasShape shape) list row is.shapes fits);
+  },
+)

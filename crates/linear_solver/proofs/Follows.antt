@@ -107,9 +107,9 @@ module _ (bounds : List Bound) (rows : List Row) where
         mults_len = length-added x y p.mults q.mults same ∙ hp.mults_len;
         positive = added_positive x y p.mults q.mults hp.positive hq.positive;
         coefs = λ v lt.
-          get_or-added x y p.coefs q.coefs v (pos 0) (pos 0) (pos 0) (omega (arith, hp.coefs_len)) (omega (arith, hq.coefs_len))
-          ∙ ap (λ c. c *ℤ pos x +ℤ coef_of v q *ℤ pos y) (hp.coefs v lt) ∙ ap (λ c. weighted (Variable v) 0 p.mults *ℤ pos x +ℤ c *ℤ pos y) (hq.coefs v lt)
-          ∙ sym (weighted-added (Variable v) x y 0 p.mults q.mults same);
+            get_or-added x y p.coefs q.coefs v (pos 0) (pos 0) (pos 0) (omega (arith, hp.coefs_len)) (omega (arith, hq.coefs_len))
+            ∙ ap (λ c. c *ℤ pos x +ℤ coef_of v q *ℤ pos y) (hp.coefs v lt) ∙ ap (λ c. weighted (Variable v) 0 p.mults *ℤ pos x +ℤ c *ℤ pos y) (hq.coefs v lt)
+            ∙ sym (weighted-added (Variable v) x y 0 p.mults q.mults same);
         bound = ap (λ c. c *ℤ pos x +ℤ q.bound *ℤ pos y) hp.bound ∙ ap (λ c. weighted RightSide 0 p.mults *ℤ pos x +ℤ c *ℤ pos y) hq.bound ∙ sym (weighted-added RightSide x y 0 p.mults q.mults same);
       }
 
@@ -124,13 +124,13 @@ module _ (bounds : List Bound) (rows : List Row) where
   next_follows : (variable : ℕ) (list : List Derived) → All Follows list → All Follows (next_list variable list)
   next_follows variable list all =
       let of_pair = λ (p : Derived) (hp : Follows p) (q : Derived) (hq : Follows q).
-        cond_both (int_lt (coef_of variable q) (pos 0)) (kept (sum_without variable p q)) [] (All Follows)
-        (λ yes. cond_both _ [] (sum_without variable p q ∷ []) (All Follows) (λ left_out. All-nil Follows) (λ stays. one Follows (sum_without variable p q) (sum_follows _ _ p q hp hq)))
-        (λ no. All-nil Follows) in
+      cond_both (int_lt (coef_of variable q) (pos 0)) (kept (sum_without variable p q)) [] (All Follows)
+      (λ yes. cond_both _ [] (sum_without variable p q ∷ []) (All Follows) (λ left_out. All-nil Follows) (λ stays. one Follows (sum_without variable p q) (sum_follows _ _ p q hp hq)))
+      (λ no. All-nil Follows) in
       let of_row = λ (p : Derived) (hp : Follows p).
-        cond_both (int_lt (pos 0) (coef_of variable p)) (sums_with variable list p) [] (All Follows)
-        (λ yes. all_flat_map Follows Follows _ list (of_pair p hp) all)
-        (λ no. All-nil Follows) in
+      cond_both (int_lt (pos 0) (coef_of variable p)) (sums_with variable list p) [] (All Follows)
+      (λ yes. all_flat_map Follows Follows _ list (of_pair p hp) all)
+      (λ no. All-nil Follows) in
       All-append Follows (filter (lacks variable) list) (sums_in variable list) (All-filter (lacks variable) Follows list all) (all_flat_map Follows Follows _ list of_row all)
 
   first_list_follows : All Follows (first_list bounds rows)

@@ -12,3 +12,4 @@ pub mod Corners
 pub mod Heights
 pub mod Spreads
 pub mod Joining
+pub mod Whole

@@ -8,7 +8,7 @@ use Rattle.linear_form.specs.declared.form.Row.{Row}
 use Rattle.linear_form.specs.declared.form.Bound.{Bound}
 use Rattle.linear_form.specs.System.{IsBound, IsRow, IsTerm}
 use Rattle.linear_cert.specs.Right.{range_of}
-use Rattle.linear_solver.specs.Boxes.{AreFixed, IsOpen, IsWide, greatest, greatest_term, least, least_term, spread, width}
+use Rattle.linear_solver.specs.Boxes.{AreFixed, HoldsPartly, IsWide, greatest, greatest_term, least, least_term, spread, width}
 
 abbrev none : Bound
 none = record { lo = pos 0; hi = pos 0 }
@@ -48,7 +48,7 @@ module _ (bounds : List Bound) (fit : All IsBound bounds) where
       let rest = fixed_row terms (All-tail (IsTerm (length bounds)) term terms is) (λ k d lt. fixed (suc k) d (omega arith)) in
       omega (arith, ints, first, rest)
 
-  pub fixed_is_not_open : (row : Row) → IsRow (length bounds) row → AreFixed bounds row.terms → IsOpen bounds row → ⊥
+  pub fixed_is_not_open : (row : Row) → IsRow (length bounds) row → AreFixed bounds row.terms → HoldsPartly bounds row → ⊥
   fixed_is_not_open row is fixed open' = omega (arith, ints, open'.some, open'.few, fixed_row row.terms is.terms fixed)
 
   pub widest_done : (terms : List Term) (found : Option ℕ) (most : ℕ) → All (λ term. spread bounds term ≤ most) terms → MatchOption found (most ≡ 0) (IsWide bounds) → MatchOption found (AreFixed bounds terms) (IsWide bounds)

@@ -71,8 +71,8 @@ abbrev pub height : List Bound → ℕ
 height [] = 0
 height (range ∷ rest) = halvings (width range) + height rest
 
--- the row holds somewhere in the box, or may do so, and doesn't hold everywhere
-pub record IsOpen (bounds : List Bound) (row : Row) : Type 0 where
+-- the row may hold at some points of the box, and doesn't hold at every one
+pub record HoldsPartly (bounds : List Bound) (row : Row) : Type 0 where
   pub some : least bounds row.terms ≤ℤ row.bound
   pub few : row.bound <ℤ greatest bounds row.terms
 

@@ -3,6 +3,8 @@ use Rattle.std.specs.Prelude.{◌≡◌, ℕ, zero, suc, ◌+◌, ◌*◌, ◌/�
 use Rattle.std.specs.List.{list_all, range_with_len}
 use Rattle.linear_form.specs.declared.form.Row.{Row}
 use Rattle.linear_form.specs.declared.form.Bound.{Bound}
+use Rattle.linear_form.specs.Difference.{IsDifference}
+use Rattle.linear_form.specs.Points.{points_of}
 use Rattle.linear_cert.specs.declared.rows.Column.{Column}
 use Rattle.linear_cert.specs.declared.rows.Column.TheVariants.{Variable, RightSide}
 use Rattle.linear_cert.specs.Rows.{numbered_row}
@@ -10,6 +12,7 @@ use Rattle.linear_cert.specs.Columns.{entry, value_in}
 use Rattle.linear_solver.specs.declared.factors.TheConstants.{MAX_NUMBER}
 use Rattle.linear_solver.specs.declared.derived.TheConstants.{MAX_DERIVED, MAX_MULTIPLIER}
 use Rattle.linear_solver.specs.declared.derived.Derived.{Derived}
+use Rattle.linear_solver.specs.declared.answer.TheConstants.{CHECKER_BUDGET}
 use Rattle.linear_solver.specs.Sums.{IsAtMost, added, gcd}
 
 -- how many rows have a number: those of the system, and two for each variable
@@ -111,3 +114,10 @@ pub record IsRefutedByElimination (bounds : List Bound) (rows : List Row) : Type
   pub known : eliminated ≤ length bounds
   pub refutes : HasNoContradiction (list_after bounds rows eliminated) → ⊥
   pub sizes : (k : ℕ) → k ≤ eliminated → IsWithinSizes (list_after bounds rows k)
+
+-- What the checker may leave undecided: a system with more points than its budget and a row that is no difference,
+-- which elimination doesn't refute.
+pub record IsOpen (bounds : List Bound) (rows : List Row) : Type 0 where
+  pub many : CHECKER_BUDGET < points_of bounds
+  pub no_differences : IsDifference rows → ⊥
+  pub unrefuted : IsRefutedByElimination bounds rows → ⊥

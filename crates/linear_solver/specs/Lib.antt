@@ -1,5 +1,6 @@
 pub mod Sums
 pub mod Elimination
+pub mod Decides
 pub mod Leaves
 pub mod Shapes
 pub mod Boxes

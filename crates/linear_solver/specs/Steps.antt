@@ -12,7 +12,7 @@ use Rattle.linear_solver.specs.declared.parts.Part.{Part}
 use Rattle.linear_solver.specs.declared.parts.Part.TheVariants.{Closed, Open}
 use Rattle.linear_solver.specs.declared.parts.Partition.{Partition}
 use Rattle.linear_cert.specs.Right.{CanBeCut, IsRightLeaf, past, up_to}
-use Rattle.linear_solver.specs.Boxes.{IsImplied, IsOpen, IsRefuted, IsWide, height}
+use Rattle.linear_solver.specs.Boxes.{IsImplied, HoldsPartly, IsRefuted, IsWide, height}
 
 -- what the rows say of a box is so
 abbrev pub IsLook : List Bound → List Row → Look → Type 0
@@ -22,13 +22,13 @@ IsLook bounds rows (Open' choice) = IsWide bounds choice.wide
 
 -- the row is open
 abbrev pub IsTight : List Bound → List Row → Tight → Type 0
-IsTight bounds rows tight = (tight.row < length rows) × ((d : Row) → IsOpen bounds (slice_index_or rows tight.row d))
+IsTight bounds rows tight = (tight.row < length rows) × ((d : Row) → HoldsPartly bounds (slice_index_or rows tight.row d))
 
 -- where the row holds is so
 abbrev pub IsReach : List Bound → Row → Reach → Type 0
 IsReach bounds row Nowhere = IsRefuted bounds row
 IsReach bounds row Everywhere = IsImplied bounds row
-IsReach bounds row (Partly slack change) = IsOpen bounds row × (0 < change)
+IsReach bounds row (Partly slack change) = HoldsPartly bounds row × (0 < change)
 
 -- the ranges of a part are those of the whole, but for one variable
 pub record IsNarrowed (whole : List Bound) (variable : ℕ) (part : List Bound) : Type 0 where

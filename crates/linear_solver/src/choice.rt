@@ -2,7 +2,7 @@
 
 ghost use Rattle.std.specs.Prelude.{◌≡◌, ◌≢◌, ◌<◌, ◌≤◌, ◌⊎◌, pos, length, All, MatchOption};
 ghost use Rattle.linear_form.specs.System.{IsBound, IsRow, IsSystem, IsTerm};
-ghost use Rattle.linear_solver.specs.Boxes.{AreFixed, IsOpen, IsWide, spread};
+ghost use Rattle.linear_solver.specs.Boxes.{AreFixed, HoldsPartly, IsWide, spread};
 ghost use Rattle.linear_solver.specs.Steps.{IsLook, IsReach};
 
 use crate::ends::{greatest, least};
@@ -137,7 +137,7 @@ fn tighter(tight: Option<Tight>, row: u32, slack: u128, change: u128) -> Tight
 fn widest_in(bounds: &[Bound], row: &Row) -> u32
     requires bounds { All IsBound bounds.now }
     requires row { IsRow (length bounds.now) row.now }
-    requires open { IsOpen bounds.now row.now }
+    requires open { HoldsPartly bounds.now row.now }
     ensures { IsWide bounds.now result }
 {
     match widest(bounds, row.terms.as_slice()) {
@@ -173,7 +173,13 @@ fn spread(bounds: &[Bound], term: Term) -> u128
 }
 
 // The cut that leaves the least part of its range: the one so far, or one that this row closes.
-fn better_cut(cut: Option<Cut>, bounds: &[Bound], row: u32, terms: &[Term], slack: u128) -> Option<Cut>
+fn better_cut(
+    cut: Option<Cut>,
+    bounds: &[Bound],
+    row: u32,
+    terms: &[Term],
+    slack: u128,
+) -> Option<Cut>
     requires { All (IsTerm (length bounds.now)) terms.now }
 {
     let mut best = cut;
@@ -208,5 +214,11 @@ fn cut_of(term: Term, range: Bound, row: u32, slack: u128) -> Option<Cut>
     } else {
         range.lo.saturating_add(kept as i64)
     };
-    Some(Cut { variable: term.var, at, row, closes_low, gain })
+    Some(Cut {
+        variable: term.var,
+        at,
+        row,
+        closes_low,
+        gain,
+    })
 }

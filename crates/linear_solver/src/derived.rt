@@ -5,8 +5,8 @@ ghost use Rattle.linear_solver.specs.Elimination.{IsSmall, coef_of, has_no_term,
 ghost use Rattle.linear_solver.specs.Shapes.{HasShape, IsKept};
 ghost use Rattle.linear_solver.specs.Sums.{IsAtMost, added};
 
+use crate::answer::SolveMemory;
 use crate::factors::{MAX_NUMBER, added, gcd, weighted, within};
-use crate::fault::SolveMemory;
 use lists::Items;
 use std::alloc::Global;
 
@@ -63,8 +63,13 @@ pub fn has_no_term(coefs: &[i64]) -> bool
 }
 
 /// The sum of two rows in which the variable has different signs, so that it goes.
-pub fn combine(alloc: Global, shape: Shape, variable: u32, p: &Derived, q: &Derived)
--> Result<Combined, SolveMemory>
+pub fn combine(
+    alloc: Global,
+    shape: Shape,
+    variable: u32,
+    p: &Derived,
+    q: &Derived,
+) -> Result<Combined, SolveMemory>
     requires known { variable < shape.variables }
     requires p { HasShape shape p.now }
     requires q { HasShape shape q.now }
@@ -78,15 +83,28 @@ pub fn combine(alloc: Global, shape: Shape, variable: u32, p: &Derived, q: &Deri
     sum_of(alloc, shape, b / divisor, a / divisor, p, q)
 }
 
-fn sum_of(alloc: Global, shape: Shape, x: u64, y: u64, p: &Derived, q: &Derived)
--> Result<Combined, SolveMemory>
+fn sum_of(
+    alloc: Global,
+    shape: Shape,
+    x: u64,
+    y: u64,
+    p: &Derived,
+    q: &Derived,
+) -> Result<Combined, SolveMemory>
     requires p { HasShape shape p.now }
     requires q { HasShape shape q.now }
     requires x { x ≤ MAX_NUMBER }
     requires y { y ≤ MAX_NUMBER }
     ensures { IfOk result (IsKept (sum_of x y p.now q.now)) }
 {
-    let coefs = match added(alloc, x, y, p.coefs.as_slice(), q.coefs.as_slice(), MAX_NUMBER)? {
+    let coefs = match added(
+        alloc,
+        x,
+        y,
+        p.coefs.as_slice(),
+        q.coefs.as_slice(),
+        MAX_NUMBER,
+    )? {
         Some(coefs) => coefs,
         None => return Ok(Combined::TooLarge),
     };
@@ -122,8 +140,19 @@ fn with_multipliers(
         Some(bound) => bound,
         None => return Ok(Combined::TooLarge),
     };
-    match added(alloc, x, y, p.mults.as_slice(), q.mults.as_slice(), MAX_MULTIPLIER)? {
-        Some(mults) => Ok(Combined::Kept(Derived { coefs, bound, mults })),
+    match added(
+        alloc,
+        x,
+        y,
+        p.mults.as_slice(),
+        q.mults.as_slice(),
+        MAX_MULTIPLIER,
+    )? {
+        Some(mults) => Ok(Combined::Kept(Derived {
+            coefs,
+            bound,
+            mults,
+        })),
         None => Ok(Combined::TooLarge),
     }
 }

@@ -6,8 +6,8 @@ ghost use Rattle.linear_cert.specs.Right.{IsRightLeaf};
 ghost use Rattle.linear_solver.specs.Elimination.{HasNoContradiction, IsContradiction, IsRefutedByElimination, coef_of, kept, lacks, next_list, sum_without, sums_in, sums_with};
 ghost use Rattle.linear_solver.specs.Shapes.{Extends, HasShape, IsList, LeafIn, RefutesAt};
 
+use crate::answer::SolveMemory;
 use crate::derived::{Combined, Derived, MAX_DERIVED, Shape, coefficient, combine, has_no_term};
-use crate::fault::SolveMemory;
 use crate::first::{first_list, shape_of};
 use crate::leaf::leaf_of;
 use linear_cert::MultList;
@@ -15,8 +15,12 @@ use linear_form::{Bound, Row};
 use std::alloc::{AllocError, Global};
 
 // The list without the variable, if it stays within the sizes.
-fn next_list(alloc: Global, shape: Shape, variable: u32, list: Vec<Derived>)
--> Result<Option<Vec<Derived>>, SolveMemory>
+fn next_list(
+    alloc: Global,
+    shape: Shape,
+    variable: u32,
+    list: Vec<Derived>,
+) -> Result<Option<Vec<Derived>>, SolveMemory>
     requires known { variable < shape.variables }
     requires list { IsList shape list.items }
     ensures { IfOk result (Extends shape [] (next_list variable list.items)) }
@@ -43,8 +47,12 @@ fn lacks(row: &Derived, variable: u32) -> bool
     }
 }
 
-fn sums_in(alloc: Global, shape: Shape, variable: u32, list: &[Derived])
--> Result<Option<Vec<Derived>>, SolveMemory>
+fn sums_in(
+    alloc: Global,
+    shape: Shape,
+    variable: u32,
+    list: &[Derived],
+) -> Result<Option<Vec<Derived>>, SolveMemory>
     requires known { variable < shape.variables }
     requires list { IsList shape list.now }
     ensures { IfOk result (Extends shape [] (sums_in variable list.now)) }
@@ -171,7 +179,11 @@ fn contradiction(list: &[Derived]) -> Option<usize>
 /// A certificate that bounds and rows have no solution, if elimination within its sizes finds one. It
 /// eliminates each variable in turn, and looks at every list for a row that says that 0 is at most a
 /// negative number. That row's multipliers are the certificate, as in Farkas' lemma.
-pub fn eliminate(alloc: Global, bounds: &[Bound], rows: &[Row]) -> Result<Option<MultList>, SolveMemory>
+pub fn eliminate(
+    alloc: Global,
+    bounds: &[Bound],
+    rows: &[Row],
+) -> Result<Option<MultList>, SolveMemory>
     requires { IsSystem (record { bounds = bounds.now; rows = rows.now }) }
     ensures right { IfOk result (λ leaf. IfSome leaf (IsRightLeaf bounds.now rows.now)) }
     ensures complete { IfOk result (λ leaf. IfNone leaf (IsRefutedByElimination bounds.now rows.now → ⊥)) }

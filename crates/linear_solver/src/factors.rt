@@ -71,8 +71,14 @@ pub fn within(number: i128, most: u64) -> Option<i64>
 }
 
 /// Two lists of numbers times factors, added up place by place; `None` where a sum is over `most`.
-pub fn added(alloc: Global, x: u64, y: u64, left: &[i64], right: &[i64], most: u64)
--> Result<Option<Items<i64>>, AllocError>
+pub fn added(
+    alloc: Global,
+    x: u64,
+    y: u64,
+    left: &[i64],
+    right: &[i64],
+    most: u64,
+) -> Result<Option<Items<i64>>, AllocError>
     requires few { length left.now < 2 ^ 32 }
     requires same { length left.now ≡ length right.now }
     requires x { x ≤ MAX_NUMBER }

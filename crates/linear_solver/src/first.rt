@@ -7,8 +7,8 @@ ghost use Rattle.linear_cert.specs.declared.rows.Column.TheVariants.{Variable};
 ghost use Rattle.linear_solver.specs.Elimination.{first_list, first_row, number_in, numbered_count, once};
 ghost use Rattle.linear_solver.specs.Shapes.{HasShape, shape_of};
 
+use crate::answer::SolveMemory;
 use crate::derived::{Derived, Shape};
-use crate::fault::SolveMemory;
 use crate::numbered::{bound_in, coefficient_in};
 use linear_form::{Bound, Row};
 use lists::Items;
@@ -26,7 +26,11 @@ pub fn shape_of(bounds: &[Bound], rows: &[Row]) -> Shape
 }
 
 /// The numbered rows.
-pub fn first_list(alloc: Global, bounds: &[Bound], rows: &[Row]) -> Result<Vec<Derived>, SolveMemory>
+pub fn first_list(
+    alloc: Global,
+    bounds: &[Bound],
+    rows: &[Row],
+) -> Result<Vec<Derived>, SolveMemory>
     requires { IsSystem (record { bounds = bounds.now; rows = rows.now }) }
     ensures list { IfOk result (λ list. list.items ≡ first_list bounds.now rows.now) }
     ensures shape { IfOk result (λ list. All (HasShape (shape_of bounds.now rows.now)) list.items) }
@@ -39,8 +43,13 @@ pub fn first_list(alloc: Global, bounds: &[Bound], rows: &[Row]) -> Result<Vec<D
     Ok(list)
 }
 
-fn first_row(alloc: Global, shape: Shape, bounds: &[Bound], rows: &[Row], number: u32)
--> Result<Derived, AllocError>
+fn first_row(
+    alloc: Global,
+    shape: Shape,
+    bounds: &[Bound],
+    rows: &[Row],
+    number: u32,
+) -> Result<Derived, AllocError>
     requires system { IsSystem (record { bounds = bounds.now; rows = rows.now }) }
     requires shape { shape ≡ shape_of bounds.now rows.now }
     requires numbered { number < numbered_count bounds.now rows.now }
@@ -54,8 +63,12 @@ fn first_row(alloc: Global, shape: Shape, bounds: &[Bound], rows: &[Row], number
     })
 }
 
-fn coefficients(alloc: Global, bounds: &[Bound], rows: &[Row], number: u32)
--> Result<Items<i64>, AllocError>
+fn coefficients(
+    alloc: Global,
+    bounds: &[Bound],
+    rows: &[Row],
+    number: u32,
+) -> Result<Items<i64>, AllocError>
     requires system { IsSystem (record { bounds = bounds.now; rows = rows.now }) }
     requires numbered { number < numbered_count bounds.now rows.now }
     ensures { IfOk result (λ coefs. coefs ≡

@@ -1,18 +1,18 @@
-//! Deciders of linear systems: elimination, and a search over boxes.
+//! A decider of linear systems: elimination, and a search over boxes.
 #![tactic(auto)]
 
+mod answer;
 mod choice;
+mod decider;
 mod derived;
 mod elimination;
 mod ends;
 mod factors;
-mod fault;
 mod first;
 mod leaf;
 mod numbered;
 mod parts;
 mod searching;
 
-pub use elimination::eliminate;
-pub use fault::SolveMemory;
-pub use searching::{Effort, Found, search};
+pub use answer::{Answer, CHECKER_BUDGET, SolveMemory};
+pub use decider::decide;

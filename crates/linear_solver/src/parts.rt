@@ -65,8 +65,12 @@ fn middle(range: Bound) -> i64
 }
 
 /// The box cut so that a row closes one part, if it does so, and the other part has at most half of the range.
-pub fn cut_off(alloc: Global, bounds: &[Bound], rows: &[Row], cut: Cut)
--> Result<Option<Partition>, AllocError>
+pub fn cut_off(
+    alloc: Global,
+    bounds: &[Bound],
+    rows: &[Row],
+    cut: Cut,
+) -> Result<Option<Partition>, AllocError>
     requires { IsSystem (record { bounds = bounds.now; rows = rows.now }) }
     ensures { IfOk result (λ cut. IfSome cut (IsPartition bounds.now rows.now)) }
 {
@@ -109,29 +113,50 @@ fn can_be_cut(bounds: &[Bound], variable: u32, at: i64) -> bool
     variable < bounds.len() && bounds[variable].lo <= at && at < bounds[variable].hi
 }
 
-fn low_part(alloc: Global, bounds: &[Bound], variable: u32, at: i64) -> Result<Vec<Bound>, AllocError>
+fn low_part(
+    alloc: Global,
+    bounds: &[Bound],
+    variable: u32,
+    at: i64,
+) -> Result<Vec<Bound>, AllocError>
     requires { CanBeCut bounds.now variable at }
     ensures { IfOk result (λ part. part.items ≡ up_to bounds.now variable at) }
 {
     let mut part = bounds.to_vec(alloc)?;
     let range = bounds[variable as usize];
-    part[variable as usize] = Bound { lo: range.lo, hi: at };
+    part[variable as usize] = Bound {
+        lo: range.lo,
+        hi: at,
+    };
     Ok(part)
 }
 
-fn high_part(alloc: Global, bounds: &[Bound], variable: u32, at: i64) -> Result<Vec<Bound>, AllocError>
+fn high_part(
+    alloc: Global,
+    bounds: &[Bound],
+    variable: u32,
+    at: i64,
+) -> Result<Vec<Bound>, AllocError>
     requires bounds { All IsBound bounds.now }
     requires cut { CanBeCut bounds.now variable at }
     ensures { IfOk result (λ part. part.items ≡ past bounds.now variable at) }
 {
     let mut part = bounds.to_vec(alloc)?;
     let range = bounds[variable as usize];
-    part[variable as usize] = Bound { lo: at + 1, hi: range.hi };
+    part[variable as usize] = Bound {
+        lo: at + 1,
+        hi: range.hi,
+    };
     Ok(part)
 }
 
 // The part, if the row holds nowhere in it.
-fn closed(alloc: Global, rows: &[Row], row: u32, part: Vec<Bound>) -> Result<Option<Part>, AllocError>
+fn closed(
+    alloc: Global,
+    rows: &[Row],
+    row: u32,
+    part: Vec<Bound>,
+) -> Result<Option<Part>, AllocError>
     requires { IsSystem (record { bounds = part.items; rows = rows.now }) }
     ensures { IfOk result (λ r. (whole : List Bound) → IfSome r (IsPart whole rows.now part.items)) }
 {

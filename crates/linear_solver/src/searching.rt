@@ -8,9 +8,9 @@ ghost use Rattle.linear_solver.specs.Boxes.{IsWide, height};
 ghost use Rattle.linear_solver.specs.Found.{GoesOn, IsDecided, IsFound, IsStep, height_of};
 ghost use Rattle.linear_solver.specs.Steps.{IsPart, IsSystemPart};
 
+use crate::answer::SolveMemory;
 use crate::choice::{Choice, Look, look_over};
 use crate::ends::low_ends;
-use crate::fault::SolveMemory;
 use crate::leaf::row_leaf;
 use crate::parts::{Part, Partition, cut_off, halved};
 use linear_cert::Cert;
@@ -48,8 +48,13 @@ pub enum Step {
 
 /// Looks for a solution in a part of a box, or for a certificate that there is none. At most `room` splits
 /// stand one within another.
-pub fn search(alloc: Global, rows: &[Row], part: Part, room: u32, effort: &mut Effort)
--> Result<Found, SolveMemory>
+pub fn search(
+    alloc: Global,
+    rows: &[Row],
+    part: Part,
+    room: u32,
+    effort: &mut Effort,
+) -> Result<Found, SolveMemory>
     requires { IsSystemPart rows.now part }
     ensures found { (whole ranges : List Bound) → IsPart whole rows.now ranges part → IfOk result (IsFound room ranges rows.now) }
     ensures decides { effort.old.limited ≡ false → height_of part ≤ room → IfOk result IsDecided }
@@ -59,7 +64,12 @@ pub fn search(alloc: Global, rows: &[Row], part: Part, room: u32, effort: &mut E
         Part::Closed(leaf) => return Ok(Found::Refuted(Cert::Leaf(leaf))),
         Part::Open(bounds) => bounds,
     };
-    let Partition { variable, at, low, high } = match look_at(alloc, bounds.as_slice(), rows, room, effort)? {
+    let Partition {
+        variable,
+        at,
+        low,
+        high,
+    } = match look_at(alloc, bounds.as_slice(), rows, room, effort)? {
         Step::Done(found) => return Ok(found),
         Step::Cut(partition) => partition,
     };
@@ -87,8 +97,13 @@ fn joined(alloc: Global, variable: u32, at: i64, low: Cert, high: Cert) -> Resul
     })
 }
 
-fn look_at(alloc: Global, bounds: &[Bound], rows: &[Row], room: u32, effort: &mut Effort)
--> Result<Step, AllocError>
+fn look_at(
+    alloc: Global,
+    bounds: &[Bound],
+    rows: &[Row],
+    room: u32,
+    effort: &mut Effort,
+) -> Result<Step, AllocError>
     requires { IsSystem (record { bounds = bounds.now; rows = rows.now }) }
     ensures step { IfOk result (IsStep room bounds.now rows.now) }
     ensures decides { effort.old.limited ≡ false → height bounds.now ≤ room → IfOk result GoesOn }
@@ -98,14 +113,23 @@ fn look_at(alloc: Global, bounds: &[Bound], rows: &[Row], room: u32, effort: &mu
         return Ok(Step::Done(Found::Stopped));
     }
     match look_over(bounds, rows) {
-        Look::Refuted(row) => Ok(Step::Done(Found::Refuted(Cert::Leaf(row_leaf(alloc, rows, row)?)))),
-        Look::Implied => Ok(Step::Done(Found::Solved(Point { vals: low_ends(alloc, bounds)? }))),
+        Look::Refuted(row) => Ok(Step::Done(Found::Refuted(Cert::Leaf(row_leaf(
+            alloc, rows, row,
+        )?)))),
+        Look::Implied => Ok(Step::Done(Found::Solved(Point {
+            vals: low_ends(alloc, bounds)?,
+        }))),
         Look::Open(choice) => cut_in_two(alloc, bounds, rows, room, choice),
     }
 }
 
-fn cut_in_two(alloc: Global, bounds: &[Bound], rows: &[Row], room: u32, choice: Choice)
--> Result<Step, AllocError>
+fn cut_in_two(
+    alloc: Global,
+    bounds: &[Bound],
+    rows: &[Row],
+    room: u32,
+    choice: Choice,
+) -> Result<Step, AllocError>
     requires system { IsSystem (record { bounds = bounds.now; rows = rows.now }) }
     requires wide { IsWide bounds.now choice.wide }
     ensures step { IfOk result (IsStep room bounds.now rows.now) }

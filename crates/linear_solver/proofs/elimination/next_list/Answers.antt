@@ -27,8 +27,10 @@ returns c =
     let front : vec_len c.retain.new.self ≡ length c.retain.new.self.items = search rules in
     let back : vec_len c.in-Some.sums ≡ length c.in-Some.sums.items = search rules in
     let both = c.in_ok-append.ensures.items in
-    let kept = All-filter (lacks c.args.variable) (HasShape c.args.shape) c.args.list.items c.requires.list.shapes in
-    (both ∙ ap (λ xs. xs ++ c.in-Some.sums.items) next ∙ ap (λ xs. filter (lacks c.args.variable) c.args.list.items ++ xs) sums.0, record {
-      few = omega (arith, ap length both, length-append c.retain.new.self.items c.in-Some.sums.items);
-      shapes = subst (All (HasShape c.args.shape)) (sym both) (All-append (HasShape c.args.shape) c.retain.new.self.items c.in-Some.sums.items (subst (All (HasShape c.args.shape)) (sym next) kept) sums.1.shapes);
-    })
+    let kept = All-filter (lacks c.args.variable) (HasShape c.args.shape) c.args.list.items c.requires.list.shapes in (
+      both ∙ ap (λ xs. xs ++ c.in-Some.sums.items) next ∙ ap (λ xs. filter (lacks c.args.variable) c.args.list.items ++ xs) sums.0,
+      record {
+        few = omega (arith, ap length both, length-append c.retain.new.self.items c.in-Some.sums.items);
+        shapes = subst (All (HasShape c.args.shape)) (sym both) (All-append (HasShape c.args.shape) c.retain.new.self.items c.in-Some.sums.items (subst (All (HasShape c.args.shape)) (sym next) kept) sums.1.shapes);
+      },
+    )
