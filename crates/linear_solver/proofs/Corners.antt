@@ -34,7 +34,7 @@ module _ (bounds : List Bound) where
   low_term term is fit =
       let range = range_of bounds term.var in
       let value = ap (λ (x : ℤ). term.coef *ℤ x) (lows_at term.var is.known) in
-      let ordered = (fit term.var _ is.known).ordered in
+      let ordered = (fit term.var (record { lo = pos 0; hi = pos 0 }) is.known).ordered in
       elim (cases_Bool (int_lt (pos 0) term.coef)) [
         | inl above ↦
             let positive : pos 0 ≤ℤ term.coef = grind (arith, ints) in
