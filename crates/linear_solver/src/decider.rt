@@ -17,6 +17,9 @@ use std::alloc::Global;
 /// The terms that a search past the budget may look at.
 pub const MAX_TERMS: u64 = 1 << 20;
 
+// The budget under which nothing is tried.
+const NO_BUDGET: u64 = 0;
+
 /// Whether the system has a solution. `budget` is the number of points up to which the system is decided whatever
 /// it costs. Past that it may be left undecided, after a fixed effort, where elimination doesn't refute it. Under a
 /// budget of 0 nothing is tried.
@@ -30,7 +33,7 @@ pub fn decide(alloc: Global, system: &System, budget: u64) -> Result<Answer, Sol
     ensures idle { budget ≡ 0 → IfOk result IsUndecided }
 {
     let points = system.points();
-    if budget == 0 {
+    if budget == NO_BUDGET {
         return Ok(Answer::Undecided(points));
     }
     if is_within(points, budget) {

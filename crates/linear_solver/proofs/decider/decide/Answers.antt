@@ -2,9 +2,9 @@ use Rattle.std.proofs.Common.{refl}
 use Rattle.linear_solver.proofs.Whole.{decided_answer, few_points, idle_open}
 use Rattle.linear_solver.proofs.decider.decide.Goals as goal
 
-pub returns-then-budget-eq0-clause-open : goal.returns-then-budget-eq0-clause-open
-returns-then-budget-eq0-clause-open c =
-    idle_open c.args.system.now.bounds c.args.system.now.rows c.args.budget c.if-budget-eq0.true
+pub returns-then-budget-eq-NO_BUDGET-clause-open : goal.returns-then-budget-eq-NO_BUDGET-clause-open
+returns-then-budget-eq-NO_BUDGET-clause-open c =
+    idle_open c.args.system.now.bounds c.args.system.now.rows c.args.budget c.if-budget-eq-NO_BUDGET.true
 
 pub returns-then-is_within-clause-open : goal.returns-then-is_within-clause-open
 returns-then-is_within-clause-open c =
