@@ -10,7 +10,8 @@ use Rattle.linear_cert.specs.declared.cert.Mult.{Mult}
 use Rattle.linear_solver.specs.declared.derived.Derived.{Derived}
 use Rattle.linear_solver.specs.Elimination.{HasNoContradiction, IsRefutedByElimination, IsWithinSizes, first_list, first_row, list_after, next_list, numbered_count}
 use Rattle.linear_solver.specs.Shapes.{HasShape, IsList, LeafIn, shape_of}
-use Rattle.linear_solver.proofs.Follows.{Follows, after_follows}
+use Rattle.linear_solver.specs.Follows.{Follows}
+use Rattle.linear_solver.proofs.Follows.{after_follows}
 use Rattle.linear_solver.proofs.RightLeaves.{contradiction_leaf}
 
 module _ (bounds : List Bound) (rows : List Row) where

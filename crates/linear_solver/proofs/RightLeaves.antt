@@ -20,7 +20,7 @@ use Rattle.linear_solver.specs.declared.derived.Derived.{Derived}
 use Rattle.linear_solver.specs.Sums.{IsAtMost}
 use Rattle.linear_solver.specs.Leaves.{multipliers_from, times_row}
 use Rattle.linear_solver.specs.Elimination.{IsContradiction, IsSmall, coef_of, has_no_term, number_in, numbered_count}
-use Rattle.linear_solver.proofs.Follows.{Follows, weighted}
+use Rattle.linear_solver.specs.Follows.{Follows, weighted}
 use Rattle.linear_solver.proofs.Magnitudes.{number_small, sum_over_small}
 
 -- a multiplier in range, of a row that is there

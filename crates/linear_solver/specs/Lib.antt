@@ -6,3 +6,4 @@ pub mod Shapes
 pub mod Boxes
 pub mod Steps
 pub mod Found
+pub mod Follows
