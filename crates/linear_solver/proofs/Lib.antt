@@ -13,3 +13,4 @@ pub mod Heights
 pub mod Spreads
 pub mod Joining
 pub mod Whole
+pub mod SumRows

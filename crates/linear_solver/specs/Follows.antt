@@ -5,9 +5,8 @@ use Rattle.linear_form.specs.declared.form.Bound.{Bound}
 use Rattle.linear_cert.specs.declared.rows.Column.{Column}
 use Rattle.linear_cert.specs.declared.rows.Column.TheVariants.{Variable, RightSide}
 use Rattle.linear_solver.specs.declared.derived.Derived.{Derived}
-use Rattle.linear_solver.specs.declared.derived.Shape.{Shape}
 use Rattle.linear_solver.specs.Elimination.{coef_of, number_in, numbered_count}
-use Rattle.linear_solver.specs.Shapes.{HasShape}
+use Rattle.linear_solver.specs.Shapes.{HasShape, shape_of}
 
 -- the sum that the numbered rows from this number on, times multipliers, have in a column
 abbrev pub weighted : List Bound → List Row → Column → ℕ → List ℤ → ℤ
@@ -24,6 +23,6 @@ pub record Follows (bounds : List Bound) (rows : List Row) (row : Derived) : Typ
   pub bound : row.bound ≡ weighted bounds rows RightSide 0 row.mults
 
 -- it is such a sum, with its numbers in range
-pub record IsSumRow (shape : Shape) (bounds : List Bound) (rows : List Row) (row : Derived) : Type 0 where
-  pub in_range : HasShape shape row
+pub record IsSumRow (bounds : List Bound) (rows : List Row) (row : Derived) : Type 0 where
+  pub in_range : HasShape (shape_of bounds rows) row
   pub follows : Follows bounds rows row

@@ -7,3 +7,4 @@ pub mod Boxes
 pub mod Steps
 pub mod Found
 pub mod Follows
+pub mod Probes

@@ -83,7 +83,7 @@ pub fn combine(
     sum_of(alloc, shape, b / divisor, a / divisor, p, q)
 }
 
-fn sum_of(
+pub fn sum_of(
     alloc: Global,
     shape: Shape,
     x: u64,

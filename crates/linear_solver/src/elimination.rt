@@ -38,7 +38,7 @@ fn next_list(
     Ok(Some(next))
 }
 
-fn lacks(row: &Derived, variable: u32) -> bool
+pub fn lacks(row: &Derived, variable: u32) -> bool
     ensures { result ≡ lacks variable row.now }
 {
     match row.coefs.as_slice().get(variable as usize) {

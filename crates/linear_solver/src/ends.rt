@@ -77,6 +77,16 @@ pub fn is_refuted(bounds: &[Bound], row: &Row) -> bool
     i128::from(row.bound) < least(bounds, row.terms.as_slice())
 }
 
+/// Whether the row holds all over the box.
+pub fn is_implied(bounds: &[Bound], row: &Row) -> bool
+    requires few { length bounds.now ≤ MAX_VARIABLES }
+    requires bounds { All IsBound bounds.now }
+    requires row { IsRow (length bounds.now) row.now }
+    ensures { IsTrue result ↔ IsImplied bounds.now row.now }
+{
+    greatest(bounds, row.terms.as_slice()) <= i128::from(row.bound)
+}
+
 /// The point of the least values.
 pub fn low_ends(alloc: Global, bounds: &[Bound]) -> Result<Items<i64>, AllocError>
     requires { length bounds.now ≤ MAX_VARIABLES }

@@ -43,7 +43,7 @@ pub fn first_list(
     Ok(list)
 }
 
-fn first_row(
+pub fn first_row(
     alloc: Global,
     shape: Shape,
     bounds: &[Bound],

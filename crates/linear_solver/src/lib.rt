@@ -12,7 +12,11 @@ mod first;
 mod leaf;
 mod numbered;
 mod parts;
+mod probe;
 mod searching;
+mod walk_back;
 
 pub use answer::{Answer, CHECKER_BUDGET, SolveMemory};
+pub use probe::{Reduced, reduce};
+pub use walk_back::walk;
 pub use decider::decide;
