@@ -14,3 +14,4 @@ pub mod Spreads
 pub mod Joining
 pub mod Whole
 pub mod SumRows
+pub mod Inner

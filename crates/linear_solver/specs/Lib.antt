@@ -8,3 +8,4 @@ pub mod Steps
 pub mod Found
 pub mod Follows
 pub mod Probes
+pub mod Insides

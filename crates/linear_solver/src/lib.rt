@@ -13,10 +13,11 @@ mod leaf;
 mod numbered;
 mod parts;
 mod probe;
+mod probing;
 mod searching;
 mod walk_back;
 
 pub use answer::{Answer, CHECKER_BUDGET, SolveMemory};
-pub use probe::{Reduced, reduce};
-pub use walk_back::walk;
+pub use probing::probe_box;
+
 pub use decider::decide;
