@@ -15,9 +15,9 @@ module _ (whole part : List Bound) (rows : List Row) (inside : IsInside whole pa
     few_variables = omega (arith, system.few_variables, inside.as_many);
     few_rows = system.few_rows;
     bounds_fit = λ k d lt.
-      let is = inside.inside k d d (omega (arith, inside.as_many)) in
-      let fits = system.bounds_fit k d (omega (arith, inside.as_many)) in
-      record { ordered = is.ordered; low = omega (arith, ints, is.low, is.ordered, is.high, fits.low, fits.high); high = omega (arith, ints, is.low, is.ordered, is.high, fits.low, fits.high) };
+        let is = inside.inside k d d (omega (arith, inside.as_many)) in
+        let fits = system.bounds_fit k d (omega (arith, inside.as_many)) in
+        record { ordered = is.ordered; low = omega (arith, ints, is.low, is.ordered, is.high, fits.low, fits.high); high = omega (arith, ints, is.low, is.ordered, is.high, fits.low, fits.high) };
     rows_fit = subst (λ (n : ℕ). All (IsRow n) rows) (sym inside.as_many) system.rows_fit;
   }
 
@@ -25,9 +25,9 @@ module _ (whole part : List Bound) (rows : List Row) (inside : IsInside whole pa
   inner_solves point solves = record {
     one_each = solves.one_each ∙ inside.as_many;
     within = λ k d lt.
-      let is = inside.inside k d d lt in
-      let own = solves.within k d (omega (arith, inside.as_many)) in
-      (omega (arith, ints, is.low, own.0), omega (arith, ints, is.high, own.1));
+        let is = inside.inside k d d lt in
+        let own = solves.within k d (omega (arith, inside.as_many)) in
+        (omega (arith, ints, is.low, own.0), omega (arith, ints, is.high, own.1));
     rows_hold = solves.rows_hold;
   }
 

@@ -10,7 +10,6 @@ use Rattle.linear_solver.specs.declared.searching.Found.TheVariants.{Refuted, So
 use Rattle.linear_solver.specs.Boxes.{height}
 use Rattle.linear_solver.specs.Decides.{DecidesUnlessOpen, MayStayOpen}
 use Rattle.linear_solver.specs.Elimination.{IsRefutedByElimination}
-use Rattle.linear_solver.specs.Found.{IsDecided, answer_of}
 use Rattle.linear_solver.proofs.Heights.{halvings-some}
 
 -- a box that holds a system's box as a part
@@ -31,8 +30,3 @@ idle_open bounds rows budget none = record {
 pub few_points : (bounds : List Bound) (budget : ℕ) (points : Option ℕ) → budget < 2 ^ 64 → SomeIff points (points_of bounds < 2 ^ 128) (points_of bounds) → IsSomeAnd points (λ count. count ≤ budget) → points_of bounds < 2 ^ 64
 few_points bounds budget None small is within = absurd within
 few_points bounds budget (Some count) small is within = omega (arith, is.1)
-
-pub decided_answer : (bounds : List Bound) (rows : List Row) (budget : ℕ) (points : Option ℕ) (found : Found) → IsDecided found → DecidesUnlessOpen bounds rows budget (answer_of points found)
-decided_answer bounds rows budget points (Refuted cert) is = tt
-decided_answer bounds rows budget points (Solved point) is = tt
-decided_answer bounds rows budget points Stopped is = absurd is

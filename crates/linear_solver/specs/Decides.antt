@@ -32,6 +32,12 @@ DecidesUnlessOpen bounds rows budget (Holds cert) = Unit {0}
 DecidesUnlessOpen bounds rows budget (Fails point) = Unit {0}
 DecidesUnlessOpen bounds rows budget (Undecided points) = MayStayOpen bounds rows budget
 
+-- nothing was found only where elimination doesn't refute
+abbrev pub HoldsIfRefuted : List Bound → List Row → Answer → Type 0
+HoldsIfRefuted bounds rows (Holds cert) = Unit {0}
+HoldsIfRefuted bounds rows (Fails point) = Unit {0}
+HoldsIfRefuted bounds rows (Undecided points) = IsRefutedByElimination bounds rows → ⊥
+
 -- the answer is that nothing was found
 abbrev pub IsUndecided : Answer → Type 0
 IsUndecided (Holds cert) = ⊥

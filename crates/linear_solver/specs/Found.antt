@@ -1,11 +1,9 @@
 -- What the search finds. Nobody who believes the contract of the decider needs these words.
-use Rattle.std.specs.Prelude.{◌≡◌, ℕ, ◌<◌, List, Option}
+use Rattle.std.specs.Prelude.{◌≡◌, ℕ, ◌<◌, List}
 use Rattle.linear_form.specs.declared.form.Row.{Row}
 use Rattle.linear_form.specs.declared.form.Bound.{Bound}
 use Rattle.linear_form.specs.Solution.{Solves}
 use Rattle.linear_cert.specs.Right.{IsRight, SplitsAtMost, cert_tree}
-use Rattle.linear_solver.specs.declared.answer.Answer.{Answer}
-use Rattle.linear_solver.specs.declared.answer.Answer.TheVariants.{Holds, Fails, Undecided}
 use Rattle.linear_solver.specs.declared.parts.Part.{Part}
 use Rattle.linear_solver.specs.declared.parts.Part.TheVariants.{Closed, Open}
 use Rattle.linear_solver.specs.declared.searching.Found.{Found}
@@ -41,9 +39,3 @@ GoesOn (Cut partition) = Unit {0}
 abbrev pub height_of : Part → ℕ
 height_of (Closed leaf) = 0
 height_of (Open bounds) = height bounds.items
-
--- the answer that says what was found
-abbrev pub answer_of : Option ℕ → Found → Answer
-answer_of points (Refuted cert) = Holds cert
-answer_of points (Solved point) = Fails point
-answer_of points Stopped = Undecided points

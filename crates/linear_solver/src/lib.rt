@@ -18,6 +18,4 @@ mod searching;
 mod walk_back;
 
 pub use answer::{Answer, CHECKER_BUDGET, SolveMemory};
-pub use probing::probe_box;
-
 pub use decider::decide;

@@ -62,8 +62,12 @@ pub enum Sums {
 }
 
 /// Eliminates the variables one after another. `effort` is the number of sums that may be made.
-pub fn reduce(alloc: Global, bounds: &[Bound], rows: &[Row], effort: &mut u32)
--> Result<Reduced, SolveMemory>
+pub fn reduce(
+    alloc: Global,
+    bounds: &[Bound],
+    rows: &[Row],
+    effort: &mut u32,
+) -> Result<Reduced, SolveMemory>
     requires { IsSystem (record { bounds = bounds.now; rows = rows.now }) }
     ensures { IfOk result (IsReduced bounds.now rows.now) }
 {
@@ -95,8 +99,13 @@ fn open_rows(alloc: Global, bounds: &[Bound], rows: &[Row]) -> Result<Vec<Derive
     Ok(list)
 }
 
-fn with_open_row(alloc: Global, bounds: &[Bound], rows: &[Row], number: u32, list: Vec<Derived>)
--> Result<Vec<Derived>, SolveMemory>
+fn with_open_row(
+    alloc: Global,
+    bounds: &[Bound],
+    rows: &[Row],
+    number: u32,
+    list: Vec<Derived>,
+) -> Result<Vec<Derived>, SolveMemory>
     requires system { IsSystem (record { bounds = bounds.now; rows = rows.now }) }
     requires numbered { number < numbered_count bounds.now rows.now }
     requires list { All (IsSumRow bounds.now rows.now) list.items }
@@ -133,8 +142,12 @@ fn without(
 }
 
 // The rows by whether they have the variable. Those without it stand behind the sums.
-fn parted(alloc: Global, variable: u32, list: Vec<Derived>, sums: Vec<Derived>)
--> Result<Reduction, SolveMemory>
+fn parted(
+    alloc: Global,
+    variable: u32,
+    list: Vec<Derived>,
+    sums: Vec<Derived>,
+) -> Result<Reduction, SolveMemory>
     ensures { (bounds : List Bound) (rows : List Row) → All (IsSumRow bounds rows) list.items
         → All (IsSumRow bounds rows) sums.items → IfOk result (IsReduction bounds rows) }
 {
@@ -240,8 +253,13 @@ fn open_sum(
 }
 
 // The sums so far and one more, if the box leaves it open.
-fn with_open(alloc: Global, bounds: &[Bound], rows: &[Row], sums: Vec<Derived>, sum: Derived)
--> Result<Sums, SolveMemory>
+fn with_open(
+    alloc: Global,
+    bounds: &[Bound],
+    rows: &[Row],
+    sums: Vec<Derived>,
+    sum: Derived,
+) -> Result<Sums, SolveMemory>
     requires system { IsSystem (record { bounds = bounds.now; rows = rows.now }) }
     requires sums { All (IsSumRow bounds.now rows.now) sums.items }
     requires sum { IsSumRow bounds.now rows.now sum }
@@ -281,8 +299,12 @@ fn ends_of(bounds: &[Bound], coefs: &[i64]) -> (i128, i128) {
 
 // The leaf of a sum that holds nowhere in the box: the rows of the ranges take its variables out, one after
 // another. None where that passes a size.
-fn shut_leaf(alloc: Global, bounds: &[Bound], rows: &[Row], sum: Derived)
--> Result<Option<MultList>, SolveMemory>
+fn shut_leaf(
+    alloc: Global,
+    bounds: &[Bound],
+    rows: &[Row],
+    sum: Derived,
+) -> Result<Option<MultList>, SolveMemory>
     requires system { IsSystem (record { bounds = bounds.now; rows = rows.now }) }
     requires sum { IsSumRow bounds.now rows.now sum }
     ensures { IfOk result (λ leaf. IfSome leaf (IsRightLeaf bounds.now rows.now)) }
@@ -301,8 +323,13 @@ fn shut_leaf(alloc: Global, bounds: &[Bound], rows: &[Row], sum: Derived)
 }
 
 // The sum and the row of a range that takes the variable out at the end where the sum is least.
-fn without_term(alloc: Global, bounds: &[Bound], rows: &[Row], variable: u32, sum: Derived)
--> Result<Option<Derived>, SolveMemory>
+fn without_term(
+    alloc: Global,
+    bounds: &[Bound],
+    rows: &[Row],
+    variable: u32,
+    sum: Derived,
+) -> Result<Option<Derived>, SolveMemory>
     requires system { IsSystem (record { bounds = bounds.now; rows = rows.now }) }
     requires known { variable < length bounds.now }
     requires sum { IsSumRow bounds.now rows.now sum }

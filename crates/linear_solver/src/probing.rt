@@ -26,8 +26,13 @@ pub enum Probe {
 }
 
 /// Probes a box. `sums` is how many sums may be made, and `picks` how many values may be tried.
-pub fn probe_box(alloc: Global, bounds: &[Bound], rows: &[Row], sums: &mut u32, picks: u32)
--> Result<Probe, SolveMemory>
+pub fn probe_box(
+    alloc: Global,
+    bounds: &[Bound],
+    rows: &[Row],
+    sums: &mut u32,
+    picks: u32,
+) -> Result<Probe, SolveMemory>
     requires { IsSystem (record { bounds = bounds.now; rows = rows.now }) }
     ensures { IfOk result (IsProbe bounds.now rows.now) }
 {
@@ -38,14 +43,25 @@ pub fn probe_box(alloc: Global, bounds: &[Bound], rows: &[Row], sums: &mut u32, 
     }
 }
 
-fn walked(alloc: Global, bounds: &[Bound], rows: &[Row], lists: &[Vec<Derived>], picks: u32)
--> Result<Probe, AllocError>
+fn walked(
+    alloc: Global,
+    bounds: &[Bound],
+    rows: &[Row],
+    lists: &[Vec<Derived>],
+    picks: u32,
+) -> Result<Probe, AllocError>
     requires { IsSystem (record { bounds = bounds.now; rows = rows.now }) }
     ensures { IfOk result (IsProbe bounds.now rows.now) }
 {
     let mut values = low_ends(alloc, bounds)?.into_vec();
     let mut picks = picks;
-    if walk(bounds, lists, values.as_mut_slice(), bounds.len(), &mut picks) {
+    if walk(
+        bounds,
+        lists,
+        values.as_mut_slice(),
+        bounds.len(),
+        &mut picks,
+    ) {
         tested(alloc, bounds, rows, values.as_slice())
     } else {
         Ok(Probe::Nothing)
@@ -53,7 +69,12 @@ fn walked(alloc: Global, bounds: &[Bound], rows: &[Row], lists: &[Vec<Derived>],
 }
 
 // The point of these values, if it lies in the box and every row holds there.
-fn tested(alloc: Global, bounds: &[Bound], rows: &[Row], values: &[i64]) -> Result<Probe, AllocError>
+fn tested(
+    alloc: Global,
+    bounds: &[Bound],
+    rows: &[Row],
+    values: &[i64],
+) -> Result<Probe, AllocError>
     requires { IsSystem (record { bounds = bounds.now; rows = rows.now }) }
     ensures { IfOk result (IsProbe bounds.now rows.now) }
 {
@@ -92,7 +113,10 @@ fn range_at(range: Bound, values: &[i64], variable: usize) -> Option<Bound>
         None => return None,
     };
     if range.lo <= value && value <= range.hi {
-        Some(Bound { lo: value, hi: value })
+        Some(Bound {
+            lo: value,
+            hi: value,
+        })
     } else {
         None
     }

@@ -6,6 +6,7 @@ ghost use Rattle.linear_form.specs.System.{IsSystem};
 ghost use Rattle.linear_cert.specs.Right.{cert_tree, split};
 ghost use Rattle.linear_solver.specs.Boxes.{IsWide, height};
 ghost use Rattle.linear_solver.specs.Found.{GoesOn, IsDecided, IsFound, IsStep, height_of};
+ghost use Rattle.linear_solver.specs.Insides.{IsProbe};
 ghost use Rattle.linear_solver.specs.Steps.{IsPart, IsSystemPart};
 
 use crate::answer::SolveMemory;
@@ -13,9 +14,16 @@ use crate::choice::{Choice, Look, look_over};
 use crate::ends::low_ends;
 use crate::leaf::row_leaf;
 use crate::parts::{Part, Partition, cut_off, halved};
-use linear_cert::Cert;
+use crate::probing::{Probe, probe_box};
+use linear_cert::{Cert, MAX_SPLITS};
 use linear_form::{Bound, Point, Row};
 use std::alloc::{AllocError, Global};
+
+/// The values that the walk back may try at the whole system, and at a part of it. 20 to 200 at the parts found the
+/// same points of some thousand systems.
+const MAX_FIRST_PICKS: u32 = 2_000;
+
+const MAX_PICKS: u32 = 64;
 
 /// What a search found.
 #[derive(Drop)]
@@ -35,6 +43,8 @@ pub struct Effort {
     pub limited: bool,
     /// The number of terms that it may look at, if so.
     pub terms: u64,
+    /// The number of sums that its probes may make.
+    pub sums: u32,
 }
 
 /// What one look at a box gives.
@@ -103,7 +113,7 @@ fn look_at(
     rows: &[Row],
     room: u32,
     effort: &mut Effort,
-) -> Result<Step, AllocError>
+) -> Result<Step, SolveMemory>
     requires { IsSystem (record { bounds = bounds.now; rows = rows.now }) }
     ensures step { IfOk result (IsStep room bounds.now rows.now) }
     ensures decides { effort.old.limited ≡ false → height bounds.now ≤ room → IfOk result GoesOn }
@@ -119,8 +129,53 @@ fn look_at(
         Look::Implied => Ok(Step::Done(Found::Solved(Point {
             vals: low_ends(alloc, bounds)?,
         }))),
-        Look::Open(choice) => cut_in_two(alloc, bounds, rows, room, choice),
+        Look::Open(choice) => Ok(open_step(alloc, bounds, rows, room, effort, choice)?),
     }
+}
+
+// A probe of an open box, where it is the whole or no row cuts it, and else a cut.
+fn open_step(
+    alloc: Global,
+    bounds: &[Bound],
+    rows: &[Row],
+    room: u32,
+    effort: &mut Effort,
+    choice: Choice,
+) -> Result<Step, SolveMemory>
+    requires system { IsSystem (record { bounds = bounds.now; rows = rows.now }) }
+    requires wide { IsWide bounds.now choice.wide }
+    ensures step { IfOk result (IsStep room bounds.now rows.now) }
+    ensures decides { height bounds.now ≤ room → IfOk result GoesOn }
+    ensures limited { effort.new.limited ≡ effort.old.limited }
+{
+    match probed(alloc, bounds, rows, room, effort, choice.cut.is_some())? {
+        Probe::Leaf(leaf) => Ok(Step::Done(Found::Refuted(Cert::Leaf(leaf)))),
+        Probe::Point(point) => Ok(Step::Done(Found::Solved(point))),
+        Probe::Nothing => Ok(cut_in_two(alloc, bounds, rows, room, choice)?),
+    }
+}
+
+fn probed(
+    alloc: Global,
+    bounds: &[Bound],
+    rows: &[Row],
+    room: u32,
+    effort: &mut Effort,
+    can_be_cut: bool,
+) -> Result<Probe, SolveMemory>
+    requires { IsSystem (record { bounds = bounds.now; rows = rows.now }) }
+    ensures probe { IfOk result (IsProbe bounds.now rows.now) }
+    ensures limited { effort.new.limited ≡ effort.old.limited }
+{
+    let is_whole = room == MAX_SPLITS;
+    if effort.sums == 0 || (can_be_cut && !is_whole) {
+        return Ok(Probe::Nothing);
+    }
+    let picks = if is_whole { MAX_FIRST_PICKS } else { MAX_PICKS };
+    let mut sums = effort.sums;
+    let found = probe_box(alloc, bounds, rows, &mut sums, picks);
+    effort.sums = sums;
+    found
 }
 
 fn cut_in_two(

@@ -63,10 +63,16 @@ fn narrowed(range: Bound, row: &Derived, values: &[i64], variable: usize) -> Bou
     let rest = i128::from(row.bound).saturating_sub(value_past(coefs, values, variable));
     if coef > 0 {
         let most = divided(rest, coef.unsigned_abs());
-        Bound { lo: range.lo, hi: range.hi.min(most) }
+        Bound {
+            lo: range.lo,
+            hi: range.hi.min(most),
+        }
     } else if coef < 0 {
         let least = divided(rest, coef.unsigned_abs()).saturating_neg();
-        Bound { lo: range.lo.max(least), hi: range.hi }
+        Bound {
+            lo: range.lo.max(least),
+            hi: range.hi,
+        }
     } else {
         range
     }
