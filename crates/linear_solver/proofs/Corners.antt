@@ -1,19 +1,18 @@
 -- The left side of a row lies between its least and its greatest value over a box, at every point of the box.
-use Rattle.std.proofs.Common.{◌≡◌, ℕ, zero, suc, ◌+◌, ◌<◌, ◌≤◌, if◌then◌else◌, Bool, true, false, List, [], ◌∷◌, length, get_or, map, All, ℤ, pos, negsuc, ◌+ℤ◌, ◌*ℤ◌, ◌≤ℤ◌, ◌<ℤ◌, int_lt, unsigned_abs, inl, inr, subst, sym, ap, ◌∙◌, refl, arith}
+use Rattle.std.proofs.Common.{◌≡◌, ℕ, ◌<◌, List, [], ◌∷◌, length, get_or, All, ℤ, pos, ◌*ℤ◌, ◌≤ℤ◌, int_lt, unsigned_abs, inl, inr, ap, ◌∙◌, arith}
 use Rattle.std.proofs.lemmas.Bool.{cases_Bool, cond-true, cond-false}
 use Rattle.std.proofs.lemmas.Int.{ints}
 use Rattle.std.proofs.lemmas.List.{length-map, get_or-map, get_or_default}
-use Rattle.std.proofs.lemmas.List.Elements.{All-cons, All-head, All-tail, All-map, All-weaker}
+use Rattle.std.proofs.lemmas.List.Elements.{All-head, All-tail}
 use borrow.Author.Differences.{same_in, product_is}
 use Rattle.linear_cert.proofs.Integers.{mul_mono}
 use Rattle.linear_form.specs.declared.form.Term.{Term}
 use Rattle.linear_form.specs.declared.form.Row.{Row}
 use Rattle.linear_form.specs.declared.form.Bound.{Bound}
-use Rattle.linear_form.specs.Solution.{IsWithin, LiesWithin, RowHolds, Solves, left_side, term_value, value_at}
-use Rattle.linear_form.specs.Sum.{sum_over}
-use Rattle.linear_form.specs.System.{IsBound, IsRow, IsTerm, IsSystem}
+use Rattle.linear_form.specs.Solution.{Solves, left_side, term_value, value_at}
+use Rattle.linear_form.specs.System.{IsBound, IsTerm, IsSystem}
 use Rattle.linear_cert.specs.Right.{range_of}
-use Rattle.linear_solver.specs.Boxes.{IsImplied, IsWide, greatest, greatest_term, least, least_term, low_ends}
+use Rattle.linear_solver.specs.Boxes.{IsImplied, greatest, greatest_term, low_ends}
 
 mul_comm : (a b : ℤ) → a *ℤ b ≡ b *ℤ a
 mul_comm a b = same_in _ _ (omega (arith, product_is a b, product_is b a))

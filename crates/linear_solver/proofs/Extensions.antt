@@ -1,11 +1,11 @@
 -- Lists of derived rows that grow row by row, and when they pass a size.
-use Rattle.std.proofs.Common.{◌≡◌, ℕ, suc, ◌+◌, ◌<◌, ◌≤◌, List, [], ◌∷◌, ◌++◌, length, get_or, take, drop, All, Option, Some, None, MatchOption, Vec, Global, ℤ, pos, ◌<ℤ◌, ◌≤ℤ◌, int_lt, true, false, subst, sym, ap, ◌∙◌, arith}
+use Rattle.std.proofs.Common.{◌≡◌, ℕ, ◌+◌, ◌<◌, ◌≤◌, List, [], ◌∷◌, ◌++◌, length, get_or, take, drop, All, Option, Some, None, MatchOption, Vec, Global, ℤ, ◌<ℤ◌, ◌≤ℤ◌, int_lt, true, false, subst, sym, ap, ◌∙◌, arith}
 use Rattle.std.proofs.lemmas.Int.{ints}
 use Rattle.std.specs.List.{flat_map}
 use Rattle.std.proofs.lemmas.List.{append_assoc, append-nil, take-append-drop, take_more, length-append}
 use Rattle.std.proofs.lemmas.List.Concat.{flat_map-append}
-use Rattle.std.proofs.lemmas.List.Elements.{All-push, All-append, All-take}
-use Rattle.std.proofs.lemmas.List.{take_at, get_or_append_left, get_or-append_right, get_or-append-add}
+use Rattle.std.proofs.lemmas.List.Elements.{All-push}
+use Rattle.std.proofs.lemmas.List.{get_or_append_left, get_or-append-add}
 use Rattle.linear_solver.specs.declared.derived.Derived.{Derived}
 use Rattle.linear_solver.specs.declared.derived.Shape.{Shape}
 use Rattle.linear_solver.specs.declared.derived.TheConstants.{MAX_DERIVED}

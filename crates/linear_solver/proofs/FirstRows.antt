@@ -1,5 +1,5 @@
 -- The numbered rows have the shape of derived rows.
-use Rattle.std.proofs.Common.{◌≡◌, ℕ, ◌^◌, ◌≤◌, ◌==◌, if◌then◌else◌, true, false, List, length, map, All, ℤ, pos, unsigned_abs, arith}
+use Rattle.std.proofs.Common.{ℕ, ◌^◌, ◌≤◌, ◌==◌, if◌then◌else◌, true, false, List, length, pos, unsigned_abs, arith}
 use Rattle.std.specs.List.{range_with_len}
 use Rattle.std.proofs.lemmas.Int.{ints}
 use Rattle.std.proofs.lemmas.List.Elements.{All-map}

@@ -1,7 +1,7 @@
 -- How often the ranges of a box can be halved: each cut in halves lowers the number, and a box with few points has a
 -- low one.
-use Rattle.std.proofs.Common.{◌≡◌, ℕ, zero, suc, ◌+◌, ◌*◌, ◌/◌, ◌^◌, ◌<◌, ◌≤◌, ◌==◌, if◌then◌else◌, Bool, true, false, List, [], ◌∷◌, length, get_or, set, inl, inr, subst, sym, ap, ◌∙◌, refl, arith, mul-le-mul}
-use Rattle.std.proofs.lemmas.Bool.{cases_Bool, cases_lt, cond-true, cond-false, eqb-true, eq-eqb, ne_eqb}
+use Rattle.std.proofs.Common.{◌≡◌, ℕ, zero, suc, ◌+◌, ◌*◌, ◌/◌, ◌^◌, ◌<◌, ◌≤◌, List, [], ◌∷◌, length, get_or, set, inl, inr, sym, ap, ◌∙◌, refl, arith, mul-le-mul}
+use Rattle.std.proofs.lemmas.Bool.{cases_lt, cond-false, ne_eqb}
 use Rattle.std.proofs.lemmas.Nat.{pow-add, pow_below}
 use Rattle.std.proofs.Math.Nat.{pow-le-pow_right}
 use Rattle.linear_form.specs.declared.form.Bound.{Bound}

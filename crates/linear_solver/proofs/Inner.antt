@@ -1,11 +1,11 @@
 -- A box in a box of a system: it is that of a system, and its solutions are solutions.
-use Rattle.std.proofs.Common.{◌≡◌, ℕ, ◌+◌, ◌<◌, List, [], ◌∷◌, ◌++◌, length, get_or, All, ℤ, pos, ◌≤ℤ◌, inl, inr, subst, sym, ◌∙◌, arith}
+use Rattle.std.proofs.Common.{◌≡◌, ℕ, ◌+◌, ◌<◌, List, [], ◌∷◌, ◌++◌, length, get_or, All, ℤ, pos, inl, inr, subst, sym, ◌∙◌, arith}
 use Rattle.std.proofs.lemmas.Bool.{cases_lt}
 use Rattle.std.proofs.lemmas.List.{get_or_append_left, get_or_push, get_or_default}
 use Rattle.std.proofs.lemmas.Int.{ints}
 use Rattle.linear_form.specs.declared.form.Row.{Row}
 use Rattle.linear_form.specs.declared.form.Bound.{Bound}
-use Rattle.linear_form.specs.Solution.{Solves, value_at}
+use Rattle.linear_form.specs.Solution.{Solves}
 use Rattle.linear_form.specs.System.{IsRow, IsSystem}
 use Rattle.linear_solver.specs.Insides.{IsInside, IsPartOf}
 

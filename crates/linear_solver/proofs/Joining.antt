@@ -1,13 +1,13 @@
 -- What is found in the parts of a box is found in the box.
-use Rattle.std.proofs.Common.{◌≡◌, ◌≢◌, ℕ, zero, suc, ◌+◌, ◌-◌, ◌<◌, ◌≤◌, List, [], ◌∷◌, length, get_or, set, All, ℤ, pos, ◌+ℤ◌, ◌≤ℤ◌, ◌<ℤ◌, inl, inr, subst, sym, ap, ◌∙◌, refl, arith}
-use Rattle.std.proofs.lemmas.Bool.{cases_eq, cases_lt}
+use Rattle.std.proofs.Common.{ℕ, zero, suc, ◌<◌, ◌≤◌, List, [], ◌∷◌, length, get_or, set, ℤ, pos, inl, inr, subst, sym, ◌∙◌, arith}
+use Rattle.std.proofs.lemmas.Bool.{cases_eq}
 use Rattle.std.proofs.lemmas.Int.{ints}
 use Rattle.std.proofs.lemmas.List.{length-set, get_or-set_same, get_or-set_other, get_or_default}
 use Rattle.linear_form.specs.declared.form.Row.{Row}
 use Rattle.linear_form.specs.declared.form.Bound.{Bound}
-use Rattle.linear_form.specs.Solution.{IsWithin, LiesWithin, Solves, value_at}
+use Rattle.linear_form.specs.Solution.{IsWithin, Solves, value_at}
 use Rattle.linear_form.specs.System.{IsSystem}
-use Rattle.linear_cert.specs.Right.{CanBeCut, CertTree, IsRight, SplitsAtMost, part_past, part_up_to, past, range_of, split, up_to}
+use Rattle.linear_cert.specs.Right.{CanBeCut, part_past, part_up_to, past, range_of, up_to}
 use Rattle.linear_cert.proofs.Parts.{up_to_fits, past_fits}
 use Rattle.linear_solver.specs.declared.parts.Part.{Part}
 use Rattle.linear_solver.specs.declared.parts.Part.TheVariants.{Closed, Open}

@@ -1,7 +1,6 @@
 -- A sum with a number out of range isn't left out.
-use Rattle.std.proofs.Common.{◌≡◌, ℕ, zero, suc, ◌<◌, ◌≤◌, ◌==◌, ◌&&◌, true, false, List, [], ◌∷◌, length, All, ℤ, pos, unsigned_abs, inl, inr, int_le, subst, arith}
-use Rattle.std.specs.List.{list_all}
-use Rattle.std.proofs.lemmas.Bool.{cases_Bool, and_parts, and_right, eqb-true, cond-false, cond-true}
+use Rattle.std.proofs.Common.{◌≡◌, ℕ, ◌==◌, true, false, List, [], ◌∷◌, All, ℤ, pos, unsigned_abs, inl, inr, int_le, subst, arith}
+use Rattle.std.proofs.lemmas.Bool.{cases_Bool, and_parts, and_right, eqb-true, cond-false}
 use Rattle.std.proofs.lemmas.List.Elements.{All-nil, All-cons, All-head}
 use Rattle.linear_solver.specs.declared.factors.TheConstants.{MAX_NUMBER}
 use Rattle.linear_solver.specs.declared.derived.Derived.{Derived}

@@ -1,5 +1,5 @@
 -- How large the numbers of the numbered rows are, and sums of such numbers.
-use Rattle.std.proofs.Common.{◌≡◌, ℕ, zero, suc, ◌+◌, ◌-◌, ◌*◌, ◌/◌, ◌%◌, ◌^◌, ◌<◌, ◌≤◌, ◌==◌, if◌then◌else◌, Bool, true, false, List, [], ◌∷◌, length, get_or, slice_get, All, Option, Some, None, option_map, ℤ, pos, negsuc, ◌+ℤ◌, unsigned_abs, FitsSigned, to_z, of_z, inl, inr, subst, sym, ap, ◌∙◌, refl, arith}
+use Rattle.std.proofs.Common.{◌≡◌, ℕ, suc, ◌+◌, ◌-◌, ◌*◌, ◌/◌, ◌%◌, ◌^◌, ◌<◌, ◌≤◌, ◌==◌, if◌then◌else◌, Bool, true, false, List, [], ◌∷◌, length, get_or, slice_get, All, Option, Some, None, option_map, ℤ, pos, negsuc, ◌+ℤ◌, unsigned_abs, FitsSigned, to_z, of_z, inl, inr, subst, sym, ◌∙◌, refl, arith}
 use Rattle.std.proofs.lemmas.Bool.{cases_lt}
 use Rattle.std.specs.Int.{w128}
 use Rattle.std.proofs.lemmas.Int.{ints, to_z-of_z, fits_signed_from_abs}
@@ -8,12 +8,12 @@ use Rattle.linear_form.specs.declared.form.Term.{Term}
 use Rattle.linear_form.specs.declared.form.Row.{Row}
 use Rattle.linear_form.specs.declared.form.Bound.{Bound}
 use Rattle.linear_form.specs.Sum.{sum_over}
-use Rattle.linear_form.specs.System.{IsBound, IsRow, IsTerm, IsSystem}
+use Rattle.linear_form.specs.System.{IsBound, IsRow, IsSystem}
 use Rattle.linear_form.proofs.Sizes.{terms_few}
 use Rattle.linear_cert.specs.declared.rows.Column.{Column}
 use Rattle.linear_cert.specs.declared.rows.Column.TheVariants.{Variable, RightSide}
-use Rattle.linear_cert.specs.Rows.{numbered_row, lower_row, upper_row}
-use Rattle.linear_cert.specs.Columns.{coefficient, entry, value_in}
+use Rattle.linear_cert.specs.Rows.{lower_row, upper_row}
+use Rattle.linear_cert.specs.Columns.{entry, value_in}
 use Rattle.linear_cert.proofs.Numbered.{numbered_below, numbered_past}
 use Rattle.linear_solver.specs.Elimination.{number_in}
 

@@ -1,5 +1,5 @@
 -- The lists of elimination one after another, and when they refute nothing.
-use Rattle.std.proofs.Common.{◌≡◌, ℕ, zero, suc, ◌+◌, ◌<◌, ◌≤◌, List, [], length, get_or, All, ℤ, pos, Option, Some, None, MatchOption, IfSome, inl, inr, subst, sym, ap, ◌∙◌, refl, arith}
+use Rattle.std.proofs.Common.{◌≡◌, ℕ, suc, ◌+◌, ◌<◌, List, [], length, get_or, All, pos, Option, Some, None, MatchOption, IfSome, inl, inr, subst, sym, ap, refl, arith}
 use Rattle.std.proofs.lemmas.Bool.{cases_lt}
 use Rattle.std.proofs.lemmas.List.FromFn.{length-map-range_with_len}
 use Rattle.linear_form.specs.declared.form.Row.{Row}

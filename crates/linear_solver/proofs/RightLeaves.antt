@@ -1,5 +1,5 @@
 -- The multipliers of a contradiction are a right leaf.
-use Rattle.std.proofs.Common.{◌≡◌, ℕ, zero, suc, ◌+◌, ◌*◌, ◌^◌, ◌<◌, ◌≤◌, ◌==◌, ◌&&◌, if◌then◌else◌, Bool, true, false, List, [], ◌∷◌, length, get_or, take, min, All, FitsSigned, ℤ, pos, negsuc, ◌+ℤ◌, ◌*ℤ◌, ◌≤ℤ◌, ◌<ℤ◌, unsigned_abs, inl, inr, subst, sym, ap, ◌∙◌, refl, arith, mul-le-mul}
+use Rattle.std.proofs.Common.{◌≡◌, ℕ, zero, suc, ◌+◌, ◌*◌, ◌^◌, ◌≤◌, ◌==◌, true, List, [], ◌∷◌, length, get_or, take, All, ℤ, pos, ◌*ℤ◌, ◌≤ℤ◌, ◌<ℤ◌, unsigned_abs, inl, inr, subst, sym, ap, ◌∙◌, refl, arith, mul-le-mul}
 use Rattle.std.specs.Int.{w128}
 use Rattle.std.proofs.lemmas.Bool.{cases_Bool, and_parts, cond-true, cond-false, eqb-true}
 use Rattle.std.proofs.lemmas.Int.{ints, fits_signed_from_abs, unsigned_abs-mul}
@@ -8,7 +8,6 @@ use Rattle.std.proofs.lemmas.List.Elements.{All-nil, All-cons, All-head, All-tai
 use borrow.Author.Differences.{same_in, product_is}
 use Rattle.linear_form.specs.declared.form.Row.{Row}
 use Rattle.linear_form.specs.declared.form.Bound.{Bound}
-use Rattle.linear_form.specs.Sum.{sum_over}
 use Rattle.linear_form.specs.System.{IsSystem}
 use Rattle.linear_cert.specs.declared.cert.Mult.{Mult}
 use Rattle.linear_cert.specs.declared.rows.Column.{Column}
@@ -19,7 +18,7 @@ use Rattle.linear_cert.specs.Right.{IsRightLeaf}
 use Rattle.linear_solver.specs.declared.derived.Derived.{Derived}
 use Rattle.linear_solver.specs.Sums.{IsAtMost}
 use Rattle.linear_solver.specs.Leaves.{multipliers_from, times_row}
-use Rattle.linear_solver.specs.Elimination.{IsContradiction, IsSmall, coef_of, has_no_term, number_in, numbered_count}
+use Rattle.linear_solver.specs.Elimination.{IsContradiction, IsSmall, has_no_term, number_in, numbered_count}
 use Rattle.linear_solver.specs.Follows.{Follows, weighted}
 use Rattle.linear_solver.proofs.Magnitudes.{number_small, sum_over_small}
 

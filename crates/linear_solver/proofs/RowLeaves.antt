@@ -1,6 +1,6 @@
 -- A row that holds nowhere in a box has a right leaf: at the ends where the row's left side is least, the rows of the
 -- ranges take its variables out.
-use Rattle.std.proofs.Common.{◌≡◌, ◌≢◌, ℕ, zero, suc, ◌+◌, ◌-◌, ◌*◌, ◌/◌, ◌%◌, ◌^◌, ◌<◌, ◌≤◌, ◌==◌, if◌then◌else◌, Bool, true, false, List, [], ◌∷◌, length, get_or, map, slice_get, All, Option, Some, None, option_map, ℤ, pos, negsuc, neg_ℤ, ◌+ℤ◌, ◌*ℤ◌, ◌≤ℤ◌, ◌<ℤ◌, int_lt, unsigned_abs, inl, inr, subst, sym, ap, ◌∙◌, refl, arith}
+use Rattle.std.proofs.Common.{◌≡◌, ℕ, ◌+◌, ◌-◌, ◌*◌, ◌/◌, ◌^◌, ◌<◌, ◌≤◌, ◌==◌, if◌then◌else◌, Bool, true, false, List, [], ◌∷◌, length, get_or, map, All, Option, Some, ℤ, pos, negsuc, neg_ℤ, ◌+ℤ◌, ◌*ℤ◌, ◌≤ℤ◌, ◌<ℤ◌, int_lt, unsigned_abs, inl, inr, sym, ap, ◌∙◌, refl, arith}
 use Rattle.std.proofs.lemmas.Bool.{cases_Bool, cond-true, cond-false}
 use Rattle.std.proofs.lemmas.Int.{ints}
 use Rattle.std.proofs.lemmas.List.{length-map}
@@ -10,10 +10,8 @@ use borrow.Author.Differences.{up, down, same_in, product_is, neg_is}
 use Rattle.linear_form.specs.declared.form.Term.{Term}
 use Rattle.linear_form.specs.declared.form.Row.{Row}
 use Rattle.linear_form.specs.declared.form.Bound.{Bound}
-use Rattle.linear_form.specs.Sum.{sum_over}
-use Rattle.linear_form.specs.System.{IsRow, IsTerm, IsSystem}
+use Rattle.linear_form.specs.System.{IsTerm, IsSystem}
 use Rattle.linear_form.proofs.Sizes.{terms_few}
-use Rattle.linear_cert.specs.declared.cert.Mult.{Mult}
 use Rattle.linear_cert.specs.declared.rows.Column.{Column}
 use Rattle.linear_cert.specs.declared.rows.Column.TheVariants.{Variable, RightSide}
 use Rattle.linear_cert.specs.Rows.{NamesRow, numbered_row, lower_row, upper_row, range_row}

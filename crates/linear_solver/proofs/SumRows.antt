@@ -1,12 +1,12 @@
 -- Rows that stay sums of the numbered rows, with their numbers in range.
-use Rattle.std.proofs.Common.{◌≡◌, ℕ, ◌<◌, List, ◌<ℤ◌, pos, true, subst, sym}
+use Rattle.std.proofs.Common.{◌≡◌, ℕ, ◌<◌, List, subst, sym}
 use Rattle.linear_form.specs.declared.form.Row.{Row}
 use Rattle.linear_form.specs.declared.form.Bound.{Bound}
 use Rattle.linear_form.specs.System.{IsSystem}
 use Rattle.linear_solver.specs.declared.derived.Derived.{Derived}
 use Rattle.linear_solver.specs.Elimination.{IsSmall, first_row, numbered_count, sum_of}
-use Rattle.linear_solver.specs.Follows.{Follows, IsSumRow}
-use Rattle.linear_solver.specs.Shapes.{HasShape, shape_of}
+use Rattle.linear_solver.specs.Follows.{IsSumRow}
+use Rattle.linear_solver.specs.Shapes.{shape_of}
 use Rattle.linear_solver.proofs.Extensions.{sum_shape}
 use Rattle.linear_solver.proofs.FirstRows.{first_row_shape}
 use Rattle.linear_solver.proofs.Follows.{first_follows, sum_follows}

@@ -1,15 +1,11 @@
 -- A search of a whole system, and when it ends with an answer.
-use Rattle.std.proofs.Common.{◌≡◌, ℕ, ◌+◌, ◌<◌, ◌≤◌, ◌^◌, List, [], ◌∷◌, length, Option, Some, None, SomeIff, IsSomeAnd, ℤ, pos, sym, arith}
+use Rattle.std.proofs.Common.{◌≡◌, ℕ, ◌<◌, ◌≤◌, ◌^◌, List, ◌∷◌, Option, Some, None, SomeIff, IsSomeAnd, pos, arith}
 use Rattle.linear_form.specs.declared.form.Row.{Row}
 use Rattle.linear_form.specs.declared.form.Bound.{Bound}
 use Rattle.linear_form.specs.Points.{points_of}
 use Rattle.linear_form.proofs.Counting.{points_positive}
-use Rattle.linear_solver.specs.declared.answer.Answer.{Answer}
-use Rattle.linear_solver.specs.declared.searching.Found.{Found}
-use Rattle.linear_solver.specs.declared.searching.Found.TheVariants.{Refuted, Solved, Stopped}
 use Rattle.linear_solver.specs.Boxes.{height}
-use Rattle.linear_solver.specs.Decides.{DecidesUnlessOpen, MayStayOpen}
-use Rattle.linear_solver.specs.Elimination.{IsRefutedByElimination}
+use Rattle.linear_solver.specs.Decides.{MayStayOpen}
 use Rattle.linear_solver.proofs.Heights.{halvings-some}
 
 -- a box that holds a system's box as a part

@@ -92,7 +92,7 @@ pub fn low_ends(alloc: Global, bounds: &[Bound]) -> Result<Items<i64>, AllocErro
     requires { length bounds.now ≤ MAX_VARIABLES }
     ensures { IfOk result (λ vals. vals ≡ low_ends bounds.now) }
 {
-    let mut vals = Vec::new(alloc);
+    let mut vals = Vec::with_capacity(alloc, bounds.len())?;
     for range in bounds {
         vals.push(range.lo)?;
     }

@@ -88,7 +88,7 @@ pub fn added(
     requires most { most ≤ MAX_NUMBER }
     ensures { IfOk result (AddedWithin most x y left.now right.now) }
 {
-    let mut sums = Vec::new(alloc);
+    let mut sums = Vec::with_capacity(alloc, left.len())?;
     for (place, number) in left.iter().enumerate() {
         match weighted_within(*number, x, right[place], y, most) {
             Some(sum) => sums.push(sum)?,

@@ -74,7 +74,7 @@ fn coefficients(
     ensures { IfOk result (λ coefs. coefs ≡
         map (λ variable. number_in (Variable variable) bounds.now rows.now number) (range_with_len 0 (length bounds.now))) }
 {
-    let mut coefs = Vec::new(alloc);
+    let mut coefs = Vec::with_capacity(alloc, bounds.len())?;
     for variable in 0..bounds.len() as u32 {
         coefs.push(coefficient_in(bounds, rows, number, variable))?;
     }
@@ -85,7 +85,7 @@ fn coefficients(
 fn once(alloc: Global, number: u32, count: u32) -> Result<Items<i64>, AllocError>
     ensures { IfOk result (λ mults. mults ≡ map (once number) (range_with_len 0 count)) }
 {
-    let mut mults = Vec::new(alloc);
+    let mut mults = Vec::with_capacity(alloc, count as usize)?;
     for other in 0..count {
         mults.push(once_at(number, other))?;
     }

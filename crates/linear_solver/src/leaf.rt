@@ -36,9 +36,10 @@ pub fn row_leaf(alloc: Global, rows: &[Row], number: u32) -> Result<MultList, Al
     requires rows { All (IsRow MAX_VARIABLES) rows.now }
     ensures { IfOk result (λ leaf. (d : Row) → leaf ≡ row_leaf (length rows.now) number (slice_index_or rows.now number d).terms) }
 {
-    let mut leaf = Items::from_vec(Vec::new(alloc));
+    let terms = rows[number as usize].terms.as_slice();
+    let mut leaf = Items::from_vec(Vec::with_capacity(alloc, 1 + terms.len())?);
     leaf.push(Mult { row: number, by: 1 })?;
-    for term in rows[number as usize].terms.as_slice() {
+    for term in terms {
         leaf.push(closing(rows.len() as u32, *term))?;
     }
     Ok(leaf)

@@ -94,7 +94,7 @@ fn tested(
 fn box_of(alloc: Global, bounds: &[Bound], values: &[i64]) -> Result<Option<Vec<Bound>>, AllocError>
     ensures { IfOk result (λ point. IfSome point (λ point. IsInside bounds.now point.items)) }
 {
-    let mut point = Vec::new(alloc);
+    let mut point = Vec::with_capacity(alloc, bounds.len())?;
     for (variable, range) in bounds.iter().enumerate() {
         match range_at(*range, values, variable) {
             Some(value) => point.push(value)?,

@@ -1,4 +1,4 @@
-use Rattle.std.proofs.Common.{◌≤◌, All, pos, take, get_or, subst, sym, arith, rules}
+use Rattle.std.proofs.Common.{◌≤◌, pos, take, get_or, arith}
 use Rattle.std.proofs.lemmas.List.{take_all}
 use Rattle.std.proofs.lemmas.List.Elements.{All-more, All-weaker}
 use Rattle.linear_form.specs.declared.form.Term.{Term}

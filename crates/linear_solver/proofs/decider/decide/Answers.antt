@@ -1,5 +1,4 @@
-use Rattle.std.proofs.Common.{refl}
-use Rattle.linear_solver.proofs.Whole.{few_points, idle_open}
+use Rattle.linear_solver.proofs.Whole.{idle_open}
 use Rattle.linear_solver.proofs.decider.decide.Goals as goal
 
 pub returns-then-budget-eq-NO_BUDGET-clause-open : goal.returns-then-budget-eq-NO_BUDGET-clause-open

@@ -1,6 +1,5 @@
-use Rattle.std.proofs.Common.{◌≡◌, ap, sym, ◌∙◌, subst, refl, arith, rules}
-use Rattle.linear_solver.specs.Elimination.{HasNoContradiction, next_list}
-use Rattle.linear_solver.specs.Shapes.{IsList, shape_of}
+use Rattle.std.proofs.Common.{ap, sym, ◌∙◌, arith}
+use Rattle.linear_solver.specs.Elimination.{next_list}
 use Rattle.linear_solver.proofs.Refutation.{after-more, after-none, first_is_list, found_is_right, leaf_is_right, so_far_more, stopped}
 use Rattle.linear_solver.proofs.elimination.eliminate.Goals as goal
 

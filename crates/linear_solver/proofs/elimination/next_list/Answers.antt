@@ -1,4 +1,4 @@
-use Rattle.std.proofs.Common.{[], ◌++◌, ◌≡◌, filter, length, vec_len, All, append-nil, ap, sym, subst, ◌∙◌, arith, rules}
+use Rattle.std.proofs.Common.{◌++◌, ◌≡◌, filter, length, vec_len, All, ap, sym, subst, ◌∙◌, arith, rules}
 use Rattle.std.proofs.lemmas.Fn.{filter_same}
 use Rattle.std.proofs.lemmas.List.{length-append}
 use Rattle.std.proofs.lemmas.List.Elements.{All-append, All-filter}

@@ -1,4 +1,4 @@
-use Rattle.std.proofs.Common.{All, [], ◌∷◌, ◌<ℤ◌, int_lt, pos, subst, ◌∙◌, ap, sym, arith}
+use Rattle.std.proofs.Common.{All, [], ◌<ℤ◌, int_lt, pos, subst, ◌∙◌, sym, arith}
 use Rattle.std.proofs.lemmas.Bool.{cond-true}
 use Rattle.std.proofs.lemmas.Int.{ints}
 use Rattle.std.proofs.lemmas.Result.{IfOk-weaker}

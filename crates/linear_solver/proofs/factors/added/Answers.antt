@@ -1,4 +1,4 @@
-use Rattle.std.proofs.Common.{◌≡◌, ◌+◌, ◌<◌, length, get_or, take, pos, FitsSigned, to_z, sym, ap, ◌∙◌, subst, arith, rules, to_z-of_z}
+use Rattle.std.proofs.Common.{get_or, pos, FitsSigned, sym, ◌∙◌, subst, arith, rules, to_z-of_z}
 use Rattle.std.specs.Int.{w64}
 use Rattle.std.proofs.lemmas.List.{take_all, take_more}
 use Rattle.std.proofs.lemmas.List.Elements.{All-push}

@@ -1,4 +1,4 @@
-use Rattle.std.proofs.Common.{◌%◌, arith}
+use Rattle.std.proofs.Common.{arith}
 use Rattle.std.proofs.lemmas.Nat.Gcd.{IsGcd-from_mod, IsGcd-from_zero}
 use Rattle.linear_solver.proofs.Divisors.{gcd_is}
 use Rattle.linear_solver.proofs.factors.gcd.Goals as goal

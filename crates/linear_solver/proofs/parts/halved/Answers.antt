@@ -1,9 +1,9 @@
-use Rattle.std.proofs.Common.{◌≡◌, ◌<◌, ◌≤◌, ◌/◌, get_or, FitsSigned, pos, refl, ap, subst, sym, ◌∙◌, arith, rules, to_z-of_z}
+use Rattle.std.proofs.Common.{◌<◌, get_or, FitsSigned, pos, arith, rules, to_z-of_z}
 use Rattle.std.specs.Int.{w64}
 use Rattle.std.proofs.lemmas.Int.{ints}
 use Rattle.linear_form.specs.declared.form.Bound.{Bound}
-use Rattle.linear_cert.specs.Right.{CanBeCut, part_past, part_up_to}
-use Rattle.linear_solver.specs.Boxes.{height, width}
+use Rattle.linear_cert.specs.Right.{part_past, part_up_to}
+use Rattle.linear_solver.specs.Boxes.{width}
 use Rattle.linear_solver.proofs.Heights.{height_falls}
 use Rattle.linear_solver.proofs.parts.halved.Goals as goal
 

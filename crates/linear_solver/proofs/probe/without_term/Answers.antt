@@ -1,4 +1,4 @@
-use Rattle.std.proofs.Common.{◌<◌, unsigned_abs, arith}
+use Rattle.std.proofs.Common.{◌<◌, arith}
 use Rattle.linear_solver.specs.Elimination.{numbered_count}
 use Rattle.linear_solver.proofs.SumRows.{first_is_sum, kept_is_sum}
 use Rattle.linear_solver.proofs.probe.without_term.Goals as goal

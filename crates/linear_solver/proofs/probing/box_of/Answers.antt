@@ -1,8 +1,5 @@
-use Rattle.std.proofs.Common.{◌≡◌, ℕ, ◌+◌, ◌<◌, ◌++◌, [], ◌∷◌, length, get_or, inl, inr, ap, subst, sym, ◌∙◌, arith}
-use Rattle.std.proofs.lemmas.Bool.{cases_lt}
-use Rattle.std.proofs.lemmas.List.{get_or_append_left, get_or_push, length_push}
-use Rattle.linear_form.specs.declared.form.Bound.{Bound}
-use Rattle.linear_solver.specs.Insides.{IsInside, IsPartOf}
+use Rattle.std.proofs.Common.{◌≡◌, ◌+◌, length, ap, ◌∙◌, arith}
+use Rattle.std.proofs.lemmas.List.{length_push}
 use Rattle.linear_solver.proofs.Inner.{inside_more}
 use Rattle.linear_solver.proofs.probing.box_of.Goals as goal
 

@@ -1,4 +1,4 @@
-use Rattle.std.proofs.Common.{◌≡◌, ℕ, ◌<◌, get_or, vec_len, length}
+use Rattle.std.proofs.Common.{◌≡◌, ℕ, ◌<◌, get_or, length}
 use Rattle.linear_form.specs.declared.form.Bound.{Bound}
 use Rattle.linear_solver.specs.Insides.{IsPartOf}
 use Rattle.linear_solver.proofs.probing.box_of.Given as goal

@@ -1,4 +1,4 @@
-use Rattle.std.proofs.Common.{◌≡◌, ◌<◌, List, FitsSigned, ap, refl, subst, sym, ◌∙◌, arith, rules, to_z-of_z}
+use Rattle.std.proofs.Common.{List, FitsSigned, ap, subst, sym, arith, rules, to_z-of_z}
 use Rattle.std.specs.Int.{w64}
 use Rattle.linear_form.specs.declared.form.Bound.{Bound}
 use Rattle.linear_form.specs.Solution.{Solves}

@@ -1,4 +1,4 @@
-use Rattle.std.proofs.Common.{get_or, pos, [], subst, sym}
+use Rattle.std.proofs.Common.{pos, [], subst, sym}
 use Rattle.linear_form.specs.declared.form.Row.{Row}
 use Rattle.linear_form.specs.Solution.{Solves}
 use Rattle.linear_cert.specs.Right.{IsRightLeaf}
