@@ -240,12 +240,106 @@ const TRIANGLE: Rows = &[
 // A multiple of 6 lies between 3 and 5 past a multiple of 10.
 const MULTIPLES: Rows = &[(&[(0, 6), (1, -10)], 5), (&[(0, -6), (1, 10)], -3)];
 
+// Threads weigh 1 to 8. A core lets another one's thread go whose load is more than 8 above its own, and the thread
+// is at least as heavy as the loads are apart. The variables are the cores' counts and loads, and the weight.
+const GAP_OF_EIGHT: Rows = &[
+    (&[(0, 1), (1, -1)], 0),
+    (&[(0, -8), (1, 1)], 0),
+    (&[(2, 1), (3, -1)], 0),
+    (&[(2, -8), (3, 1)], 0),
+    (&[(1, 1), (3, -1)], -9),
+    (&[(2, 1), (3, -1), (4, 1)], 1),
+    (&[(1, -1), (3, 1), (4, -1)], 0),
+];
+
+// The same of a load that is more than 7 above.
+const GAP_OF_SEVEN: Rows = &[
+    (&[(0, 1), (1, -1)], 0),
+    (&[(0, -8), (1, 1)], 0),
+    (&[(2, 1), (3, -1)], 0),
+    (&[(2, -8), (3, 1)], 0),
+    (&[(1, 1), (3, -1)], -8),
+    (&[(2, 1), (3, -1), (4, 1)], 1),
+    (&[(1, -1), (3, 1), (4, -1)], 0),
+];
+
+const COUNTS_AND_LOADS: &[(i64, i64)] = &[(0, 1023), (0, 8184), (0, 1023), (0, 8184), (1, 8)];
+
+// Threads weigh 1 to 1,048,575, and the loads' difference stands times 2^20.
+const SCALED_GAP: Rows = &[
+    (&[(0, 1), (1, -1)], 0),
+    (&[(0, -1_048_575), (1, 1)], 0),
+    (&[(2, 1), (3, -1)], 0),
+    (&[(2, -1_048_575), (3, 1)], 0),
+    (&[(1, 1 << 20), (3, -(1 << 20))], -(1_048_575 << 20) - 1),
+    (&[(2, 1), (3, -1), (4, 1)], 1),
+    (&[(1, -1), (3, 1), (4, -1)], 0),
+];
+
+const WIDE_COUNTS_AND_LOADS: &[(i64, i64)] = &[
+    (0, 1023),
+    (0, 1_072_692_225),
+    (0, 1023),
+    (0, 1_072_692_225),
+    (1, 1_048_575),
+];
+
+// One equation with coefficients near 2^40.
+const LARGE_EQUATION: Rows = &[
+    (
+        &[
+            (0, 1099511102130),
+            (1, 1099511535572),
+            (2, 1099511214739),
+            (3, 1099511526261),
+            (4, 1099511596881),
+            (5, 1099511446942),
+            (6, 1099511116045),
+            (7, 1099511101556),
+            (8, 1099511160286),
+            (9, 1099511524356),
+            (10, 1099511243693),
+            (11, 1099510826902),
+            (12, 1099510821406),
+            (13, 1099511470726),
+            (14, 1099511164551),
+            (15, 1099511126649),
+        ],
+        17592179991040,
+    ),
+    (
+        &[
+            (0, -1099511102130),
+            (1, -1099511535572),
+            (2, -1099511214739),
+            (3, -1099511526261),
+            (4, -1099511596881),
+            (5, -1099511446942),
+            (6, -1099511116045),
+            (7, -1099511101556),
+            (8, -1099511160286),
+            (9, -1099511524356),
+            (10, -1099511243693),
+            (11, -1099510826902),
+            (12, -1099510821406),
+            (13, -1099511470726),
+            (14, -1099511164551),
+            (15, -1099511126649),
+        ],
+        -17592179991040,
+    ),
+];
+
+const TRITS: &[(i64, i64)] = &[(0, 2); 16];
+
+const WIDE_RANGES: &[(i64, i64)] = &[WIDE; 30];
+
 #[test]
 fn systems_with_their_answers(rt: HostRuntime) -> Result<(), Fail> {
     use Wanted::{NoSolution, NumberOfPoints, Solution};
     const MOST: u64 = u64::MAX;
     let alloc = rt.alloc();
-    let cases: [(&str, &[(i64, i64)], Rows, u64, Wanted); 22] = [
+    let cases: [(&str, &[(i64, i64)], Rows, u64, Wanted); 28] = [
         ("nothing", &[], NONE, 1, Solution),
         ("nothing, no budget", &[], NONE, 0, NumberOfPoints(Some(1))),
         ("no rows", &[(-3, 4), (7, 7)], NONE, 8, Solution),
@@ -318,6 +412,42 @@ fn systems_with_their_answers(rt: HostRuntime) -> Result<(), Fail> {
             THREE_EQUATIONS,
             1,
             NoSolution,
+        ),
+        (
+            "gap of eight",
+            COUNTS_AND_LOADS,
+            GAP_OF_EIGHT,
+            CHECKER_BUDGET,
+            NoSolution,
+        ),
+        (
+            "gap of seven",
+            COUNTS_AND_LOADS,
+            GAP_OF_SEVEN,
+            CHECKER_BUDGET,
+            Solution,
+        ),
+        (
+            "scaled gap",
+            WIDE_COUNTS_AND_LOADS,
+            SCALED_GAP,
+            CHECKER_BUDGET,
+            NoSolution,
+        ),
+        (
+            "large equation",
+            TRITS,
+            LARGE_EQUATION,
+            CHECKER_BUDGET,
+            NumberOfPoints(Some(43_046_721)),
+        ),
+        ("wide ranges", WIDE_RANGES, NONE, CHECKER_BUDGET, Solution),
+        (
+            "wide ranges, no budget",
+            WIDE_RANGES,
+            NONE,
+            0,
+            NumberOfPoints(None),
         ),
         ("one point", &[(1, 1)], NONE, 1, Solution),
         (
