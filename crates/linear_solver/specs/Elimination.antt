@@ -1,4 +1,5 @@
--- Elimination of one variable after another (Fourier and Motzkin). Each row keeps how it is a sum of the numbered rows.
+-- Elimination of one variable after another (Fourier and Motzkin). Each row keeps how it is a sum of the numbered
+-- rows, those of the system and two for each range.
 use Rattle.std.specs.Prelude.{◌≡◌, ℕ, zero, suc, ◌+◌, ◌*◌, ◌/◌, ◌≤◌, ◌<◌, ◌==◌, ◌&&◌, if◌then◌else◌, Bool, true, List, [], ◌∷◌, ◌++◌, length, map, filter, flat_map, slice_index_or, All, ℤ, pos, ◌+ℤ◌, ◌*ℤ◌, ◌<ℤ◌, int_le, int_lt, unsigned_abs}
 use Rattle.std.specs.List.{list_all, range_with_len}
 use Rattle.linear_form.specs.declared.form.Row.{Row}
@@ -27,10 +28,15 @@ number_in column bounds rows number = value_in (entry column) (numbered_row boun
 abbrev pub once : ℕ → ℕ → ℤ
 once number other = if other == number then pos 1 else pos 0
 
+-- the coefficients that the row with this number gives to the variables
+abbrev pub coefs_in : List Bound → List Row → ℕ → List ℤ
+coefs_in bounds rows number =
+    map (λ variable. number_in (Variable variable) bounds rows number) (range_with_len 0 (length bounds))
+
 -- the row with this number as it stands before any elimination
 abbrev pub first_row : List Bound → List Row → ℕ → Derived
 first_row bounds rows number = record {
-  coefs = map (λ variable. number_in (Variable variable) bounds rows number) (range_with_len 0 (length bounds));
+  coefs = coefs_in bounds rows number;
   bound = number_in RightSide bounds rows number;
   mults = map (once number) (range_with_len 0 (numbered_count bounds rows));
 }
@@ -51,7 +57,8 @@ sum_of x y p q = record {
 abbrev pub coef_of : ℕ → Derived → ℤ
 coef_of variable row = slice_index_or row.coefs variable (pos 0)
 
--- two rows with coefficients a and -b of the variable, added up so that it goes: b/g times the first, a/g times the other
+-- two rows with coefficients a and -b of the variable, added up so that it goes: b/g times the first, a/g times the
+-- other, g being the greatest common divisor
 abbrev pub sum_without : ℕ → Derived → Derived → Derived
 sum_without variable p q =
     let a = unsigned_abs (coef_of variable p) in
@@ -66,15 +73,21 @@ has_no_term coefs = list_all (λ coef. unsigned_abs coef == 0) coefs
 abbrev pub kept : Derived → List Derived
 kept row = if int_le (pos 0) row.bound && has_no_term row.coefs then [] else row ∷ []
 
--- the sums of a row in which the variable is positive with those in which it is negative, in order
-abbrev pub sums_with : ℕ → List Derived → Derived → List Derived
-sums_with variable list p =
-    flat_map (λ q. if int_lt (coef_of variable q) (pos 0) then kept (sum_without variable p q) else []) list
+-- the sum of a row in which the variable is positive with one in which it is negative, none for another one
+abbrev pub sums_of_pair : ℕ → Derived → Derived → List Derived
+sums_of_pair variable p q = if int_lt (coef_of variable q) (pos 0) then kept (sum_without variable p q) else []
 
--- the sums of all such rows, in order
+-- its sums with all of those, in order
+abbrev pub sums_with : ℕ → List Derived → Derived → List Derived
+sums_with variable list p = flat_map (sums_of_pair variable p) list
+
+-- the same, and none for a row in which the variable isn't positive
+abbrev pub sums_of : ℕ → List Derived → Derived → List Derived
+sums_of variable list p = if int_lt (pos 0) (coef_of variable p) then sums_with variable list p else []
+
+-- the sums of all rows, in order
 abbrev pub sums_in : ℕ → List Derived → List Derived
-sums_in variable list =
-    flat_map (λ p. if int_lt (pos 0) (coef_of variable p) then sums_with variable list p else []) list
+sums_in variable list = flat_map (sums_of variable list) list
 
 -- the variable doesn't occur
 abbrev pub lacks : ℕ → Derived → Bool
@@ -115,9 +128,13 @@ pub record IsRefutedByElimination (bounds : List Bound) (rows : List Row) : Type
   pub refutes : HasNoContradiction (list_after bounds rows eliminated) → ⊥
   pub sizes : (k : ℕ) → k ≤ eliminated → IsWithinSizes (list_after bounds rows k)
 
+-- elimination finds no such list
+abbrev pub IsUnrefuted : List Bound → List Row → Type 0
+IsUnrefuted bounds rows = IsRefutedByElimination bounds rows → ⊥
+
 -- What the checker may leave undecided: a system with more points than its budget and a row that is no difference,
 -- which elimination doesn't refute.
 pub record IsOpen (bounds : List Bound) (rows : List Row) : Type 0 where
   pub many : CHECKER_BUDGET < points_of bounds
   pub no_differences : IsDifference rows → ⊥
-  pub unrefuted : IsRefutedByElimination bounds rows → ⊥
+  pub unrefuted : IsUnrefuted bounds rows

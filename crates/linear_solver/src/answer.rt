@@ -14,7 +14,8 @@ pub enum Answer {
     Holds(Cert),
     /// It has one: a point that solves it.
     Fails(Point),
-    /// Neither was found. The number of points that the ranges have, none where it passes `2^128 - 1`.
+    /// Neither was found. The number of points that the ranges have, none where it passes
+    /// `2^128 - 1`.
     Undecided(Option<u128>),
 }
 

@@ -124,7 +124,8 @@ fn reach_of(bounds: &[Bound], row: &Row) -> Reach
 // The tighter of the row so far and one more. Of equals the first stays.
 fn tighter(tight: Option<Tight>, row: u32, slack: u128, change: u128) -> Tight
     requires { 0 < change }
-    ensures { MatchOption tight (result.row ≡ row) (λ other. (result ≡ other) ⊎ (result.row ≡ row)) }
+    ensures { MatchOption tight (result.row ≡ row)
+        (λ other. (result ≡ other) ⊎ (result.row ≡ row)) }
 {
     let ratio = slack.saturating_mul(RATIO_SCALE) / change;
     match tight {
@@ -196,8 +197,8 @@ fn gain_of(cut: Option<Cut>) -> u128 {
     cut.map_or(0, |cut| cut.gain)
 }
 
-// The cut past which the row holds nowhere, if it leaves at most half of the range: a row that has `slack` left
-// lets its term grow by that much over the range's end, and no more.
+// The cut past which the row holds nowhere, if it leaves at most half of the range. A row that has `slack`
+// left lets its term grow by that much over the range's end, and no more.
 fn cut_of(term: Term, range: Bound, row: u32, slack: u128) -> Option<Cut>
     requires { term.coef ≢ pos 0 }
 {

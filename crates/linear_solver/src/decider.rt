@@ -1,9 +1,9 @@
 //! The decider of linear systems.
 
-ghost use Rattle.std.specs.Prelude.{◌≡◌, ◌≤◌, ◌^◌, ◌<◌, false, IfOk, IsSomeAnd, IsTrue, SomeIff, ◌↔◌};
+ghost use Rattle.std.specs.Prelude.{◌≡◌, ◌≤◌, ◌^◌, ◌<◌, false, IfOk, IsSomeAnd, IsTrue, ◌↔◌};
 ghost use Rattle.linear_form.specs.Points.{points_of};
 ghost use Rattle.linear_cert.specs.declared.cert.TheConstants.{MAX_SPLITS};
-ghost use Rattle.linear_solver.specs.Decides.{Decides, DecidesUnlessOpen, HoldsIfRefuted, HoldsShallowly, IsUndecided};
+ghost use Rattle.linear_solver.specs.Decides.{Decides, DecidesUnlessOpen, HoldsIfRefuted, HoldsShallowly, IsNumberOfPoints, IsUndecided};
 ghost use Rattle.linear_solver.specs.Found.{IsDecided, IsFound};
 
 use crate::answer::{Answer, SolveMemory};
@@ -14,22 +14,22 @@ use linear_cert::{Cert, MAX_SPLITS};
 use linear_form::System;
 use std::alloc::Global;
 
-/// The terms that a search past the budget may look at. Of 1,500 hard systems made by chance 90 stayed open, against
-/// 115 with a quarter of it and 71 with four times as many.
+/// The terms that a search past the budget may look at. Of 1,500 hard systems made by chance it leaves
+/// 90 open, against 115 with a quarter of it and 71 with four times as many.
 pub const MAX_TERMS: u64 = 1 << 20;
 
-/// The sums that the probes of a search may make. With a third or ten times as many the same systems were decided.
+/// The sums that the probes of a search may make. A third of it or ten times as many decide as much.
 pub const MAX_SUMS: u32 = 3_000;
 
 // The budget under which nothing is tried.
 const NO_BUDGET: u64 = 0;
 
-/// Whether the system has a solution. `budget` is the number of points up to which the system is decided whatever
-/// it costs. Past that it may be left undecided, after a fixed effort, where elimination doesn't refute it. Under a
-/// budget of 0 nothing is tried.
+/// Whether the system has a solution. Up to `budget` points it is decided whatever it costs. Past that it
+/// may be left undecided, after a fixed effort, where elimination doesn't refute it. Under a budget of 0
+/// nothing is tried.
 ///
-/// A refutation is found by the elimination of Fourier and Motzkin, or by a search that cuts the ranges in halves and
-/// tests each row over what is left.
+/// The search cuts ranges in halves and tests each row over what is left. It eliminates variables over the
+/// boxes that no row cuts, as Fourier and Motzkin do. Elimination of the whole system comes last.
 pub fn decide(alloc: Global, system: &System, budget: u64) -> Result<Answer, SolveMemory>
     ensures decides { IfOk result (Decides system.now.bounds system.now.rows) }
     ensures shallow { IfOk result HoldsShallowly }
@@ -50,7 +50,7 @@ pub fn decide(alloc: Global, system: &System, budget: u64) -> Result<Answer, Sol
 
 // The answer by elimination alone.
 fn eliminated(alloc: Global, system: &System, points: Option<u128>) -> Result<Answer, SolveMemory>
-    requires { SomeIff points (points_of system.now.bounds < 2 ^ 128) (points_of system.now.bounds) }
+    requires { IsNumberOfPoints system.now.bounds points }
     ensures decides { IfOk result (Decides system.now.bounds system.now.rows) }
     ensures shallow { IfOk result HoldsShallowly }
     ensures open { IfOk result (HoldsIfRefuted system.now.bounds system.now.rows) }
@@ -73,7 +73,8 @@ fn is_within(points: Option<u128>, budget: u64) -> bool
 // What a search of the whole system finds. Where it isn't limited it finds one or the other.
 fn searched(alloc: Global, system: &System, limited: bool) -> Result<Found, SolveMemory>
     ensures found { IfOk result (IsFound MAX_SPLITS system.now.bounds system.now.rows) }
-    ensures decides { limited ≡ false → points_of system.now.bounds < 2 ^ 64 → IfOk result IsDecided }
+    ensures decides { limited ≡ false → points_of system.now.bounds < 2 ^ 64
+        → IfOk result IsDecided }
 {
     let mut effort = Effort {
         limited,

@@ -1,9 +1,9 @@
 //! Elimination of the variables, one after another (Fourier and Motzkin).
 
-ghost use Rattle.std.specs.Prelude.{◌≡◌, ◌<◌, ◌≤◌, ◌<ℤ◌, if◌then◌else◌, [], ◌∷◌, ◌++◌, pos, length, int_lt, slice_index_or, All, IfNone, IfOk, IfSome, MatchOption};
+ghost use Rattle.std.specs.Prelude.{◌≡◌, ◌<◌, ◌≤◌, ◌<ℤ◌, [], ◌∷◌, ◌++◌, pos, length, All, IfNone, IfOk, IfSome, MatchOption};
 ghost use Rattle.linear_form.specs.System.{IsSystem};
 ghost use Rattle.linear_cert.specs.Right.{IsRightLeaf};
-ghost use Rattle.linear_solver.specs.Elimination.{HasNoContradiction, IsContradiction, IsRefutedByElimination, coef_of, kept, lacks, next_list, sum_without, sums_in, sums_with};
+ghost use Rattle.linear_solver.specs.Elimination.{HasNoContradiction, IsUnrefuted, coef_of, lacks, next_list, sums_in, sums_of, sums_of_pair, sums_with};
 ghost use Rattle.linear_solver.specs.Shapes.{Extends, HasShape, IsList, LeafIn, RefutesAt};
 
 use crate::answer::SolveMemory;
@@ -80,8 +80,7 @@ fn with_sums_of(
     requires list { IsList shape list.now }
     requires p { HasShape shape p.now }
     requires sums { IsList shape sums.items }
-    ensures { let more = if int_lt (pos 0) (coef_of variable p.now) then sums_with variable list.now p.now else [] in
-        IfOk result (Extends shape sums.items more) }
+    ensures { IfOk result (Extends shape sums.items (sums_of variable list.now p.now)) }
 {
     if coefficient(p, variable) > 0 {
         with_sums(alloc, shape, variable, list, p, sums)
@@ -128,8 +127,7 @@ fn with_sum(
     requires q { HasShape shape q.now }
     requires positive { pos 0 <ℤ coef_of variable p.now }
     requires sums { IsList shape sums.items }
-    ensures { let more = if int_lt (coef_of variable q.now) (pos 0) then kept (sum_without variable p.now q.now) else [] in
-        IfOk result (Extends shape sums.items more) }
+    ensures { IfOk result (Extends shape sums.items (sums_of_pair variable p.now q.now)) }
 {
     if coefficient(q, variable) >= 0 {
         return Ok(Some(sums));
@@ -156,7 +154,8 @@ fn with_row(sums: Vec<Derived>, sum: Derived) -> Result<Option<Vec<Derived>>, So
 // The multipliers of the list's first contradiction.
 fn leaf_in(alloc: Global, shape: Shape, list: &[Derived]) -> Result<Option<MultList>, AllocError>
     requires { All (HasShape shape) list.now }
-    ensures { IfOk result (λ leaf. MatchOption leaf (HasNoContradiction list.now) (LeafIn list.now)) }
+    ensures { IfOk result (λ leaf.
+        MatchOption leaf (HasNoContradiction list.now) (LeafIn list.now)) }
 {
     match contradiction(list) {
         Some(place) => Ok(Some(leaf_of(alloc, list[place].mults.as_slice())?)),
@@ -176,9 +175,9 @@ fn contradiction(list: &[Derived]) -> Option<usize>
     None
 }
 
-/// A certificate that bounds and rows have no solution, if elimination within its sizes finds one. It
-/// eliminates each variable in turn, and looks at every list for a row that says that 0 is at most a
-/// negative number. That row's multipliers are the certificate, as in Farkas' lemma.
+/// The multipliers of a refutation, if elimination within its sizes finds one. It eliminates each variable
+/// in turn, and looks at every list for a row that says that 0 is at most a negative number. That row's
+/// multipliers are a leaf, as in Farkas' lemma.
 pub fn eliminate(
     alloc: Global,
     bounds: &[Bound],
@@ -186,7 +185,7 @@ pub fn eliminate(
 ) -> Result<Option<MultList>, SolveMemory>
     requires { IsSystem (record { bounds = bounds.now; rows = rows.now }) }
     ensures right { IfOk result (λ leaf. IfSome leaf (IsRightLeaf bounds.now rows.now)) }
-    ensures complete { IfOk result (λ leaf. IfNone leaf (IsRefutedByElimination bounds.now rows.now → ⊥)) }
+    ensures complete { IfOk result (λ leaf. IfNone leaf (IsUnrefuted bounds.now rows.now)) }
 {
     let shape = shape_of(bounds, rows);
     let mut list = first_list(alloc, bounds, rows)?;

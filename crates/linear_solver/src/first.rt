@@ -4,7 +4,7 @@ ghost use Rattle.std.specs.Prelude.{◌≡◌, ◌^◌, ◌<◌, ◌≤◌, leng
 ghost use Rattle.std.specs.List.{range_with_len};
 ghost use Rattle.linear_form.specs.System.{IsSystem};
 ghost use Rattle.linear_cert.specs.declared.rows.Column.TheVariants.{Variable};
-ghost use Rattle.linear_solver.specs.Elimination.{first_list, first_row, number_in, numbered_count, once};
+ghost use Rattle.linear_solver.specs.Elimination.{coefs_in, first_list, first_row, numbered_count, once};
 ghost use Rattle.linear_solver.specs.Shapes.{HasShape, shape_of};
 
 use crate::answer::SolveMemory;
@@ -71,8 +71,7 @@ fn coefficients(
 ) -> Result<Items<i64>, AllocError>
     requires system { IsSystem (record { bounds = bounds.now; rows = rows.now }) }
     requires numbered { number < numbered_count bounds.now rows.now }
-    ensures { IfOk result (λ coefs. coefs ≡
-        map (λ variable. number_in (Variable variable) bounds.now rows.now number) (range_with_len 0 (length bounds.now))) }
+    ensures { IfOk result (λ coefs. coefs ≡ coefs_in bounds.now rows.now number) }
 {
     let mut coefs = Vec::with_capacity(alloc, bounds.len())?;
     for variable in 0..bounds.len() as u32 {

@@ -28,13 +28,14 @@ pub fn leaf_of(alloc: Global, mults: &[i64]) -> Result<MultList, AllocError>
     Ok(leaf)
 }
 
-/// The leaf of a row that holds nowhere in the box: the row itself, and for each of its variables the row of
-/// the range that takes it out at the end where the row's left side is least.
+/// The leaf of a row that holds nowhere in the box: the row itself, and for each of its variables the row
+/// of the range that takes it out at the end where the row's left side is least.
 pub fn row_leaf(alloc: Global, rows: &[Row], number: u32) -> Result<MultList, AllocError>
     requires few { length rows.now ≤ MAX_ROWS }
     requires known { number < length rows.now }
     requires rows { All (IsRow MAX_VARIABLES) rows.now }
-    ensures { IfOk result (λ leaf. (d : Row) → leaf ≡ row_leaf (length rows.now) number (slice_index_or rows.now number d).terms) }
+    ensures { IfOk result (λ leaf. (d : Row) →
+        leaf ≡ row_leaf (length rows.now) number (slice_index_or rows.now number d).terms) }
 {
     let terms = rows[number as usize].terms.as_slice();
     let mut leaf = Items::from_vec(Vec::with_capacity(alloc, 1 + terms.len())?);

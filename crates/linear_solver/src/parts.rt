@@ -64,7 +64,8 @@ fn middle(range: Bound) -> i64
     range.lo + (range.hi - range.lo) / 2
 }
 
-/// The box cut so that a row closes one part, if it does so, and the other part has at most half of the range.
+/// The box cut so that a row closes one part, if it does so, and the other part has at most half of the
+/// range.
 pub fn cut_off(
     alloc: Global,
     bounds: &[Bound],
@@ -158,7 +159,8 @@ fn closed(
     part: Vec<Bound>,
 ) -> Result<Option<Part>, AllocError>
     requires { IsSystem (record { bounds = part.items; rows = rows.now }) }
-    ensures { IfOk result (λ r. (whole : List Bound) → IfSome r (IsPart whole rows.now part.items)) }
+    ensures { IfOk result (λ r. (whole : List Bound) →
+        IfSome r (IsPart whole rows.now part.items)) }
 {
     let number = row as usize;
     if number < rows.len() && is_refuted(part.as_slice(), &rows[number]) {

@@ -1,5 +1,6 @@
-//! Elimination that keeps to what a box leaves open: a sum that holds nowhere in the box closes it at once, and one
-//! that holds everywhere is left out. So its lists stay short. Nothing is promised of it but that a leaf is right.
+//! Elimination that keeps to what a box leaves open: a sum that holds nowhere in the box closes it at once,
+//! and one that holds everywhere is left out. So its lists stay short. Nothing is promised of it but that a
+//! leaf is right.
 
 ghost use Rattle.std.specs.Prelude.{◌+◌, ◌*◌, ◌<◌, ◌≤◌, List, length, All, IfOk, IfSome};
 ghost use Rattle.linear_form.specs.declared.form.Bound.{Bound};
@@ -297,8 +298,8 @@ fn ends_of(bounds: &[Bound], coefs: &[i64]) -> (i128, i128) {
     (low, high)
 }
 
-// The leaf of a sum that holds nowhere in the box: the rows of the ranges take its variables out, one after
-// another. None where that passes a size.
+// The leaf of a sum that holds nowhere in the box: the rows of the ranges take its variables out, one
+// after another. None where that passes a size.
 fn shut_leaf(
     alloc: Global,
     bounds: &[Bound],

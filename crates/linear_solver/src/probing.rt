@@ -1,4 +1,5 @@
-//! A probe of a box: elimination that keeps to what the box leaves open, and a walk back through its lists.
+//! A probe of a box: elimination that keeps to what the box leaves open, and a walk back through its
+//! lists.
 
 ghost use Rattle.std.specs.Prelude.{IfOk, IfSome};
 ghost use Rattle.linear_form.specs.System.{IsSystem};

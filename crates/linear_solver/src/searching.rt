@@ -56,8 +56,8 @@ pub enum Step {
     Cut(Partition),
 }
 
-/// Looks for a solution in a part of a box, or for a certificate that there is none. At most `room` splits
-/// stand one within another.
+/// Looks for a solution in a part of a box, or for a certificate that there is none. At most `room`
+/// splits stand one within another.
 pub fn search(
     alloc: Global,
     rows: &[Row],
@@ -66,7 +66,8 @@ pub fn search(
     effort: &mut Effort,
 ) -> Result<Found, SolveMemory>
     requires { IsSystemPart rows.now part }
-    ensures found { (whole ranges : List Bound) → IsPart whole rows.now ranges part → IfOk result (IsFound room ranges rows.now) }
+    ensures found { (whole ranges : List Bound) → IsPart whole rows.now ranges part
+        → IfOk result (IsFound room ranges rows.now) }
     ensures decides { effort.old.limited ≡ false → height_of part ≤ room → IfOk result IsDecided }
     ensures limited { effort.new.limited ≡ effort.old.limited }
 {
@@ -97,7 +98,8 @@ pub fn search(
 }
 
 fn joined(alloc: Global, variable: u32, at: i64, low: Cert, high: Cert) -> Result<Cert, SolveMemory>
-    ensures { IfOk result (λ cert. cert_tree cert ≡ split variable at (cert_tree low) (cert_tree high)) }
+    ensures { IfOk result (λ cert.
+        cert_tree cert ≡ split variable at (cert_tree low) (cert_tree high)) }
 {
     Ok(Cert::Split {
         var: variable,

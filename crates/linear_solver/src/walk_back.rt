@@ -1,15 +1,15 @@
-//! A walk back through the lists of an elimination, which picks a value for one variable after another, the last
-//! first. Nothing is promised of what it finds: each point is tested.
+//! A walk back through the lists of an elimination, which picks a value for one variable after another,
+//! the last first. Nothing is promised of what it finds: each point is tested.
 
 use crate::derived::Derived;
 use linear_form::Bound;
 
-/// The values that are tried for a variable where a list leaves it a range: its ends, its middle, and the values next
-/// to its ends.
+// The values that are tried of what a list leaves of a range: its ends, its middle, and the values next to
+// its ends.
 const PICKS: u32 = 5;
 
-/// Sets the values of the first `left` variables, and says whether it came to an end. `picks` is the number of values
-/// that may still be tried.
+/// Sets the values of the first `left` variables, and says whether it came to an end. `picks` is the number
+/// of values that may still be tried.
 pub fn walk(
     bounds: &[Bound],
     lists: &[Vec<Derived>],
