@@ -9,3 +9,4 @@ pub mod Found
 pub mod Follows
 pub mod Probes
 pub mod Insides
+pub mod Laws

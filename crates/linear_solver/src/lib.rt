@@ -9,6 +9,7 @@ mod elimination;
 mod ends;
 mod factors;
 mod first;
+mod laws;
 mod leaf;
 mod numbered;
 mod parts;
@@ -19,3 +20,4 @@ mod walk_back;
 
 pub use answer::{Answer, CHECKER_BUDGET, SolveMemory};
 pub use decider::decide;
+pub use laws::law_elimination_sound;
