@@ -339,7 +339,7 @@ fn systems_with_their_answers(rt: HostRuntime) -> Result<(), Fail> {
     use Wanted::{NoSolution, NumberOfPoints, Solution};
     const MOST: u64 = u64::MAX;
     let alloc = rt.alloc();
-    let cases: [(&str, &[(i64, i64)], Rows, u64, Wanted); 28] = [
+    let cases: [(&str, &[(i64, i64)], Rows, u64, Wanted); 29] = [
         ("nothing", &[], NONE, 1, Solution),
         ("nothing, no budget", &[], NONE, 0, NumberOfPoints(Some(1))),
         ("no rows", &[(-3, 4), (7, 7)], NONE, 8, Solution),
@@ -419,6 +419,13 @@ fn systems_with_their_answers(rt: HostRuntime) -> Result<(), Fail> {
             GAP_OF_EIGHT,
             CHECKER_BUDGET,
             NoSolution,
+        ),
+        (
+            "gap of eight, no budget",
+            COUNTS_AND_LOADS,
+            GAP_OF_EIGHT,
+            0,
+            NumberOfPoints(Some(561_988_291_788_800)),
         ),
         (
             "gap of seven",
