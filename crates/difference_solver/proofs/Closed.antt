@@ -59,8 +59,8 @@ module _ (middle : ℕ) (old new : Table) (passes : Passes middle old new) (lm :
         still_closed_if i j within_i within_j (cases_moved middle old new passes lm i m within_i lt) (cases_moved middle old new passes lm m j lt within_j)
 
 -- the nodes from the middle on are closed
-pub closed_on : (zero steps middle : ℕ) (old new : Table) → middle + steps ≡ zero → old.size ≡ zero + 1 → Passes middle old new → pos 0 ≤ℤ (between old middle middle).bound → ((m : ℕ) → m < old.size → zero < m + steps → IsClosedAt m old) → (m : ℕ) → m < new.size → zero < m + (steps + 1) → IsClosedAt m new
-closed_on zero steps middle old new place size passes settled closed m lt reached =
+pub closed_on : (origin steps middle : ℕ) (old new : Table) → middle + steps ≡ origin → old.size ≡ origin + 1 → Passes middle old new → pos 0 ≤ℤ (between old middle middle).bound → ((m : ℕ) → m < old.size → origin < m + steps → IsClosedAt m old) → (m : ℕ) → m < new.size → origin < m + (steps + 1) → IsClosedAt m new
+closed_on origin steps middle old new place size passes settled closed m lt reached =
     let lm : middle < old.size = omega arith in
     let same = passes.size in
     elim (cases_eq m middle) [

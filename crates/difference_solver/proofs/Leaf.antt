@@ -27,8 +27,8 @@ module _ (bounds : List Bound) (rows : List Row) (system : IsSystem (record { bo
       record { short = short; low = omega (arith, ints, short, small, is.right) }
 
   -- behind fewer steps than there are nodes the distances are small
-  pub are_small : (steps zero middle : ℕ) → steps ≤ 30 → middle < table.size → IsShortBehind steps zero table → AreSmall middle table
-  are_small steps zero middle few lm short k lk =
+  pub are_small : (steps origin middle : ℕ) → steps ≤ 30 → middle < table.size → IsShortBehind steps origin table → AreSmall middle table
+  are_small steps origin middle few lm short k lk =
       let power : 2 ^ steps ≤ 2 ^ 30 = pow-le-pow_right (omega arith) few in
       let to = short.each k middle lk lm in
       let from = short.each middle k lm lk in

@@ -38,5 +38,5 @@ pub record IsClosed (table : Table) : Type 0 where
 
 -- the answer that there is no node below itself, or that this one is
 abbrev pub IsAnswer : ℕ → Table → Option ℕ → Type 0
-IsAnswer zero table None = IsClosed table
-IsAnswer zero table (Some node) = IsBelowItself table node × (length (between table node node).mults ≤ 2 ^ 31)
+IsAnswer origin table None = IsClosed table
+IsAnswer origin table (Some node) = IsBelowItself table node × (length (between table node node).mults ≤ 2 ^ 31)
