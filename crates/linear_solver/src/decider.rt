@@ -8,6 +8,7 @@ ghost use Rattle.linear_solver.specs.Found.{IsDecided, IsFound};
 
 use crate::answer::{Answer, SolveMemory};
 use crate::elimination::eliminate;
+use crate::local_search::local_point;
 use crate::parts::Part;
 use crate::searching::{Effort, Found, search};
 use linear_cert::{Cert, MAX_SPLITS};
@@ -44,7 +45,20 @@ pub fn decide(alloc: Global, system: &System, budget: u64) -> Result<Answer, Sol
     match searched(alloc, system, !is_small)? {
         Found::Refuted(cert) => Ok(Answer::Holds(cert)),
         Found::Solved(point) => Ok(Answer::Fails(point)),
-        Found::Stopped => eliminated(alloc, system, points),
+        Found::Stopped => tried(alloc, system, points),
+    }
+}
+
+// The answer by a point that a local search finds, or else by elimination.
+fn tried(alloc: Global, system: &System, points: Option<u128>) -> Result<Answer, SolveMemory>
+    requires { IsNumberOfPoints system.now.bounds points }
+    ensures decides { IfOk result (Decides system.now.bounds system.now.rows) }
+    ensures shallow { IfOk result HoldsShallowly }
+    ensures open { IfOk result (HoldsIfRefuted system.now.bounds system.now.rows) }
+{
+    match local_point(alloc, system.bounds(), system.rows())? {
+        Some(point) if system.satisfies(&point) => Ok(Answer::Fails(point)),
+        Some(_) | None => eliminated(alloc, system, points),
     }
 }
 

@@ -11,6 +11,7 @@ mod factors;
 mod first;
 mod laws;
 mod leaf;
+mod local_search;
 mod numbered;
 mod parts;
 mod probe;
