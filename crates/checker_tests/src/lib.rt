@@ -4,6 +4,10 @@
 #[cfg(test)]
 mod differences;
 #[cfg(test)]
+mod made_systems;
+#[cfg(test)]
+mod solver;
+#[cfg(test)]
 mod tests;
 #[cfg(test)]
 mod texts;

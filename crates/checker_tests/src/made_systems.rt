@@ -1,64 +1,39 @@
-//! Systems with their answers.
+//! Ranges and rows of systems that the decider is tried on.
 
-use crate::systems::{Rows, system_of};
-use linear_cert::check;
-use linear_form::System;
-use linear_solver::{Answer, decide};
-use sched_base::CHECK_BUDGET;
-use std::alloc::Global;
-use std::test::Fail;
+use crate::tests::Rows;
 
-// What the decider is to find.
-#[derive(Clone, Copy, Debug, PartialEq)]
-enum Wanted {
-    NoSolution,
-    Solution,
-    NumberOfPoints(Option<u128>),
-}
+pub(crate) const BITS: &[(i64, i64)] = &[(0, 1); 16];
 
-// What it found, where the checker says that a certificate is right, and the system that a point solves it.
-fn found(alloc: Global, system: &System, budget: u64) -> Result<Wanted, Fail> {
-    match decide(alloc, system, budget)? {
-        Answer::Holds(cert) if check(system, &cert) => Ok(Wanted::NoSolution),
-        Answer::Holds(_wrong) => Err("a wrong certificate")?,
-        Answer::Fails(point) if system.satisfies(&point) => Ok(Wanted::Solution),
-        Answer::Fails(_wrong) => Err("a wrong point")?,
-        Answer::Undecided(points) => Ok(Wanted::NumberOfPoints(points)),
-    }
-}
+pub(crate) const FIFTEEN_BITS: &[(i64, i64)] = &[(0, 1); 15];
 
-const BITS: &[(i64, i64)] = &[(0, 1); 16];
-
-const FIFTEEN_BITS: &[(i64, i64)] = &[(0, 1); 15];
-
-const WIDE: (i64, i64) = (-(1 << 41), 1 << 41);
+pub(crate) const WIDE: (i64, i64) = (-(1 << 41), 1 << 41);
 
 // No row.
-const NONE: Rows = &[];
+pub(crate) const NONE: Rows = &[];
 
 // Zero is at most 0.
-const EMPTY: Rows = &[(&[], 0)];
+pub(crate) const EMPTY: Rows = &[(&[], 0)];
 
 // Zero is at most -1.
-const EMPTY_BELOW: Rows = &[(&[], -1)];
+pub(crate) const EMPTY_BELOW: Rows = &[(&[], -1)];
 
 // Three times the variable is at most 15.
-const FIVE: Rows = &[(&[(0, 3)], 15)];
+pub(crate) const FIVE: Rows = &[(&[(0, 3)], 15)];
 
 // Three times the variable is at most 14.
-const BELOW_FIVE: Rows = &[(&[(0, 3)], 14)];
+pub(crate) const BELOW_FIVE: Rows = &[(&[(0, 3)], 14)];
 
 // The variable is at least 100.
-const HUNDRED: Rows = &[(&[(0, -1)], -100)];
+pub(crate) const HUNDRED: Rows = &[(&[(0, -1)], -100)];
 
 // Three times the variable lies between 97 and 100.
-const THIRTY_THREE: Rows = &[(&[(0, 3)], 100), (&[(0, -3)], -97)];
+pub(crate) const THIRTY_THREE: Rows = &[(&[(0, 3)], 100), (&[(0, -3)], -97)];
 
 // Twice the variable is at most 1 and at least 1.
-const HALF: Rows = &[(&[(0, 2)], 1), (&[(0, -2)], -1)];
+pub(crate) const HALF: Rows = &[(&[(0, 2)], 1), (&[(0, -2)], -1)];
 
 // Twice the sum of fifteen variables is 15.
-const ODD_SUM: Rows = &[
+pub(crate) const ODD_SUM: Rows = &[
     (
         &[
             (0, 2),
@@ -102,7 +77,7 @@ const ODD_SUM: Rows = &[
 ];
 
 // Three equations that no choice of sixteen bits meets.
-const THREE_EQUATIONS: Rows = &[
+pub(crate) const THREE_EQUATIONS: Rows = &[
     (
         &[
             (0, 40),
@@ -232,18 +207,18 @@ const THREE_EQUATIONS: Rows = &[
 ];
 
 // The third variable is the sum of the first two, and the first two differ by more than it.
-const TRIANGLE: Rows = &[
+pub(crate) const TRIANGLE: Rows = &[
     (&[(0, 1), (1, 1), (2, -1)], 0),
     (&[(0, -1), (1, -1), (2, 1)], 0),
     (&[(0, -1), (1, 1), (2, 1)], -1),
 ];
 
 // A multiple of 6 lies between 3 and 5 past a multiple of 10.
-const MULTIPLES: Rows = &[(&[(0, 6), (1, -10)], 5), (&[(0, -6), (1, 10)], -3)];
+pub(crate) const MULTIPLES: Rows = &[(&[(0, 6), (1, -10)], 5), (&[(0, -6), (1, 10)], -3)];
 
 // Threads weigh 1 to 8. A core lets another one's thread go whose load is more than 8 above its own, and the thread
 // is at least as heavy as the loads are apart. The variables are the cores' counts and loads, and the weight.
-const GAP_OF_EIGHT: Rows = &[
+pub(crate) const GAP_OF_EIGHT: Rows = &[
     (&[(0, 1), (1, -1)], 0),
     (&[(0, -8), (1, 1)], 0),
     (&[(2, 1), (3, -1)], 0),
@@ -254,7 +229,7 @@ const GAP_OF_EIGHT: Rows = &[
 ];
 
 // The same of a load that is more than 7 above.
-const GAP_OF_SEVEN: Rows = &[
+pub(crate) const GAP_OF_SEVEN: Rows = &[
     (&[(0, 1), (1, -1)], 0),
     (&[(0, -8), (1, 1)], 0),
     (&[(2, 1), (3, -1)], 0),
@@ -264,10 +239,16 @@ const GAP_OF_SEVEN: Rows = &[
     (&[(1, -1), (3, 1), (4, -1)], 0),
 ];
 
-const COUNTS_AND_LOADS: &[(i64, i64)] = &[(0, 1023), (0, 8184), (0, 1023), (0, 8184), (1, 8)];
+pub(crate) const COUNTS_AND_LOADS: &[(i64, i64)] = &[
+    (0, 1023),
+    (0, 8184),
+    (0, 1023),
+    (0, 8184),
+    (1, 8),
+];
 
 // Threads weigh 1 to 1,048,575, and the loads' difference stands times 2^20.
-const SCALED_GAP: Rows = &[
+pub(crate) const SCALED_GAP: Rows = &[
     (&[(0, 1), (1, -1)], 0),
     (&[(0, -1_048_575), (1, 1)], 0),
     (&[(2, 1), (3, -1)], 0),
@@ -277,7 +258,7 @@ const SCALED_GAP: Rows = &[
     (&[(1, -1), (3, 1), (4, -1)], 0),
 ];
 
-const WIDE_COUNTS_AND_LOADS: &[(i64, i64)] = &[
+pub(crate) const WIDE_COUNTS_AND_LOADS: &[(i64, i64)] = &[
     (0, 1023),
     (0, 1_072_692_225),
     (0, 1023),
@@ -286,7 +267,7 @@ const WIDE_COUNTS_AND_LOADS: &[(i64, i64)] = &[
 ];
 
 // One equation with coefficients near 2^40.
-const LARGE_EQUATION: Rows = &[
+pub(crate) const LARGE_EQUATION: Rows = &[
     (
         &[
             (0, 1099511102130),
@@ -331,152 +312,6 @@ const LARGE_EQUATION: Rows = &[
     ),
 ];
 
-const TRITS: &[(i64, i64)] = &[(0, 2); 16];
+pub(crate) const TRITS: &[(i64, i64)] = &[(0, 2); 16];
 
-const WIDE_RANGES: &[(i64, i64)] = &[WIDE; 30];
-
-#[test]
-fn systems_with_their_answers(rt: HostRuntime) -> Result<(), Fail> {
-    use Wanted::{NoSolution, NumberOfPoints, Solution};
-    const MOST: u64 = u64::MAX;
-    let alloc = rt.alloc();
-    let cases: [(&str, &[(i64, i64)], Rows, u64, Wanted); 29] = [
-        ("nothing", &[], NONE, 1, Solution),
-        ("nothing, no budget", &[], NONE, 0, NumberOfPoints(Some(1))),
-        ("no rows", &[(-3, 4), (7, 7)], NONE, 8, Solution),
-        ("no variables", &[], EMPTY, 1, Solution),
-        ("an empty row below 0", &[], EMPTY_BELOW, 1, NoSolution),
-        (
-            "an empty row below 0, past the budget",
-            &[WIDE],
-            EMPTY_BELOW,
-            1,
-            NoSolution,
-        ),
-        ("half", &[(0, 1)], HALF, 2, NoSolution),
-        (
-            "half, no budget",
-            &[(0, 1)],
-            HALF,
-            0,
-            NumberOfPoints(Some(2)),
-        ),
-        ("half, past the budget", &[(0, 1)], HALF, 1, NoSolution),
-        ("one value", &[(5, 5)], FIVE, 1, Solution),
-        ("one value too great", &[(5, 5)], BELOW_FIVE, 1, NoSolution),
-        ("the greatest value", &[(0, 100)], HUNDRED, 101, Solution),
-        (
-            "the only value between",
-            &[(0, 100)],
-            THIRTY_THREE,
-            101,
-            Solution,
-        ),
-        (
-            "a sum of wide ranges",
-            &[WIDE, WIDE, WIDE],
-            TRIANGLE,
-            CHECK_BUDGET,
-            Solution,
-        ),
-        (
-            "a sum of ranges above 0",
-            &[(0, 1 << 40), (0, 1 << 40), (0, 1 << 40)],
-            TRIANGLE,
-            CHECK_BUDGET,
-            NoSolution,
-        ),
-        (
-            "multiples",
-            &[(0, 90), (0, 90)],
-            MULTIPLES,
-            CHECK_BUDGET,
-            Solution,
-        ),
-        (
-            "odd sum of bits",
-            FIFTEEN_BITS,
-            ODD_SUM,
-            CHECK_BUDGET,
-            NoSolution,
-        ),
-        (
-            "three equations of bits",
-            BITS,
-            THREE_EQUATIONS,
-            CHECK_BUDGET,
-            NoSolution,
-        ),
-        (
-            "three equations of bits, past the budget",
-            BITS,
-            THREE_EQUATIONS,
-            1,
-            NoSolution,
-        ),
-        (
-            "gap of eight",
-            COUNTS_AND_LOADS,
-            GAP_OF_EIGHT,
-            CHECK_BUDGET,
-            NoSolution,
-        ),
-        (
-            "gap of eight, no budget",
-            COUNTS_AND_LOADS,
-            GAP_OF_EIGHT,
-            0,
-            NumberOfPoints(Some(561_988_291_788_800)),
-        ),
-        (
-            "gap of seven",
-            COUNTS_AND_LOADS,
-            GAP_OF_SEVEN,
-            CHECK_BUDGET,
-            Solution,
-        ),
-        (
-            "scaled gap",
-            WIDE_COUNTS_AND_LOADS,
-            SCALED_GAP,
-            CHECK_BUDGET,
-            NoSolution,
-        ),
-        (
-            "large equation",
-            TRITS,
-            LARGE_EQUATION,
-            CHECK_BUDGET,
-            NumberOfPoints(Some(43_046_721)),
-        ),
-        ("wide ranges", WIDE_RANGES, NONE, CHECK_BUDGET, Solution),
-        (
-            "wide ranges, no budget",
-            WIDE_RANGES,
-            NONE,
-            0,
-            NumberOfPoints(None),
-        ),
-        ("one point", &[(1, 1)], NONE, 1, Solution),
-        (
-            "as many points as the budget",
-            &[(0, 1), (0, 2)],
-            HALF,
-            6,
-            NoSolution,
-        ),
-        (
-            "the greatest budget",
-            &[(0, 1 << 20), (0, 1 << 20)],
-            HALF,
-            MOST,
-            NoSolution,
-        ),
-    ];
-    for (name, ranges, rows, budget, wanted) in cases {
-        let system = system_of(alloc, ranges, rows)?;
-        let answer = found(alloc, &system, budget)?;
-        assert_eq!(rt; answer, wanted, "{name}");
-    }
-    Ok(())
-}
+pub(crate) const WIDE_RANGES: &[(i64, i64)] = &[WIDE; 30];
