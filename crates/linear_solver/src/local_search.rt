@@ -18,18 +18,63 @@ pub fn local_point(
     bounds: &[Bound],
     rows: &[Row],
 ) -> Result<Option<Point>, AllocError> {
-    let mut values = Vec::new(alloc);
+    let mut values = Vec::with_capacity(alloc, bounds.len())?;
     for range in bounds {
         values.push(range.lo.midpoint(range.hi))?;
     }
-    let mut weights = Vec::new(alloc);
-    for _row in rows {
-        weights.push(1)?;
+    let mut states = Vec::with_capacity(alloc, rows.len())?;
+    for row in rows {
+        states.push(State {
+            over: excess(row, values.as_slice()),
+            weight: 1,
+        })?;
     }
-    if settles(bounds, rows, weights.as_mut_slice(), values.as_mut_slice()) {
+    let columns = columns_of(alloc, bounds.len(), rows)?;
+    if settles(
+        bounds,
+        rows,
+        columns.as_slice(),
+        states.as_mut_slice(),
+        values.as_mut_slice(),
+    ) {
         return Ok(point_of(values));
     }
     Ok(None)
+}
+
+// How a row stands.
+#[derive(Clone, Copy)]
+struct State {
+    // By how much its left side is over its bound.
+    over: i128,
+    // One more than how often it was taken.
+    weight: u64,
+}
+
+// For each variable its coefficient in each row.
+fn columns_of(alloc: Global, variables: usize, rows: &[Row]) -> Result<Vec<Vec<i64>>, AllocError> {
+    let mut columns = Vec::with_capacity(alloc, variables)?;
+    for variable in 0..variables {
+        match columns.push(column_of(alloc, variable, rows)?) {
+            Ok(()) => {}
+            Err(failed) => return Err(failed.into()),
+        }
+    }
+    Ok(columns)
+}
+
+fn column_of(alloc: Global, variable: usize, rows: &[Row]) -> Result<Vec<i64>, AllocError> {
+    let mut column = Vec::with_capacity(alloc, rows.len())?;
+    for row in rows {
+        let mut coef = 0;
+        for term in row.terms.as_slice() {
+            if term.var as usize == variable {
+                coef = term.coef;
+            }
+        }
+        column.push(coef)?;
+    }
+    Ok(column)
 }
 
 fn point_of(values: Vec<i64>) -> Option<Point> {
@@ -45,43 +90,68 @@ fn point_of(values: Vec<i64>) -> Option<Point> {
 const MAX_VALUES: usize = 1 << 10;
 
 // Changes values until every row holds, or the effort is spent.
-fn settles(bounds: &[Bound], rows: &[Row], weights: &mut [u64], values: &mut [i64]) -> bool {
+fn settles(
+    bounds: &[Bound],
+    rows: &[Row],
+    columns: &[Vec<i64>],
+    states: &mut [State],
+    values: &mut [i64],
+) -> bool {
     let mut chance = SEED;
-    let mut looks = 0;
+    let mut looks: u64 = 0;
     for _step in 0..MAX_LOOKS {
         chance = next_chance(chance);
-        let Some(number) = failing(rows, values, chance) else {
-            return true;
+        let number = match failing(states, chance) {
+            Some(number) => number,
+            None => return true,
         };
-        if number >= rows.len() || looks > MAX_LOOKS {
+        if number >= rows.len() || number >= states.len() || looks > MAX_LOOKS {
             return false;
         }
         let row = &rows[number];
-        if let Some(change) = best_change(bounds, rows, weights, values, row, chance) {
-            if change.variable < values.len() {
-                values[change.variable] = change.value;
-            }
+        if let Some(change) = best_change(
+            bounds,
+            columns,
+            states,
+            values,
+            row,
+            states[number].over,
+            chance,
+        ) {
+            make(change, columns, states, values);
         }
-        if number < weights.len() {
-            weights[number] = weights[number].saturating_add(1);
-        }
-        looks = looks.saturating_add(
-            (rows.len() as u64).saturating_mul(u64::from(row.terms.len())),
-        );
+        states[number].weight = states[number].weight.saturating_add(1);
+        let terms = u64::from(row.terms.len()).saturating_add(1);
+        looks = looks.saturating_add((rows.len() as u64).saturating_mul(terms));
     }
     false
 }
 
+fn make(change: Change, columns: &[Vec<i64>], states: &mut [State], values: &mut [i64]) {
+    if change.variable >= values.len() || change.variable >= columns.len() {
+        return;
+    }
+    let by = i128::from(change.value).saturating_sub(i128::from(values[change.variable]));
+    values[change.variable] = change.value;
+    let column = columns[change.variable].as_slice();
+    for number in 0..states.len() {
+        if number < column.len() {
+            let more = i128::from(column[number]).saturating_mul(by);
+            states[number].over = states[number].over.saturating_add(more);
+        }
+    }
+}
+
 // A row that doesn't hold, by chance one of the first or a later one.
-fn failing(rows: &[Row], values: &[i64], chance: u64) -> Option<usize> {
+fn failing(states: &[State], chance: u64) -> Option<usize> {
     let mut found = None;
     let mut dice = chance;
     let mut count: u64 = 0;
-    for (number, row) in rows.iter().enumerate() {
-        if excess(row, values) > 0 {
+    for (number, state) in states.iter().enumerate() {
+        if state.over > 0 {
             dice = next_chance(dice);
             count = count.saturating_add(1);
-            if (dice >> 33) % count == 0 {
+            if (dice >> 33) % count.max(1) == 0 {
                 found = Some(number);
             }
         }
@@ -99,25 +169,24 @@ struct Change {
 // The change by which the row comes to hold, or nearly so, that lets the rows fail by the least.
 fn best_change(
     bounds: &[Bound],
-    rows: &[Row],
-    weights: &[u64],
-    values: &mut [i64],
+    columns: &[Vec<i64>],
+    states: &[State],
+    values: &[i64],
     row: &Row,
+    over: i128,
     chance: u64,
 ) -> Option<Change> {
-    let over = excess(row, values);
     let mut best = None;
     let mut least = i128::MAX;
     let mut dice = chance;
     for term in row.terms.as_slice() {
         let variable = term.var as usize;
-        if variable < bounds.len() && variable < values.len() {
+        if variable < bounds.len() && variable < values.len() && variable < columns.len() {
             let old = values[variable];
             let value = moved(bounds[variable], old, term.coef, over);
-            values[variable] = value;
+            let by = i128::from(value).saturating_sub(i128::from(old));
             dice = next_chance(dice);
-            let cost = shaken(failure(rows, weights, values), dice);
-            values[variable] = old;
+            let cost = shaken(failure(states, columns[variable].as_slice(), by), dice);
             if value != old && cost < least {
                 least = cost;
                 best = Some(Change { variable, value });
@@ -159,12 +228,15 @@ fn excess(row: &Row, values: &[i64]) -> i128 {
     sum.saturating_sub(i128::from(row.bound))
 }
 
-// By how much the rows fail, times their weights.
-fn failure(rows: &[Row], weights: &[u64], values: &[i64]) -> i128 {
+// By how much the rows fail, times their weights, once a variable with this column grows so much.
+fn failure(states: &[State], column: &[i64], by: i128) -> i128 {
     let mut sum: i128 = 0;
-    for (row, weight) in rows.iter().zip(weights.iter()) {
-        let over = excess(row, values).max(0);
-        sum = sum.saturating_add(over.saturating_mul(i128::from(*weight)));
+    for (state, coef) in states.iter().zip(column.iter()) {
+        let over = state
+            .over
+            .saturating_add(i128::from(*coef).saturating_mul(by))
+            .max(0);
+        sum = sum.saturating_add(over.saturating_mul(i128::from(state.weight)));
     }
     sum
 }
