@@ -6,8 +6,8 @@ use linear_form::{Bound, Point, Row};
 use lists::Items;
 use std::alloc::{AllocError, Global};
 
-// The rows that it may look at. It takes some milliseconds.
-const MAX_LOOKS: u64 = 1 << 20;
+// The rows that it may look at.
+const MAX_LOOKS: u64 = 1 << 19;
 
 // The seed of chance, always the same.
 const SEED: u64 = 0x9E37_79B9_7F4A_7C15;
