@@ -5,8 +5,8 @@ ghost use Rattle.linear_form.specs.System.{IsBound, IsRow, IsTerm};
 ghost use Rattle.linear_solver.specs.Boxes.{IsImplied, IsRefuted, greatest, greatest_term, least, least_term, low_ends};
 
 use linear_form::{Bound, Row, Term};
-use sched_base::MAX_VARIABLES;
 use lists::Items;
+use sched_base::MAX_VARIABLES;
 use std::alloc::{AllocError, Global};
 
 /// The least value of the left side over the box.

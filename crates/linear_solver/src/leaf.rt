@@ -8,8 +8,8 @@ ghost use Rattle.linear_solver.specs.Leaves.{multipliers_from};
 
 use linear_cert::{Mult, MultList};
 use linear_form::{Row, Term};
-use sched_base::{MAX_ROWS, MAX_VARIABLES};
 use lists::Items;
+use sched_base::{MAX_ROWS, MAX_VARIABLES};
 use std::alloc::{AllocError, Global};
 
 /// The leaf of these multipliers of the numbered rows, without those that are 0.
