@@ -1,0 +1,26 @@
+-- Laws: what the names stand for, and that the systems say what the statements say.
+use Rattle.std.specs.Prelude.{◌≡◌, ℕ, ◌↔◌, List, All, map, length}
+use Rattle.linear_form.specs.Solution.{HasNoSolution}
+use Rattle.linear_form.specs.System.{LinearSystem}
+use Rattle.policy_tree.specs.Meaning.{Meaning}
+use Rattle.policy_eval.specs.Obligations.{IsMet, Statement, statements_of}
+use Rattle.policy_eval.specs.Resolved.{IsResolved}
+use Rattle.obligations.specs.Names.{ob_names, statement_of}
+use Rattle.obligations.specs.Counts.{case_count}
+use Rattle.obligations.specs.Systems.{refuting_cases, systems_of}
+
+-- The names are those of a policy's statements, in their order.
+abbrev pub NamesAreStatements : Type 0
+NamesAreStatements = (p : Meaning) → statements_of p ≡ map statement_of ob_names
+
+-- no system of the list has a solution
+abbrev pub HaveNoSolution : List LinearSystem → Type 0
+HaveNoSolution systems = All (λ (system : LinearSystem). HasNoSolution system.bounds system.rows) systems
+
+-- A resolved policy meets a statement exactly where none of the statement's systems has a solution in whole numbers.
+abbrev pub SystemsAreStatements : Type 0
+SystemsAreStatements = (p : Meaning) → IsResolved p → (s : Statement) → IsMet p s ↔ HaveNoSolution (systems_of p s)
+
+-- There are as many cases as are counted.
+abbrev pub CountsAreCases : Type 0
+CountsAreCases = (p : Meaning) (s : Statement) → length (refuting_cases p s) ≡ case_count p s

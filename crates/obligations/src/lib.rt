@@ -1,0 +1,12 @@
+//! Every obligation of a policy as systems of linear rows: it holds exactly where none of them has a solution.
+#![tactic(auto)]
+
+mod counts;
+pub mod laws;
+mod names;
+mod obligation;
+mod variables;
+
+pub use counts::MAX_COUNT;
+pub use names::{OB_NAME_ROOM, ObName, ob_name, ob_names};
+pub use obligation::{Obligation, Obligations, SystemList, VarList};
