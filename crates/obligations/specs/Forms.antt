@@ -26,11 +26,13 @@ at_weight weight form = record {
   coefficient = λ v. cond (v == WEIGHT) (pos 0) (form.coefficient v);
 }
 
+-- the form of the expression as it stands
+abbrev pub plain_form : ExprTree → LinearForm
+plain_form e = record { constant = constant_of e; coefficient = coefficient_of e }
+
 -- the form of the expression; the weight of a thread is a number where all threads weigh the same
 abbrev pub form_of : Load → ExprTree → LinearForm
-form_of load e =
-    let form : LinearForm = record { constant = constant_of e; coefficient = coefficient_of e } in
-    cond (weighs_one load) (at_weight (least_weight load) form) form
+form_of load e = cond (weighs_one load) (at_weight (least_weight load) (plain_form e)) (plain_form e)
 
 -- the form with the other sign
 abbrev pub opposite : LinearForm → LinearForm

@@ -16,11 +16,11 @@ weighted_plus : (c d : ℕ → ℤ) (i : ℕ) (xs : List ℤ) → weighted (λ v
 weighted_plus c d i [] = refl
 weighted_plus c d i (x ∷ xs) = let rest = weighted_plus c d (suc i) xs in let here = +ℤ-*ℤ (c i) (d i) x in omega (arith, ints)
 
-weighted_minus : (c d : ℕ → ℤ) (i : ℕ) (xs : List ℤ) → weighted (λ v. c v -ℤ d v) i xs ≡ weighted c i xs -ℤ weighted d i xs
+pub weighted_minus : (c d : ℕ → ℤ) (i : ℕ) (xs : List ℤ) → weighted (λ v. c v -ℤ d v) i xs ≡ weighted c i xs -ℤ weighted d i xs
 weighted_minus c d i [] = refl
 weighted_minus c d i (x ∷ xs) = let rest = weighted_minus c d (suc i) xs in let here = -ℤ-*ℤ (c i) (d i) x in omega (arith, ints)
 
-weighted_negated : (c : ℕ → ℤ) (i : ℕ) (xs : List ℤ) → weighted (λ v. neg_ℤ (c v)) i xs ≡ neg_ℤ (weighted c i xs)
+pub weighted_negated : (c : ℕ → ℤ) (i : ℕ) (xs : List ℤ) → weighted (λ v. neg_ℤ (c v)) i xs ≡ neg_ℤ (weighted c i xs)
 weighted_negated c i [] = refl
 weighted_negated c i (x ∷ xs) = let rest = weighted_negated c (suc i) xs in let here = neg_ℤ-*ℤ (c i) x in omega (arith, ints)
 

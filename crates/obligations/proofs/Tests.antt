@@ -1,0 +1,26 @@
+-- Tests of whole numbers, moved from one side to the other.
+use Rattle.std.proofs.Common.{◌≡◌, ℕ, ℤ, pos, negsuc, neg_ℤ, ◌+ℤ◌, ◌-ℤ◌, int_le, int_lt, Bool, true, false, not, ◌&&◌, ◌||◌, arith}
+use Rattle.std.specs.Ordering.{int_eq}
+use Rattle.std.proofs.lemmas.Int.{ints}
+
+-- a constant that is moved to the other side
+pub le_moved : (w k c : ℤ) → int_le w (k -ℤ c) ≡ int_le (c +ℤ w) k
+le_moved w k c = grind (arith, ints)
+
+pub le_zero : (x y : ℤ) → int_le (x -ℤ y) (pos 0) ≡ int_le x y
+le_zero x y = grind (arith, ints)
+
+pub lt_zero : (x y : ℤ) → int_le (x -ℤ y) (negsuc 0) ≡ int_lt x y
+lt_zero x y = grind (arith, ints)
+
+pub ge_zero : (x y : ℤ) → int_le (neg_ℤ (x -ℤ y)) (pos 0) ≡ int_le y x
+ge_zero x y = grind (arith, ints)
+
+pub gt_zero : (x y : ℤ) → int_le (neg_ℤ (x -ℤ y)) (negsuc 0) ≡ int_lt y x
+gt_zero x y = grind (arith, ints)
+
+pub eq_zero : (x y : ℤ) → (int_le (x -ℤ y) (pos 0) && (int_le (neg_ℤ (x -ℤ y)) (pos 0) && true)) ≡ int_eq x y
+eq_zero x y = grind (arith, ints)
+
+pub ne_zero : (x y : ℤ) → (int_le (x -ℤ y) (negsuc 0) || (int_le (neg_ℤ (x -ℤ y)) (negsuc 0) || false)) ≡ not (int_eq x y)
+ne_zero x y = grind (arith, ints)
