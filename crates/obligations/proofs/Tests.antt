@@ -1,5 +1,5 @@
 -- Tests of whole numbers, moved from one side to the other.
-use Rattle.std.proofs.Common.{◌≡◌, ℕ, ℤ, pos, negsuc, neg_ℤ, ◌+ℤ◌, ◌-ℤ◌, int_le, int_lt, Bool, true, false, not, ◌&&◌, ◌||◌, arith}
+use Rattle.std.proofs.Common.{◌≡◌, ℕ, ℤ, pos, negsuc, neg_ℤ, ◌+ℤ◌, ◌-ℤ◌, int_le, int_lt, Bool, true, false, not, ◌&&◌, ◌||◌, ◌≤ℤ◌, refl, arith}
 use Rattle.std.specs.Ordering.{int_eq}
 use Rattle.std.proofs.lemmas.Int.{ints}
 
@@ -24,3 +24,25 @@ eq_zero x y = grind (arith, ints)
 
 pub ne_zero : (x y : ℤ) → (int_le (x -ℤ y) (negsuc 0) || (int_le (neg_ℤ (x -ℤ y)) (negsuc 0) || false)) ≡ not (int_eq x y)
 ne_zero x y = grind (arith, ints)
+
+pub le_tells : (x y : ℤ) → int_le x y ≡ true → x ≤ℤ y
+le_tells x y e = grind (arith, ints)
+
+pub le_told : (x y : ℤ) → x ≤ℤ y → int_le x y ≡ true
+le_told x y le = grind (arith, ints)
+
+pub and_true : (a b : Bool) → (a && b) ≡ true → (a ≡ true) × (b ≡ true)
+and_true true b e = (refl, e)
+and_true false b e = absurd (cc)
+
+pub true_and : (a b : Bool) → a ≡ true → b ≡ true → (a && b) ≡ true
+true_and true b e f = f
+true_and false b e f = e
+
+pub or_left : (b c : Bool) → b ≡ true → (b || c) ≡ true
+or_left true c e = refl
+or_left false c e = absurd (cc)
+
+pub or_right : (b c : Bool) → c ≡ true → (b || c) ≡ true
+or_right true c e = refl
+or_right false c e = e
