@@ -49,6 +49,10 @@ abbrev pub pairs_of : {X : Type 0} → List X → List (X × X)
 pairs_of [] = []
 pairs_of (x ∷ xs) = map (λ y. (x, y)) xs ++ pairs_of xs
 
+-- both conditions of a pair hold
+abbrev pub both_of : CondTree × CondTree → CondTree
+both_of pair = both pair.0 pair.1
+
 -- one of the conditions holds
 abbrev pub any_of : List CondTree → CondTree
 any_of [] = negated always
@@ -68,5 +72,5 @@ abbrev pub refutation : Meaning → Statement → CondTree
 refutation p idle_sees_overloaded = both (both (cores_fit p.load) idle_and_overloaded) (negated p.filter)
 refutation p victim_is_overloaded = both (both (cores_fit p.load) victim_has_one) p.filter
 refutation p move_narrows_gap = both (both (cores_fit p.load) (both (has_thread p.load) gap_is_small)) p.filter
-refutation p (no_overlap e) = any_of (map (λ pair. both pair.0 pair.1) (pairs_of (guards_on p e)))
+refutation p (no_overlap e) = any_of (map both_of (pairs_of (guards_on p e)))
 refutation p (no_gap e) = all_of (map negated (guards_on p e))
