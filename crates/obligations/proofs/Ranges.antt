@@ -14,7 +14,7 @@ use Rattle.obligations.proofs.Kept.{AllByRecursion-append}
 abbrev pub IsNotEmpty : Range → Type 0
 IsNotEmpty r = r.low ≤ℤ r.high
 
-length-attribute_ranges : (attrs : List Attr) → length attrs ≤ 8 → length (attribute_ranges attrs) ≡ 8
+pub length-attribute_ranges : (attrs : List Attr) → length attrs ≤ 8 → length (attribute_ranges attrs) ≡ 8
 length-attribute_ranges attrs few =
     let long = length-append (map declared_range attrs) (replicate (8 - length attrs) (range (pos 0) (pos 0))) in
     let each = length-map attrs declared_range in
@@ -25,8 +25,8 @@ pub length-variable_ranges : (p : Meaning) → IsResolved p → length (variable
 length-variable_ranges p is =
     let core = length-attribute_ranges p.core_attrs is.core_attrs.few in
     let thread = length-attribute_ranges p.thread_attrs is.thread_attrs.few in
-    let all = length-append (attribute_ranges p.core_attrs) (attribute_ranges p.core_attrs ++ attribute_ranges p.thread_attrs) in
-    let later = length-append (attribute_ranges p.core_attrs) (attribute_ranges p.thread_attrs) in
+    let all = length-append (attribute_ranges p.core_attrs ++ attribute_ranges p.core_attrs) (attribute_ranges p.thread_attrs) in
+    let earlier = length-append (attribute_ranges p.core_attrs) (attribute_ranges p.core_attrs) in
     omega arith
 
 declared_ranges-not_empty : (attrs : List Attr) → All IsAttribute attrs → AllByRecursion IsNotEmpty (map declared_range attrs)
@@ -39,7 +39,7 @@ zeros-not_empty : (n : ℕ) → AllByRecursion IsNotEmpty (replicate n (range (p
 zeros-not_empty zero = tt
 zeros-not_empty (suc n) = (omega (arith, ints), zeros-not_empty n)
 
-attribute_ranges-not_empty : (attrs : List Attr) → AreAttributes attrs → AllByRecursion IsNotEmpty (attribute_ranges attrs)
+pub attribute_ranges-not_empty : (attrs : List Attr) → AreAttributes attrs → AllByRecursion IsNotEmpty (attribute_ranges attrs)
 attribute_ranges-not_empty attrs are =
     AllByRecursion-append IsNotEmpty (map declared_range attrs) (replicate (8 - length attrs) (range (pos 0) (pos 0)))
     (declared_ranges-not_empty attrs are.each) (zeros-not_empty (8 - length attrs))
@@ -61,8 +61,8 @@ variable_ranges-not_empty p is =
               omega (arith, ints),
               (
                 omega (arith, ints),
-                AllByRecursion-append IsNotEmpty (attribute_ranges p.core_attrs) (attribute_ranges p.core_attrs ++ attribute_ranges p.thread_attrs) core
-                (AllByRecursion-append IsNotEmpty (attribute_ranges p.core_attrs) (attribute_ranges p.thread_attrs) core thread),
+                AllByRecursion-append IsNotEmpty (attribute_ranges p.core_attrs ++ attribute_ranges p.core_attrs) (attribute_ranges p.thread_attrs)
+                (AllByRecursion-append IsNotEmpty (attribute_ranges p.core_attrs) (attribute_ranges p.core_attrs) core core) thread,
               ),
             ),
           ),

@@ -25,7 +25,7 @@ variable_ranges p =
     ∷ range (pos 0) (pos (MAX_THREADS * greatest_weight p.load))
     ∷ range (pos (least_weight p.load)) (pos (greatest_weight p.load))
     ∷ range (pos 0) (pos 1)
-    ∷ (attribute_ranges p.core_attrs ++ (attribute_ranges p.core_attrs ++ attribute_ranges p.thread_attrs))
+    ∷ (attribute_ranges p.core_attrs ++ attribute_ranges p.core_attrs ++ attribute_ranges p.thread_attrs)
 
 -- the range of a variable, as a system has it
 abbrev pub bound_of : Meaning → ℕ → Bound
