@@ -1,16 +1,14 @@
 -- Values that agree on what a condition may refer to give it the same outcome.
-use Rattle.std.proofs.Common.{◌≡◌, ℕ, zero, suc, ◌+◌, ◌-◌, ◌<◌, ◌≤◌, ℤ, pos, ◌+ℤ◌, ◌-ℤ◌, ◌*ℤ◌, neg_ℤ, Bool, true, false, not, ◌&&◌, ◌||◌, ◌⊎◌, ⊎_elim, List, [], ◌∷◌, ◌++◌, length, get_or, refl, sym, ap, ap₂, ◌∙◌, subst, arith}
+use Rattle.std.proofs.Common.{◌≡◌, ℕ, zero, suc, ◌-◌, ◌<◌, ◌≤◌, ℤ, pos, ◌+ℤ◌, ◌-ℤ◌, ◌*ℤ◌, neg_ℤ, Bool, true, not, ◌&&◌, ◌||◌, ◌⊎◌, ⊎_elim, List, ◌∷◌, ◌++◌, length, get_or, refl, sym, ap, ap₂, ◌∙◌, arith}
 use Rattle.std.proofs.lemmas.Bool.Decides.{nat_tests}
-use Rattle.std.proofs.lemmas.List.{append_assoc, get_or_append_left, get_or-append_right, length-append}
-use Rattle.policy_tree.specs.declared.typed.Attr.{Attr}
+use Rattle.std.proofs.lemmas.List.{get_or_append_left, get_or-append_right, length-append}
 use Rattle.policy_tree.specs.declared.typed.Event.{Event}
 use Rattle.policy_tree.specs.declared.typed.Event.TheVariants as event
 use Rattle.policy_tree.specs.Trees.{ExprTree, number, variable, negation, plus, minus, times, CondTree, always, negated, both, either, test}
 use Rattle.policy_tree.specs.Meaning.{Meaning}
 use Rattle.policy_eval.specs.Forms.{EachSide, RefersTo}
-use Rattle.policy_eval.specs.Resolved.{IsResolved, IsResolvedExpr}
 use Rattle.policy_eval.specs.Sights.{assigned}
-use Rattle.policy_eval.specs.Sites.{Site, allows, filtering, handling}
+use Rattle.policy_eval.specs.Sites.{allows, filtering, handling}
 use Rattle.policy_eval.specs.Values.{Assignment, compared, holds, value_of, variable_of}
 
 -- the values agree on the variables that are allowed
@@ -86,8 +84,8 @@ module _ (p : Meaning) (few_core : length p.core_attrs ≤ 8) (few_thread : leng
       ⊎_elim
       (λ (low : at < 4). first_four nr load victim_nr victim_load (pos weight ∷ pos fresh ∷ (own ++ victims ++ attrs)) (pos other_weight ∷ pos other_fresh ∷ (own ++ victims ++ other_attrs)) at low)
       (λ (high : (6 ≤ at) × (at < 22)).
-        core_attribute nr load victim_nr victim_load weight fresh own victims attrs own_long victims_long at high.0 high.1
-        ∙ sym (core_attribute nr load victim_nr victim_load other_weight other_fresh own victims other_attrs own_long victims_long at high.0 high.1))
+      core_attribute nr load victim_nr victim_load weight fresh own victims attrs own_long victims_long at high.0 high.1
+      ∙ sym (core_attribute nr load victim_nr victim_load other_weight other_fresh own victims other_attrs own_long victims_long at high.0 high.1))
       (pair_places at allowed)
 
   event_places : (e : Event) (at : ℕ) → allows p (handling e) at ≡ true → ((at ≡ 4) ⊎ (at ≡ 5)) ⊎ (((6 ≤ at) × (at < 14)) ⊎ (22 ≤ at))
@@ -103,13 +101,13 @@ module _ (p : Meaning) (few_core : length p.core_attrs ≤ 8) (few_thread : leng
   event_agrees e own victims others attrs own_long victims_long others_long nr load victim_nr victim_load weight fresh at allowed =
       ⊎_elim
       (⊎_elim
-        (λ (is : at ≡ 4). weight_at nr load victim_nr victim_load weight fresh own victims attrs at is ∙ sym (weight_at 0 0 0 0 weight fresh own others attrs at is))
-        (λ (is : at ≡ 5). fresh_at nr load victim_nr victim_load weight fresh own victims attrs at is ∙ sym (fresh_at 0 0 0 0 weight fresh own others attrs at is)))
+      (λ (is : at ≡ 4). weight_at nr load victim_nr victim_load weight fresh own victims attrs at is ∙ sym (weight_at 0 0 0 0 weight fresh own others attrs at is))
+      (λ (is : at ≡ 5). fresh_at nr load victim_nr victim_load weight fresh own victims attrs at is ∙ sym (fresh_at 0 0 0 0 weight fresh own others attrs at is)))
       (⊎_elim
-        (λ (high : (6 ≤ at) × (at < 14)).
-          own_attribute nr load victim_nr victim_load weight fresh own victims attrs own_long victims_long at high.0 high.1
-          ∙ sym (own_attribute 0 0 0 0 weight fresh own others attrs own_long others_long at high.0 high.1))
-        (λ (high : 22 ≤ at).
-          thread_attribute nr load victim_nr victim_load weight fresh own victims attrs own_long victims_long at high
-          ∙ sym (thread_attribute 0 0 0 0 weight fresh own others attrs own_long others_long at high)))
+      (λ (high : (6 ≤ at) × (at < 14)).
+      own_attribute nr load victim_nr victim_load weight fresh own victims attrs own_long victims_long at high.0 high.1
+      ∙ sym (own_attribute 0 0 0 0 weight fresh own others attrs own_long others_long at high.0 high.1))
+      (λ (high : 22 ≤ at).
+      thread_attribute nr load victim_nr victim_load weight fresh own victims attrs own_long victims_long at high
+      ∙ sym (thread_attribute 0 0 0 0 weight fresh own others attrs own_long others_long at high)))
       (event_places e at allowed)

@@ -1,12 +1,11 @@
 -- The statements on pairs of cores, and the conditions that refute them.
-use Rattle.std.proofs.Common.{◌≡◌, ℕ, zero, suc, ◌+◌, ◌*◌, ◌<◌, ◌≤◌, ℤ, pos, ◌*ℤ◌, ◌+ℤ◌, int_le, Bool, true, false, true≢false, not, ◌&&◌, leb, List, length, map, refl, sym, ap, ◌∙◌, subst, arith}
+use Rattle.std.proofs.Common.{◌≡◌, ℕ, ◌+◌, ◌*◌, ◌<◌, ◌≤◌, ℤ, pos, ◌*ℤ◌, ◌+ℤ◌, int_le, Bool, true, false, true≢false, not, ◌&&◌, leb, List, length, map, refl, sym, ap, ◌∙◌, arith}
 use Rattle.std.proofs.Math.Nat.{mul_comm}
 use Rattle.std.proofs.lemmas.Bool.Decides.{nat_tests}
 use Rattle.std.proofs.lemmas.Int.{ints}
 use Rattle.std.proofs.lemmas.Nat.{mul-le}
 use Rattle.sched_base.specs.declared.limits.TheConstants.{MAX_THREADS}
 use Rattle.policy_tree.specs.Meaning.{Meaning}
-use Rattle.policy_tree.specs.Trees.{CondTree}
 use Rattle.policy_eval.specs.declared.env.CoreValues.{CoreValues}
 use Rattle.policy_eval.specs.Fitting.{CoreFits, IsWeight, LoadsFit}
 use Rattle.policy_eval.specs.Forms.{EachSide, RefersTo}
@@ -23,7 +22,7 @@ use Rattle.obligations.specs.Systems.{variable_ranges}
 use Rattle.obligations.proofs.Agreeing.{pair_agrees, same_holds}
 use Rattle.obligations.proofs.Given.{Numbers, assigned_in, for_all_values, lows_in}
 use Rattle.obligations.proofs.Ranges.{AreIn-long, attribute_ranges-not_empty, length-attribute_ranges}
-use Rattle.obligations.proofs.Tests.{and_true, le_told, le_tells, true_and}
+use Rattle.obligations.proofs.Tests.{and_true, le_told, le_tells, not_false, true_and}
 
 -- the load fits the number of threads, as a refutation tests it
 abbrev loads_test : ℕ → ℕ → ℕ → ℕ → Bool
@@ -32,7 +31,7 @@ loads_test least greatest nr load = int_le (pos least *ℤ pos nr) (pos load) &&
 loads_told : (least greatest nr load : ℕ) → nr * least ≤ load → load ≤ nr * greatest → loads_test least greatest nr load ≡ true
 loads_told least greatest nr load light heavy =
     let first = mul_comm least nr in let second = mul_comm greatest nr in
-    true_and (int_le (pos least *ℤ pos nr) (pos load)) (int_le (pos load) (pos greatest *ℤ pos nr)) 
+    true_and (int_le (pos least *ℤ pos nr) (pos load)) (int_le (pos load) (pos greatest *ℤ pos nr))
     (le_told (pos least *ℤ pos nr) (pos load) (omega (arith, ints))) (le_told (pos load) (pos greatest *ℤ pos nr) (omega (arith, ints)))
 
 loads_tell : (least greatest nr load : ℕ) → loads_test least greatest nr load ≡ true → (nr * least ≤ load) × (load ≤ nr * greatest)
@@ -41,10 +40,6 @@ loads_tell least greatest nr load e =
     let light = le_tells (pos least *ℤ pos nr) (pos load) parts.0 in let heavy = le_tells (pos load) (pos greatest *ℤ pos nr) parts.1 in
     let first = mul_comm least nr in let second = mul_comm greatest nr in
     (omega (arith, ints), omega (arith, ints))
-
-not_false : (b : Bool) → not b ≡ true → b ≡ false
-not_false true e = absurd (cc)
-not_false false e = refl
 
 or_refuted : (b : Bool) → (b ≡ false → ⊥) → b ≡ true
 or_refuted true refuted = refl
@@ -64,7 +59,7 @@ module _ (p : Meaning) (is : IsResolved p) where
   filter_sees own victim weight fresh attrs own_in victim_in =
       same_holds (allows p filtering) (pair_values own victim) (assigned own.nr own.load victim.nr victim.load weight fresh own.consts victim.consts attrs)
       (pair_agrees p is.core_attrs.few is.thread_attrs.few own.consts victim.consts (core_long own.consts own_in) (core_long victim.consts victim_in)
-        own.nr own.load victim.nr victim.load 1 0 weight fresh no_attributes attrs)
+      own.nr own.load victim.nr victim.load 1 0 weight fresh no_attributes attrs)
       p.filter filter-refers
 
   load_small : (nr load : ℕ) → LoadsFit p nr load → load ≤ MAX_THREADS * greatest_weight p.load
@@ -116,13 +111,13 @@ module _ (p : Meaning) (is : IsResolved p) where
   unfolding sight
   sees_from_none none own victim fits_own fits_victim idle overloaded =
       or_refuted (holds (pair_values own victim) p.filter) (λ unseen.
-        let w : ℕ = least_weight p.load in
-        let seen = sym (filter_sees own victim w 0 lows fits_own.consts fits_victim.consts) ∙ unseen in
-        none (sight own victim w) (sight_in own victim w fits_own fits_victim least_is_weight)
-        (true_and _ (not (holds (sight own victim w) p.filter))
-          (true_and (holds (sight own victim w) (cores_fit p.load)) (holds (sight own victim w) idle_and_overloaded) (cores_fit_told own victim w fits_own fits_victim)
-            (true_and (int_le (pos own.nr) (pos 0)) (int_le (pos 2) (pos victim.nr)) (le_told (pos own.nr) (pos 0) (omega (arith, ints))) (le_told (pos 2) (pos victim.nr) (omega (arith, ints)))))
-          (ap not seen)))
+      let w : ℕ = least_weight p.load in
+      let seen = sym (filter_sees own victim w 0 lows fits_own.consts fits_victim.consts) ∙ unseen in
+      none (sight own victim w) (sight_in own victim w fits_own fits_victim least_is_weight)
+      (true_and _ (not (holds (sight own victim w) p.filter))
+      (true_and (holds (sight own victim w) (cores_fit p.load)) (holds (sight own victim w) idle_and_overloaded) (cores_fit_told own victim w fits_own fits_victim)
+      (true_and (int_le (pos own.nr) (pos 0)) (int_le (pos 2) (pos victim.nr)) (le_told (pos own.nr) (pos 0) (omega (arith, ints))) (le_told (pos 2) (pos victim.nr) (omega (arith, ints)))))
+      (ap not seen)))
 
   -- where nothing refutes, only overloaded cores are victims
   pub spares_from_none : NoneRefutes p victim_is_overloaded → VictimIsOverloaded p
@@ -130,10 +125,10 @@ module _ (p : Meaning) (is : IsResolved p) where
   spares_from_none none own victim fits_own fits_victim seen =
       let w : ℕ = least_weight p.load in
       let refuted : (int_le (pos victim.nr) (pos 1) ≡ true) → ⊥ = λ one.
-        none (sight own victim w) (sight_in own victim w fits_own fits_victim least_is_weight)
-        (true_and (holds (sight own victim w) (cores_fit p.load) && int_le (pos victim.nr) (pos 1)) (holds (sight own victim w) p.filter)
-          (true_and (holds (sight own victim w) (cores_fit p.load)) (int_le (pos victim.nr) (pos 1)) (cores_fit_told own victim w fits_own fits_victim) one)
-          (sym (filter_sees own victim w 0 lows fits_own.consts fits_victim.consts) ∙ seen)) in
+      none (sight own victim w) (sight_in own victim w fits_own fits_victim least_is_weight)
+      (true_and (holds (sight own victim w) (cores_fit p.load) && int_le (pos victim.nr) (pos 1)) (holds (sight own victim w) p.filter)
+      (true_and (holds (sight own victim w) (cores_fit p.load)) (int_le (pos victim.nr) (pos 1)) (cores_fit_told own victim w fits_own fits_victim) one)
+      (sym (filter_sees own victim w 0 lows fits_own.consts fits_victim.consts) ∙ seen)) in
       above_one victim.nr refuted
     where
       above_one : (n : ℕ) → ((int_le (pos n) (pos 1) ≡ true) → ⊥) → 2 ≤ n
@@ -150,13 +145,13 @@ module _ (p : Meaning) (is : IsResolved p) where
       let w : ℕ = least_weight p.load in
       let values : Assignment = sight own victim weight in
       let thread : holds values (has_thread p.load) ≡ true =
-        le_told ((pos w *ℤ pos victim.nr) +ℤ pos weight) (pos victim.load +ℤ pos w) (omega (arith, ints)) in
+      le_told ((pos w *ℤ pos victim.nr) +ℤ pos weight) (pos victim.load +ℤ pos w) (omega (arith, ints)) in
       let refuted : (int_le (pos victim.load) (pos own.load +ℤ pos weight) ≡ true) → ⊥ = λ small.
-        none values (sight_in own victim weight fits_own fits_victim fits_weight)
-        (true_and (holds values (cores_fit p.load) && (holds values (has_thread p.load) && int_le (pos victim.load) (pos own.load +ℤ pos weight))) (holds values p.filter)
-          (true_and (holds values (cores_fit p.load)) (holds values (has_thread p.load) && int_le (pos victim.load) (pos own.load +ℤ pos weight)) (cores_fit_told own victim weight fits_own fits_victim)
-            (true_and (holds values (has_thread p.load)) (int_le (pos victim.load) (pos own.load +ℤ pos weight)) thread small))
-          (sym (filter_sees own victim weight 0 lows fits_own.consts fits_victim.consts) ∙ seen)) in
+      none values (sight_in own victim weight fits_own fits_victim fits_weight)
+      (true_and (holds values (cores_fit p.load) && (holds values (has_thread p.load) && int_le (pos victim.load) (pos own.load +ℤ pos weight))) (holds values p.filter)
+      (true_and (holds values (cores_fit p.load)) (holds values (has_thread p.load) && int_le (pos victim.load) (pos own.load +ℤ pos weight)) (cores_fit_told own victim weight fits_own fits_victim)
+      (true_and (holds values (has_thread p.load)) (int_le (pos victim.load) (pos own.load +ℤ pos weight)) thread small))
+      (sym (filter_sees own victim weight 0 lows fits_own.consts fits_victim.consts) ∙ seen)) in
       wide own.load weight victim.load refuted
     where
       wide : (a b c : ℕ) → ((int_le (pos c) (pos a +ℤ pos b) ≡ true) → ⊥) → a + b < c
@@ -180,44 +175,44 @@ module _ (p : Meaning) (is : IsResolved p) where
   pub none_from_sees : IdleSeesOverloaded p → NoneRefutes p idle_sees_overloaded
   unfolding core_of
   none_from_sees sees = for_all_values p (λ values. holds values (refutation p idle_sees_overloaded) ≡ true → ⊥) (λ nr load victim_nr victim_load weight fresh own victims attrs n refutes.
-    let values : Assignment = assigned nr load victim_nr victim_load weight fresh own victims attrs in
-    let parts = and_true (holds values (cores_fit p.load) && holds values idle_and_overloaded) (not (holds values p.filter)) refutes in
-    let cores = and_true (holds values (cores_fit p.load)) (holds values idle_and_overloaded) parts.0 in
-    let loads = and_true (loads_test (least_weight p.load) (greatest_weight p.load) nr load) (loads_test (least_weight p.load) (greatest_weight p.load) victim_nr victim_load) cores.0 in
-    let counts = and_true (int_le (pos nr) (pos 0)) (int_le (pos 2) (pos victim_nr)) cores.1 in
-    let idle = le_tells (pos nr) (pos 0) counts.0 in let overloaded = le_tells (pos 2) (pos victim_nr) counts.1 in
-    let seen = sees (core_of nr load own) (core_of victim_nr victim_load victims) (core_fits nr load own n.nr_small loads.0 n.own_in) (core_fits victim_nr victim_load victims n.victim_nr_small loads.1 n.victims_in)
-        (omega (arith, ints)) (omega (arith, ints)) in
-    let same = filter_sees (core_of nr load own) (core_of victim_nr victim_load victims) weight fresh attrs n.own_in n.victims_in in
-    let unseen = not_false (holds values p.filter) parts.1 in
-    true≢false (sym seen ∙ (same ∙ unseen)))
+      let values : Assignment = assigned nr load victim_nr victim_load weight fresh own victims attrs in
+      let parts = and_true (holds values (cores_fit p.load) && holds values idle_and_overloaded) (not (holds values p.filter)) refutes in
+      let cores = and_true (holds values (cores_fit p.load)) (holds values idle_and_overloaded) parts.0 in
+      let loads = and_true (loads_test (least_weight p.load) (greatest_weight p.load) nr load) (loads_test (least_weight p.load) (greatest_weight p.load) victim_nr victim_load) cores.0 in
+      let counts = and_true (int_le (pos nr) (pos 0)) (int_le (pos 2) (pos victim_nr)) cores.1 in
+      let idle = le_tells (pos nr) (pos 0) counts.0 in let overloaded = le_tells (pos 2) (pos victim_nr) counts.1 in
+      let seen = sees (core_of nr load own) (core_of victim_nr victim_load victims) (core_fits nr load own n.nr_small loads.0 n.own_in) (core_fits victim_nr victim_load victims n.victim_nr_small loads.1 n.victims_in)
+      (omega (arith, ints)) (omega (arith, ints)) in
+      let same = filter_sees (core_of nr load own) (core_of victim_nr victim_load victims) weight fresh attrs n.own_in n.victims_in in
+      let unseen = not_false (holds values p.filter) parts.1 in
+      true≢false (sym seen ∙ (same ∙ unseen)))
 
   pub none_from_spares : VictimIsOverloaded p → NoneRefutes p victim_is_overloaded
   unfolding core_of
   none_from_spares spares = for_all_values p (λ values. holds values (refutation p victim_is_overloaded) ≡ true → ⊥) (λ nr load victim_nr victim_load weight fresh own victims attrs n refutes.
-    let values : Assignment = assigned nr load victim_nr victim_load weight fresh own victims attrs in
-    let parts = and_true (holds values (cores_fit p.load) && holds values victim_has_one) (holds values p.filter) refutes in
-    let cores = and_true (holds values (cores_fit p.load)) (holds values victim_has_one) parts.0 in
-    let loads = and_true (loads_test (least_weight p.load) (greatest_weight p.load) nr load) (loads_test (least_weight p.load) (greatest_weight p.load) victim_nr victim_load) cores.0 in
-    let one = le_tells (pos victim_nr) (pos 1) cores.1 in
-    let same = filter_sees (core_of nr load own) (core_of victim_nr victim_load victims) weight fresh attrs n.own_in n.victims_in in
-    let two = spares (core_of nr load own) (core_of victim_nr victim_load victims) (core_fits nr load own n.nr_small loads.0 n.own_in) (core_fits victim_nr victim_load victims n.victim_nr_small loads.1 n.victims_in)
-        (same ∙ parts.1) in
-    absurd (omega (arith, ints)))
+      let values : Assignment = assigned nr load victim_nr victim_load weight fresh own victims attrs in
+      let parts = and_true (holds values (cores_fit p.load) && holds values victim_has_one) (holds values p.filter) refutes in
+      let cores = and_true (holds values (cores_fit p.load)) (holds values victim_has_one) parts.0 in
+      let loads = and_true (loads_test (least_weight p.load) (greatest_weight p.load) nr load) (loads_test (least_weight p.load) (greatest_weight p.load) victim_nr victim_load) cores.0 in
+      let one = le_tells (pos victim_nr) (pos 1) cores.1 in
+      let same = filter_sees (core_of nr load own) (core_of victim_nr victim_load victims) weight fresh attrs n.own_in n.victims_in in
+      let two = spares (core_of nr load own) (core_of victim_nr victim_load victims) (core_fits nr load own n.nr_small loads.0 n.own_in) (core_fits victim_nr victim_load victims n.victim_nr_small loads.1 n.victims_in)
+      (same ∙ parts.1) in
+      absurd (omega (arith, ints)))
 
   pub none_from_narrows : MoveNarrowsGap p → NoneRefutes p move_narrows_gap
   unfolding core_of
   none_from_narrows narrows = for_all_values p (λ values. holds values (refutation p move_narrows_gap) ≡ true → ⊥) (λ nr load victim_nr victim_load weight fresh own victims attrs n refutes.
-    let values : Assignment = assigned nr load victim_nr victim_load weight fresh own victims attrs in
-    let w : ℕ = least_weight p.load in
-    let parts = and_true (holds values (cores_fit p.load) && (holds values (has_thread p.load) && holds values gap_is_small)) (holds values p.filter) refutes in
-    let cores = and_true (holds values (cores_fit p.load)) (holds values (has_thread p.load) && holds values gap_is_small) parts.0 in
-    let loads = and_true (loads_test w (greatest_weight p.load) nr load) (loads_test w (greatest_weight p.load) victim_nr victim_load) cores.0 in
-    let moves = and_true (holds values (has_thread p.load)) (holds values gap_is_small) cores.1 in
-    let queued = le_tells ((pos w *ℤ pos victim_nr) +ℤ pos weight) (pos victim_load +ℤ pos w) moves.0 in
-    let small = le_tells (pos victim_load) (pos load +ℤ pos weight) moves.1 in
-    let same = filter_sees (core_of nr load own) (core_of victim_nr victim_load victims) weight fresh attrs n.own_in n.victims_in in
-    let narrowed = narrows (core_of nr load own) (core_of victim_nr victim_load victims) weight
-        (core_fits nr load own n.nr_small loads.0 n.own_in) (core_fits victim_nr victim_load victims n.victim_nr_small loads.1 n.victims_in)
-        (record { least = n.weight_least; greatest = n.weight_greatest }) (same ∙ parts.1) (omega (arith, ints)) in
-    absurd (omega (arith, ints)))
+      let values : Assignment = assigned nr load victim_nr victim_load weight fresh own victims attrs in
+      let w : ℕ = least_weight p.load in
+      let parts = and_true (holds values (cores_fit p.load) && (holds values (has_thread p.load) && holds values gap_is_small)) (holds values p.filter) refutes in
+      let cores = and_true (holds values (cores_fit p.load)) (holds values (has_thread p.load) && holds values gap_is_small) parts.0 in
+      let loads = and_true (loads_test w (greatest_weight p.load) nr load) (loads_test w (greatest_weight p.load) victim_nr victim_load) cores.0 in
+      let moves = and_true (holds values (has_thread p.load)) (holds values gap_is_small) cores.1 in
+      let queued = le_tells ((pos w *ℤ pos victim_nr) +ℤ pos weight) (pos victim_load +ℤ pos w) moves.0 in
+      let small = le_tells (pos victim_load) (pos load +ℤ pos weight) moves.1 in
+      let same = filter_sees (core_of nr load own) (core_of victim_nr victim_load victims) weight fresh attrs n.own_in n.victims_in in
+      let narrowed = narrows (core_of nr load own) (core_of victim_nr victim_load victims) weight
+      (core_fits nr load own n.nr_small loads.0 n.own_in) (core_fits victim_nr victim_load victims n.victim_nr_small loads.1 n.victims_in)
+      (record { least = n.weight_least; greatest = n.weight_greatest }) (same ∙ parts.1) (omega (arith, ints)) in
+      absurd (omega (arith, ints)))

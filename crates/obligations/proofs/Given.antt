@@ -1,11 +1,10 @@
 -- Values in the ranges are those of a pair of cores, a weight, and a thread's attributes; and the other way round.
-use Rattle.std.proofs.Common.{◌≡◌, ℕ, zero, suc, ◌+◌, ◌*◌, ◌<◌, ◌≤◌, ℤ, pos, negsuc, ◌≤ℤ◌, Bool, true, false, cond, List, [], ◌∷◌, ◌++◌, length, map, refl, sym, ap, ap₂, ◌∙◌, subst, arith}
-use Rattle.std.specs.List.{AllByRecursion, AllZip}
+use Rattle.std.proofs.Common.{◌≡◌, ℕ, ◌*◌, ◌≤◌, ℤ, pos, negsuc, List, [], ◌∷◌, ◌++◌, map, refl, sym, ap, ap₂, ◌∙◌, subst, arith}
+use Rattle.std.specs.List.{AllByRecursion}
 use Rattle.std.proofs.lemmas.Int.{ints}
 use Rattle.sched_base.specs.declared.limits.TheConstants.{MAX_THREADS}
 use Rattle.policy_tree.specs.Meaning.{Meaning}
 use Rattle.policy_eval.specs.Ranges.{AreIn, IsIn, Range, attribute_ranges, greatest_weight, least_weight, range}
-use Rattle.policy_eval.specs.Resolved.{IsResolved}
 use Rattle.policy_eval.specs.Sights.{assigned}
 use Rattle.policy_eval.specs.Values.{Assignment}
 use Rattle.obligations.specs.Systems.{variable_ranges}
@@ -81,7 +80,7 @@ module _ (p : Meaning) where
             (
               in_natural fresh 0 1 (omega arith) is.fresh_small,
               AreIn-append (attribute_ranges p.core_attrs ++ attribute_ranges p.core_attrs) (attribute_ranges p.thread_attrs) (own ++ victims) attrs
-              (AreIn-append (attribute_ranges p.core_attrs) (attribute_ranges p.core_attrs) own victims is.own_in is.victims_in) is.attrs_in,
+                  (AreIn-append (attribute_ranges p.core_attrs) (attribute_ranges p.core_attrs) own victims is.own_in is.victims_in) is.attrs_in,
             ),
           ),
         ),
@@ -92,7 +91,7 @@ module _ (p : Meaning) where
   -- what holds of the numbers in their ranges holds of the values in the ranges
   pub for_all_values : (P : Assignment → Type 0)
       → ((nr load victim_nr victim_load weight fresh : ℕ) (own victims attrs : List ℤ) → Numbers p nr load victim_nr victim_load weight fresh own victims attrs
-        → P (assigned nr load victim_nr victim_load weight fresh own victims attrs))
+      → P (assigned nr load victim_nr victim_load weight fresh own victims attrs))
       → (values : Assignment) → AreIn (variable_ranges p) values → P values
   for_all_values P each [] are = absurd are
   for_all_values P each (a ∷ []) are = absurd are.1
@@ -110,8 +109,8 @@ module _ (p : Meaning) where
       let all = split (attribute_ranges p.core_attrs ++ attribute_ranges p.core_attrs) (attribute_ranges p.thread_attrs) rest are.1.1.1.1.1.1 in
       let cores = split (attribute_ranges p.core_attrs) (attribute_ranges p.core_attrs) all.first all.first_in in
       let is : a ∷ b ∷ c ∷ d ∷ e ∷ f ∷ rest ≡ assigned nr.n load.n victim_nr.n victim_load.n weight.n fresh.n cores.first cores.second all.second =
-          ap₂ (λ x xs. x ∷ xs) nr.is (ap₂ (λ x xs. x ∷ xs) load.is (ap₂ (λ x xs. x ∷ xs) victim_nr.is (ap₂ (λ x xs. x ∷ xs) victim_load.is
-          (ap₂ (λ x xs. x ∷ xs) weight.is (ap₂ (λ x xs. x ∷ xs) fresh.is (all.is ∙ ap (λ xs. xs ++ all.second) cores.is)))))) in
+      ap₂ (λ x xs. x ∷ xs) nr.is (ap₂ (λ x xs. x ∷ xs) load.is (ap₂ (λ x xs. x ∷ xs) victim_nr.is (ap₂ (λ x xs. x ∷ xs) victim_load.is
+      (ap₂ (λ x xs. x ∷ xs) weight.is (ap₂ (λ x xs. x ∷ xs) fresh.is (all.is ∙ ap (λ xs. xs ++ all.second) cores.is)))))) in
       subst P (sym is) (each nr.n load.n victim_nr.n victim_load.n weight.n fresh.n cores.first cores.second all.second (record {
         nr_small = nr.below;
         load_small = load.below;

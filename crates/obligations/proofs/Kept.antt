@@ -1,5 +1,5 @@
 -- The variables that are kept, and their places among them.
-use Rattle.std.proofs.Common.{◌≡◌, ℕ, zero, suc, ◌+◌, ◌<◌, ◌≤◌, eqb, ℤ, Bool, true, false, cond, List, [], ◌∷◌, ◌++◌, length, get_or, refl, sym, ap, ◌∙◌, subst, arith, eqb-true, ◌⊎◌, inl, inr, ⊎_elim}
+use Rattle.std.proofs.Common.{◌≡◌, ℕ, zero, suc, ◌<◌, eqb, ℤ, Bool, true, false, cond, List, [], ◌∷◌, ◌++◌, length, get_or, refl, sym, ap, ◌∙◌, subst, arith, eqb-true, ◌⊎◌, inl, inr, ⊎_elim}
 use Rattle.std.proofs.lemmas.Bool.{eqb-false}
 use Rattle.std.specs.List.{AllByRecursion}
 use Rattle.std.proofs.Math.Seq.{get_or-append_seam}
@@ -42,9 +42,9 @@ module _ (keeps : ℕ → Bool) where
       ⊎_elim
       (λ (same : v ≡ n). subst Inside same (last_place v kept))
       (λ (below : v < n).
-        let earlier = place_inside n v below kept in
-        let long = length-append (kept_below keeps n) (cond (keeps n) (n ∷ []) []) in
-        omega arith)
+      let earlier = place_inside n v below kept in
+      let long = length-append (kept_below keeps n) (cond (keeps n) (n ∷ []) []) in
+      omega arith)
       (last_or_below v n lt)
 
   -- and the variable stands there
@@ -54,8 +54,8 @@ module _ (keeps : ℕ → Bool) where
       ⊎_elim
       (λ (same : v ≡ n). subst (λ k. get_or (kept_below keeps (suc k)) (place_of keeps v) d ≡ v) same (last_kept v d kept))
       (λ (below : v < n).
-        get_or_append_left (kept_below keeps n) (cond (keeps n) (n ∷ []) []) d (place_of keeps v) (place_inside n v below kept)
-        ∙ kept_at n v d below kept)
+      get_or_append_left (kept_below keeps n) (cond (keeps n) (n ∷ []) []) d (place_of keeps v) (place_inside n v below kept)
+      ∙ kept_at n v d below kept)
       (last_or_below v n lt)
 
   -- the variable is kept, and below that number
@@ -89,8 +89,8 @@ first_values-at f (suc n) v d lt =
     let long = length-first_values f n in
     ⊎_elim
     (λ (same : v ≡ n).
-      ap (λ k. get_or (first_values f n ++ f n ∷ []) k d) (same ∙ sym long)
-      ∙ (get_or-append_seam (first_values f n) (f n) [] d ∙ ap f (sym same)))
+    ap (λ k. get_or (first_values f n ++ f n ∷ []) k d) (same ∙ sym long)
+    ∙ (get_or-append_seam (first_values f n) (f n) [] d ∙ ap f (sym same)))
     (λ (below : v < n).
-      get_or_append_left (first_values f n) (f n ∷ []) d v (omega arith) ∙ first_values-at f n v d below)
+    get_or_append_left (first_values f n) (f n ∷ []) d v (omega arith) ∙ first_values-at f n v d below)
     (last_or_below v n lt)

@@ -1,19 +1,18 @@
 -- All expressions of a refutation are linear.
-use Rattle.std.proofs.Common.{◌≡◌, ℕ, zero, suc, ◌+◌, ◌*◌, ◌^◌, ◌≤◌, eqb, ℤ, pos, ◌+ℤ◌, ◌-ℤ◌, ◌*ℤ◌, neg_ℤ, Bool, true, false, cond, List, [], ◌∷◌, ◌++◌, All, length, map, refl, sym, subst, arith}
+use Rattle.std.proofs.Common.{ℕ, suc, ◌^◌, ◌≤◌, eqb, pos, ◌+ℤ◌, ◌*ℤ◌, Bool, true, false, cond, List, [], ◌∷◌, All, map, refl, sym, subst, arith}
 use Rattle.std.proofs.lemmas.List.{map-append}
 use Rattle.std.specs.List.{AllByRecursion}
 use Rattle.std.proofs.lemmas.Int.{ints}
 use Rattle.policy_tree.specs.declared.typed.Event.{Event}
-use Rattle.policy_tree.specs.declared.typed.Load.{Load}
 use Rattle.policy_tree.specs.Meaning.{CaseTree, Meaning, cases_on}
-use Rattle.policy_tree.specs.Trees.{CondTree, ExprTree, always, negated, both, either, test, number, variable, plus, times}
-use Rattle.policy_eval.specs.Forms.{EachSide, HasSmallForm, IsLinear, IsSmall, coefficient_of, constant_of}
+use Rattle.policy_tree.specs.Trees.{CondTree, ExprTree, negated, variable, plus, times}
+use Rattle.policy_eval.specs.Forms.{EachSide, IsLinear, IsSmall}
 use Rattle.policy_eval.specs.Obligations.{Statement, idle_sees_overloaded, victim_is_overloaded, move_narrows_gap, no_overlap, no_gap}
 use Rattle.policy_eval.specs.Ranges.{greatest_weight, least_weight}
 use Rattle.policy_eval.specs.Resolved.{IsResolved, IsResolvedCase, IsResolvedExpr}
 use Rattle.policy_eval.specs.Sites.{filtering, handling}
 use Rattle.policy_eval.proofs.Evaluable.{EachSide-mono}
-use Rattle.obligations.specs.Refutations.{all_of, any_of, both_of, cores_fit, gap_is_small, guards_on, has_thread, idle_and_overloaded, load_fits, pairs_of, refutation, victim_has_one, whole}
+use Rattle.obligations.specs.Refutations.{all_of, any_of, both_of, guards_on, load_fits, pairs_of, refutation, whole}
 use Rattle.obligations.proofs.Kept.{AllByRecursion-append}
 
 -- the coefficient of a variable is 1 or 0
@@ -103,11 +102,10 @@ module _ (Q : ExprTree → Type 0) where
 module _ (p : Meaning) (is : IsResolved p) where
   guards-linear : (e : Event) (cases : List CaseTree) → All (IsResolvedCase p e) cases → AllByRecursion (EachSide IsLinear) (map (λ (c : CaseTree). c.guard) cases)
   guards-linear e [] each = tt
-  guards-linear e (c ∷ cases) each =
-      (
-        EachSide-mono (IsResolvedExpr p (handling e)) IsLinear (λ x resolved. resolved.linear) c.guard (each 0 c (omega arith)).guard.sides,
-        guards-linear e cases (λ k d inside. each (suc k) d (omega arith)),
-      )
+  guards-linear e (c ∷ cases) each = (
+    EachSide-mono (IsResolvedExpr p (handling e)) IsLinear (λ x resolved. resolved.linear) c.guard (each 0 c (omega arith)).guard.sides,
+    guards-linear e cases (λ k d inside. each (suc k) d (omega arith)),
+  )
 
   filter-linear : EachSide IsLinear p.filter
   filter-linear = EachSide-mono (IsResolvedExpr p filtering) IsLinear (λ x resolved. resolved.linear) p.filter is.filter.sides
@@ -127,17 +125,16 @@ module _ (p : Meaning) (is : IsResolved p) where
       (((load_fits-linear 0 1, load_fits-linear 2 3), ((tt, whole-linear 0 (omega arith)), (tt, whole-linear 2 (omega arith)))), filter-linear)
   refutation-linear victim_is_overloaded =
       (((load_fits-linear 0 1, load_fits-linear 2 3), (tt, whole-linear 1 (omega arith))), filter-linear)
-  refutation-linear move_narrows_gap =
+  refutation-linear move_narrows_gap = (
+    (
+      (load_fits-linear 0 1, load_fits-linear 2 3),
       (
-        (
-          (load_fits-linear 0 1, load_fits-linear 2 3),
-          (
-            (scaled_and_one-linear (least_weight p.load) 2 4 least-small, and_whole-linear (least_weight p.load) 3 least-small),
-            (tt, two-linear 1 4),
-          ),
-        ),
-        filter-linear,
-      )
+        (scaled_and_one-linear (least_weight p.load) 2 4 least-small, and_whole-linear (least_weight p.load) 3 least-small),
+        (tt, two-linear 1 4),
+      ),
+    ),
+    filter-linear,
+  )
   refutation-linear (no_overlap e) =
       any_of-sides IsLinear (map both_of (pairs_of (guards_on p e)))
       (pairs-sides IsLinear (guards_on p e) (guards-linear e (cases_on p.handlers e) (is.handlers e).cases))

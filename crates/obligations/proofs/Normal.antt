@@ -1,5 +1,5 @@
 -- A condition has an outcome exactly where all rows of one of its cases hold: the normal form says what the condition says.
-use Rattle.std.proofs.Common.{◌≡◌, ℕ, ℤ, pos, negsuc, neg_ℤ, ◌+ℤ◌, ◌-ℤ◌, ◌*ℤ◌, int_le, int_lt, Bool, true, false, not, cond, ◌&&◌, ◌||◌, List, [], ◌∷◌, length, take, refl, sym, ap, ap₂, ◌∙◌, arith}
+use Rattle.std.proofs.Common.{◌≡◌, ℕ, ℤ, pos, negsuc, neg_ℤ, ◌+ℤ◌, ◌-ℤ◌, ◌*ℤ◌, int_le, Bool, true, false, not, cond, ◌&&◌, ◌||◌, length, refl, sym, ap, ap₂, ◌∙◌, arith}
 use Rattle.std.specs.Ordering.{int_eq}
 use Rattle.std.proofs.lemmas.Int.{ints}
 use Rattle.std.proofs.lemmas.List.{take_all}
@@ -7,14 +7,12 @@ use Rattle.policy_tree.specs.declared.trees.Cmp.{Cmp}
 use Rattle.policy_tree.specs.declared.trees.Cmp.TheVariants as cmp
 use Rattle.policy_tree.specs.declared.typed.Load.{Load}
 use Rattle.policy_tree.specs.Trees.{ExprTree, minus, CondTree, always, negated, both, either, test}
-use Rattle.policy_eval.specs.Forms.{EachSide, IsLinear, coefficient_of, constant_of}
+use Rattle.policy_eval.specs.Forms.{EachSide, IsLinear, coefficient_of}
 use Rattle.policy_eval.specs.Ranges.{least_weight}
 use Rattle.policy_eval.specs.Values.{Assignment, compared, holds, value_of, variable_of}
 use Rattle.policy_eval.proofs.Forms.{value_of-form, weighted, weighted_minus, weighted_negated}
-use Rattle.linear_form.specs.declared.form.Row.{Row}
-use Rattle.linear_form.specs.Solution.{left_side}
 use Rattle.obligations.specs.declared.variables.TheConstants.{WEIGHT}
-use Rattle.obligations.specs.Forms.{LinearForm, at_most, at_weight, form_of, opposite, plain_form, terms_below, weighs_one}
+use Rattle.obligations.specs.Forms.{LinearForm, at_most, at_weight, form_of, opposite, plain_form, weighs_one}
 use Rattle.obligations.specs.Cases.{asked, below, cases_of, cases_of_test, complement, not_above}
 use Rattle.obligations.proofs.Folds.{row_holds, some_crossed, some_holds, some_joined}
 use Rattle.obligations.proofs.Tests.{le_moved, le_zero, lt_zero, ge_zero, gt_zero, eq_zero, ne_zero}
@@ -78,8 +76,10 @@ test-value how values all d x y is = by how
   where
     row : (most : ℤ) → row_holds values (at_most d most) ≡ int_le (x -ℤ y) most
     row most = row-value values all d most ∙ ap (λ v. int_le v most) is
+
     turned : (most : ℤ) → row_holds values (at_most (opposite d) most) ≡ int_le (neg_ℤ (x -ℤ y)) most
     turned most = row-value values all (opposite d) most ∙ ap (λ v. int_le v most) (opposite-value values d ∙ ap neg_ℤ is)
+
     by : (how : Cmp) → some_holds values (cases_of_test how d) ≡ compared how x y
     by cmp.Le = only _ ∙ (row (pos 0) ∙ le_zero x y)
     by cmp.Lt = only _ ∙ (row (negsuc 0) ∙ lt_zero x y)

@@ -1,5 +1,5 @@
 -- What holds of the rows of comparisons holds of the rows of a condition's cases; and which variables occur in them.
-use Rattle.std.proofs.Common.{◌≡◌, ℕ, zero, suc, ◌<◌, eqb, ℤ, pos, negsuc, Bool, true, false, not, cond, ◌||◌, List, [], ◌∷◌, ◌++◌, map, refl, ap, ◌∙◌, arith, eq-eqb}
+use Rattle.std.proofs.Common.{◌≡◌, ℕ, zero, suc, ◌<◌, eqb, ℤ, pos, negsuc, Bool, true, false, not, cond, List, [], ◌∷◌, ◌++◌, map, refl, arith, eq-eqb}
 use Rattle.std.specs.List.{AllByRecursion, list_any}
 use Rattle.std.specs.Ordering.{int_eq}
 use Rattle.policy_tree.specs.declared.trees.Cmp.{Cmp}
@@ -92,26 +92,23 @@ module _ (keeps : ℕ → Bool) (n : ℕ) where
   kept_terms : (terms : List Term) → ((v : ℕ) → list_any (λ (term : Term). eqb term.var v) terms ≡ true → keeps v ≡ true)
       → AllByRecursion (λ (term : Term). term.var < n) terms → AllByRecursion (λ (term : Term). IsKept keeps n term.var) terms
   kept_terms [] found below = tt
-  kept_terms (term ∷ terms) found below =
-      (
-        (found term.var (or_left (eqb term.var term.var) _ (eq-eqb term.var term.var refl)), below.0),
-        kept_terms terms (λ v e. found v (or_right (eqb term.var v) _ e)) below.1,
-      )
+  kept_terms (term ∷ terms) found below = (
+    (found term.var (or_left (eqb term.var term.var) _ (eq-eqb term.var term.var refl)), below.0),
+    kept_terms terms (λ v e. found v (or_right (eqb term.var v) _ e)) below.1,
+  )
 
   kept_rows : (rows : List Row) → ((v : ℕ) → list_any (λ (row : Row). list_any (λ (term : Term). eqb term.var v) row.terms) rows ≡ true → keeps v ≡ true)
       → AllByRecursion (IsBelow n) rows → AllByRecursion (HasKept keeps n) rows
   kept_rows [] found below = tt
-  kept_rows (row ∷ rows) found below =
-      (
-        kept_terms row.terms (λ v e. found v (or_left _ _ e)) below.0,
-        kept_rows rows (λ v e. found v (or_right _ _ e)) below.1,
-      )
+  kept_rows (row ∷ rows) found below = (
+    kept_terms row.terms (λ v e. found v (or_left _ _ e)) below.0,
+    kept_rows rows (λ v e. found v (or_right _ _ e)) below.1,
+  )
 
   -- where the variables that occur are kept, the terms of all rows are of kept ones
   pub kept_cases : (cases : List (List Row)) → ((v : ℕ) → occurs v cases ≡ true → keeps v ≡ true) → AllRows (IsBelow n) cases → AllRows (HasKept keeps n) cases
   kept_cases [] found below = tt
-  kept_cases (rows ∷ cases) found below =
-      (
-        kept_rows rows (λ v e. found v (or_left _ _ e)) below.0,
-        kept_cases cases (λ v e. found v (or_right _ _ e)) below.1,
-      )
+  kept_cases (rows ∷ cases) found below = (
+    kept_rows rows (λ v e. found v (or_left _ _ e)) below.0,
+    kept_cases cases (λ v e. found v (or_right _ _ e)) below.1,
+  )

@@ -1,11 +1,11 @@
 -- The ranges of all variables: there are thirty, none is empty, and values lie in them place by place.
-use Rattle.std.proofs.Common.{◌≡◌, ℕ, zero, suc, ◌+◌, ◌-◌, ◌*◌, ◌<◌, ◌≤◌, ℤ, pos, ◌≤ℤ◌, List, [], ◌∷◌, ◌++◌, All, length, map, get_or, replicate, refl, sym, ap, ◌∙◌, arith}
-use Rattle.std.specs.List.{AllByRecursion, AllZip}
+use Rattle.std.proofs.Common.{◌≡◌, ℕ, zero, suc, ◌-◌, ◌<◌, ◌≤◌, ℤ, pos, ◌≤ℤ◌, List, [], ◌∷◌, ◌++◌, All, length, map, get_or, replicate, refl, ap, arith}
+use Rattle.std.specs.List.{AllByRecursion}
 use Rattle.std.proofs.lemmas.Int.{ints}
 use Rattle.std.proofs.lemmas.List.{length-append, length-map, length-replicate}
 use Rattle.policy_tree.specs.declared.typed.Attr.{Attr}
 use Rattle.policy_tree.specs.Meaning.{Meaning}
-use Rattle.policy_eval.specs.Ranges.{AreIn, IsIn, Range, attribute_ranges, declared_range, greatest_weight, least_weight, range}
+use Rattle.policy_eval.specs.Ranges.{AreIn, IsIn, Range, attribute_ranges, declared_range, range}
 use Rattle.policy_eval.specs.Resolved.{AreAttributes, IsAttribute, IsResolved}
 use Rattle.obligations.specs.Systems.{variable_ranges}
 use Rattle.obligations.proofs.Kept.{AllByRecursion-append}
@@ -48,8 +48,7 @@ pub variable_ranges-not_empty : (p : Meaning) → IsResolved p → AllByRecursio
 variable_ranges-not_empty p is =
     let ordered = is.load.ordered in
     let core = attribute_ranges-not_empty p.core_attrs is.core_attrs in
-    let thread = attribute_ranges-not_empty p.thread_attrs is.thread_attrs in
-    (
+    let thread = attribute_ranges-not_empty p.thread_attrs is.thread_attrs in (
       omega (arith, ints),
       (
         omega (arith, ints),
@@ -62,7 +61,7 @@ variable_ranges-not_empty p is =
               (
                 omega (arith, ints),
                 AllByRecursion-append IsNotEmpty (attribute_ranges p.core_attrs ++ attribute_ranges p.core_attrs) (attribute_ranges p.thread_attrs)
-                (AllByRecursion-append IsNotEmpty (attribute_ranges p.core_attrs) (attribute_ranges p.core_attrs) core core) thread,
+                    (AllByRecursion-append IsNotEmpty (attribute_ranges p.core_attrs) (attribute_ranges p.core_attrs) core core) thread,
               ),
             ),
           ),

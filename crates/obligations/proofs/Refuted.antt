@@ -1,5 +1,5 @@
 -- No system of a statement has a solution exactly where no values in the ranges refute the statement.
-use Rattle.std.proofs.Common.{◌≡◌, ℕ, ◌<◌, ◌+◌, ◌≤ℤ◌, eqb, ℤ, pos, Bool, true, ◌||◌, ◌↔◌, List, [], ◌∷◌, map, length, get_or, refl, sym, ◌∙◌, ap, subst, arith, eqb-true, ⊎_elim}
+use Rattle.std.proofs.Common.{◌≡◌, pos, true, List, [], ◌∷◌, map, sym, ◌∙◌, arith, eqb-true, ⊎_elim}
 use Rattle.std.specs.List.{AllByRecursion}
 use Rattle.std.proofs.lemmas.Int.{ints}
 use Rattle.std.proofs.lemmas.List.Elements.{All-from_recursion, recursion_from_All}
@@ -12,14 +12,11 @@ use Rattle.linear_form.specs.declared.form.Row.{Row}
 use Rattle.linear_form.specs.Solution.{HasNoSolution}
 use Rattle.linear_form.specs.System.{LinearSystem}
 use Rattle.obligations.specs.declared.variables.TheConstants.{WEIGHT}
-use Rattle.obligations.specs.Forms.{weighs_one}
-use Rattle.obligations.specs.Cases.{cases_of}
 use Rattle.obligations.specs.Laws.{HaveNoSolution, NoneRefutes}
 use Rattle.obligations.specs.Refutations.{refutation}
 use Rattle.obligations.specs.Systems.{always_has, has_variable, occurs, refuting_cases, system_of_case, systems_of, variable_ranges}
 use Rattle.obligations.proofs.Tests.{or_left, or_right, or_true}
 use Rattle.obligations.proofs.Folds.{case_holds, some_holds}
-use Rattle.obligations.proofs.Kept.{IsKept}
 use Rattle.obligations.proofs.Linear.{refutation-linear}
 use Rattle.obligations.proofs.Normal.{FitsLoad, cases_of-value}
 use Rattle.obligations.proofs.Occurring.{AllRows, HasKept, cases_below, kept_cases}
@@ -64,13 +61,12 @@ module _ (p : Meaning) (is : IsResolved p) where
         → ((values : Assignment) → AreIn (variable_ranges p) values → some_holds values cases ≡ true → ⊥)
         → AllByRecursion (λ (system : LinearSystem). HasNoSolution system.bounds system.rows) (map (system_of_case p s) cases)
     none_solved [] kept never = tt
-    none_solved (rows ∷ cases) kept never =
-        (
-          λ point solves. never (values_of p is (has_variable p s) point) (values_of-in p is (has_variable p s) (system_of_case p s rows).rows point solves)
-              (or_left (case_holds (values_of p is (has_variable p s) point) rows) (some_holds (values_of p is (has_variable p s) point) cases)
-              (values_of-hold p is (has_variable p s) rows point kept.0 solves)),
-          none_solved cases kept.1 (λ values are e. never values are (or_right (case_holds values rows) (some_holds values cases) e)),
-        )
+    none_solved (rows ∷ cases) kept never = (
+      λ point solves. never (values_of p is (has_variable p s) point) (values_of-in p is (has_variable p s) (system_of_case p s rows).rows point solves)
+          (or_left (case_holds (values_of p is (has_variable p s) point) rows) (some_holds (values_of p is (has_variable p s) point) cases)
+          (values_of-hold p is (has_variable p s) rows point kept.0 solves)),
+      none_solved cases kept.1 (λ values are e. never values are (or_right (case_holds values rows) (some_holds values cases) e)),
+    )
 
     pub no_solution_refutes : HaveNoSolution (systems_of p s) → NoneRefutes p s
     no_solution_refutes unsolved values are holds =

@@ -1,19 +1,17 @@
 -- The definitions computed on policies that are written out.
-use Rattle.std.proofs.Common.{◌≡◌, ℕ, ℤ, pos, negsuc, List, [], ◌∷◌, length, refl, true}
+use Rattle.std.proofs.Common.{◌≡◌, ℕ, ℤ, pos, negsuc, List, [], ◌∷◌, length, refl}
 use Rattle.policy_tree.specs.declared.trees.Cmp.TheVariants as cmp
-use Rattle.policy_tree.specs.declared.typed.Event.TheVariants as event
 use Rattle.policy_tree.specs.declared.typed.Load.TheVariants as load
 use Rattle.policy_tree.specs.declared.typed.Put.TheVariants as put
-use Rattle.policy_tree.specs.Trees.{CondTree, number, variable, minus, plus, always, negated, both, either, test}
+use Rattle.policy_tree.specs.Trees.{CondTree, number, variable, minus, always, both, test}
 use Rattle.policy_tree.specs.Meaning.{CaseTree, HandlerTrees, Meaning, here}
-use Rattle.policy_eval.specs.Obligations.{idle_sees_overloaded, victim_is_overloaded, move_narrows_gap, no_overlap, no_gap}
+use Rattle.policy_eval.specs.Obligations.{idle_sees_overloaded, victim_is_overloaded, move_narrows_gap}
 use Rattle.linear_form.specs.declared.form.Term.{Term}
 use Rattle.linear_form.specs.declared.form.Row.{Row}
 use Rattle.linear_form.specs.declared.form.Bound.{Bound}
 use Rattle.linear_form.specs.System.{LinearSystem}
-use Rattle.obligations.specs.Cases.{cases_of}
-use Rattle.obligations.specs.Counts.{case_count, count_of}
-use Rattle.obligations.specs.Systems.{systems_of, variables_of}
+use Rattle.obligations.specs.Counts.{case_count}
+use Rattle.obligations.specs.Systems.{systems_of}
 
 abbrev handler : CondTree → List CaseTree
 handler guard = record { guard = guard; sets = []; put = put.Queue } ∷ []
@@ -23,8 +21,16 @@ handlers = record { on_enqueue = handler always; on_tick = handler always; on_yi
 
 abbrev policy : CondTree → Meaning
 policy filter = record {
-  name = []; load = load.Count; core_attrs = []; thread_attrs = []; place = here; elect = []; handlers = handlers;
-  filter = filter; choose = []; steal = [];
+  name = [];
+  load = load.Count;
+  core_attrs = [];
+  thread_attrs = [];
+  place = here;
+  elect = [];
+  handlers = handlers;
+  filter = filter;
+  choose = [];
+  steal = [];
 }
 
 abbrev basic : Meaning
@@ -46,7 +52,7 @@ abbrev pair : List Row → LinearSystem
 pair rows = record {
   bounds = count ∷ count ∷ count ∷ count ∷ [];
   rows = row (plus_one 0 ∷ minus_one 1 ∷ []) (pos 0) ∷ row (minus_one 0 ∷ plus_one 1 ∷ []) (pos 0)
-    ∷ row (plus_one 2 ∷ minus_one 3 ∷ []) (pos 0) ∷ row (minus_one 2 ∷ plus_one 3 ∷ []) (pos 0) ∷ rows;
+      ∷ row (plus_one 2 ∷ minus_one 3 ∷ []) (pos 0) ∷ row (minus_one 2 ∷ plus_one 3 ∷ []) (pos 0) ∷ rows;
 }
 
 basic_sees : systems_of basic idle_sees_overloaded ≡
@@ -69,9 +75,12 @@ eight = both (both (both (both (both (both (both differs differs) differs) diffe
 
 eight_sees : case_count (policy eight) idle_sees_overloaded ≡ 8
 eight_sees = refl
+
 eight_spares : case_count (policy eight) victim_is_overloaded ≡ 256
 eight_spares = refl
+
 nine_spares : case_count (policy (both eight differs)) victim_is_overloaded ≡ 512
 nine_spares = refl
+
 eight_cases : length (systems_of (policy eight) victim_is_overloaded) ≡ 256
 eight_cases = refl

@@ -1,21 +1,20 @@
 -- A system of a case has a solution exactly where all rows of the case hold of some values in the ranges.
-use Rattle.std.proofs.Common.{◌≡◌, ℕ, zero, suc, ◌<◌, ℤ, pos, ◌*ℤ◌, ◌+ℤ◌, ◌≤ℤ◌, int_le, Bool, true, false, cond, ◌&&◌, ◌||◌, List, [], ◌∷◌, length, map, get_or, slice_index_or, refl, sym, ap, ap₂, ◌∙◌, subst, arith}
-use Rattle.std.specs.List.{AllByRecursion, AllZip, list_all}
+use Rattle.std.proofs.Common.{◌≡◌, ℕ, ◌<◌, ℤ, pos, ◌*ℤ◌, ◌+ℤ◌, ◌≤ℤ◌, Bool, true, false, cond, List, [], ◌∷◌, map, get_or, refl, sym, ap, ap₂, ◌∙◌, subst, arith}
+use Rattle.std.specs.List.{AllByRecursion, AllZip}
 use Rattle.std.proofs.lemmas.Int.{ints}
 use Rattle.std.proofs.lemmas.List.{get_or-map, length-map}
 use Rattle.policy_tree.specs.Meaning.{Meaning}
-use Rattle.policy_eval.specs.Ranges.{AreIn, IsIn, Range}
+use Rattle.policy_eval.specs.Ranges.{AreIn, IsIn}
 use Rattle.policy_eval.specs.Resolved.{IsResolved}
 use Rattle.policy_eval.specs.Values.{Assignment, variable_of}
 use Rattle.linear_form.specs.declared.form.Term.{Term}
 use Rattle.linear_form.specs.declared.form.Row.{Row}
-use Rattle.linear_form.specs.declared.form.Bound.{Bound}
-use Rattle.linear_form.specs.Solution.{HasNoSolution, IsWithin, RowHolds, Solves, left_side, value_at}
+use Rattle.linear_form.specs.Solution.{IsWithin, RowHolds, Solves, left_side, value_at}
 use Rattle.linear_form.proofs.Points.{rows_by_parts, solves_by_parts}
 use Rattle.obligations.specs.Systems.{bound_of, kept_below, place_of, placed, variable_ranges}
 use Rattle.obligations.proofs.Folds.{case_holds, row_holds}
 use Rattle.obligations.proofs.Tests.{and_true, le_told, le_tells, true_and}
-use Rattle.obligations.proofs.Kept.{AllByRecursion-mono, IsKept, all_kept, first_values, first_values-at, kept_at, length-first_values, place_inside}
+use Rattle.obligations.proofs.Kept.{IsKept, all_kept, first_values, first_values-at, kept_at, length-first_values, place_inside}
 use Rattle.obligations.proofs.Occurring.{HasKept}
 use Rattle.obligations.proofs.Ranges.{AllByRecursion-at, AreIn-at, AreIn-each, IsNotEmpty, length-variable_ranges, none, variable_ranges-not_empty}
 
@@ -106,8 +105,8 @@ module _ (p : Meaning) (is : IsResolved p) (keeps : ℕ → Bool) where
       let long = length-variable_ranges p is in
       AreIn-each (variable_ranges p) (first_values (spread point) 30) (length-first_values (spread point) 30 ∙ sym long)
       (λ k lt.
-        let below : k < 30 = omega arith in
-        subst (λ x. IsIn (get_or (variable_ranges p) k none) x) (sym (first_values-at (spread point) 30 k (pos 0) below)) (spread-in rows point solves k below))
+      let below : k < 30 = omega arith in
+      subst (λ x. IsIn (get_or (variable_ranges p) k none) x) (sym (first_values-at (spread point) 30 k (pos 0) below)) (spread-in rows point solves k below))
 
   -- at which the rows hold
   pub values_of-hold : (rows : List Row) (point : List ℤ) → AllByRecursion (HasKept keeps 30) rows → Solves (map (bound_of p) (kept_below keeps 30)) (map (placed keeps) rows) point

@@ -1,5 +1,5 @@
 -- Tests of whole numbers, moved from one side to the other.
-use Rattle.std.proofs.Common.{◌≡◌, ℕ, ℤ, pos, negsuc, neg_ℤ, ◌+ℤ◌, ◌-ℤ◌, int_le, int_lt, Bool, true, false, not, ◌&&◌, ◌||◌, ◌≤ℤ◌, ◌⊎◌, inl, inr, refl, arith}
+use Rattle.std.proofs.Common.{◌≡◌, ℤ, pos, negsuc, neg_ℤ, ◌+ℤ◌, ◌-ℤ◌, int_le, int_lt, Bool, true, false, not, ◌&&◌, ◌||◌, ◌≤ℤ◌, ◌⊎◌, inl, inr, refl, arith}
 use Rattle.std.specs.Ordering.{int_eq}
 use Rattle.std.proofs.lemmas.Int.{ints}
 
@@ -50,3 +50,19 @@ or_right false c e = e
 pub or_true : (b c : Bool) → (b || c) ≡ true → (b ≡ true) ⊎ (c ≡ true)
 or_true true c e = inl refl
 or_true false c e = inr e
+
+pub or_false : (b c : Bool) → (b || c) ≡ false → (b ≡ false) × (c ≡ false)
+or_false true c e = absurd (cc)
+or_false false c e = (refl, e)
+
+pub not_false : (b : Bool) → not b ≡ true → b ≡ false
+not_false true e = absurd (cc)
+not_false false e = refl
+
+pub not_true : (b : Bool) → not b ≡ false → b ≡ true
+not_true true e = refl
+not_true false e = absurd (cc)
+
+pub not_refuted : (b : Bool) → (b ≡ true → ⊥) → b ≡ false
+not_refuted true refuted = absurd (refuted refl)
+not_refuted false refuted = refl

@@ -1,13 +1,11 @@
 -- The left side of a row made from a linear form is the form's sum of coefficients times values.
-use Rattle.std.proofs.Common.{◌≡◌, ℕ, zero, suc, ◌+◌, ◌<◌, ◌≤◌, eqb, ℤ, pos, ◌+ℤ◌, ◌-ℤ◌, ◌*ℤ◌, neg_ℤ, Bool, true, false, cond, List, [], ◌∷◌, ◌++◌, length, get_or, take, refl, sym, ap, ◌∙◌, arith, eq-eqb, ne_eqb, add-one}
+use Rattle.std.proofs.Common.{◌≡◌, ℕ, zero, suc, ◌+◌, ◌<◌, eqb, ℤ, pos, ◌+ℤ◌, ◌*ℤ◌, Bool, true, false, cond, List, [], ◌∷◌, ◌++◌, get_or, take, refl, sym, ap, ◌∙◌, arith, eq-eqb, ne_eqb}
 use Rattle.std.proofs.Math.IntN.{zero-*ℤ, +ℤ_idr, *ℤ-zero}
 use Rattle.std.specs.Ordering.{int_eq}
 use Rattle.std.proofs.lemmas.Int.{ints}
 use Rattle.std.proofs.lemmas.Bool.Decides.{Decides-int_eq}
-use Rattle.linear_form.specs.declared.form.Term.{Term}
 use Rattle.linear_form.specs.Solution.{left_side, term_value, value_at}
 use Rattle.linear_form.specs.Sum.{sum_over}
-use Rattle.policy_eval.specs.Values.{Assignment, variable_of}
 use Rattle.policy_eval.proofs.Forms.{weighted}
 use Rattle.obligations.specs.Forms.{term_of, terms_below}
 

@@ -9,7 +9,7 @@ use Rattle.policy_eval.specs.Obligations.{Statement}
 use Rattle.obligations.specs.declared.counts.TheConstants.{MAX_COUNT}
 use Rattle.obligations.specs.declared.names.ObName.{ObName}
 use Rattle.obligations.specs.Cases.{asked}
-use Rattle.obligations.specs.Names.{ob_names, statement_of}
+use Rattle.obligations.specs.Names.{statement_of}
 use Rattle.obligations.specs.Refutations.{refutation}
 
 -- a comparison counts 1, and `!=` counts 2

@@ -1,5 +1,5 @@
 -- Laws: what the names stand for, and that the systems say what the statements say.
-use Rattle.std.specs.Prelude.{◌≡◌, ℕ, ◌↔◌, List, All, map, length}
+use Rattle.std.specs.Prelude.{◌≡◌, ◌↔◌, List, All, map, length}
 use Rattle.linear_form.specs.Solution.{HasNoSolution}
 use Rattle.linear_form.specs.System.{LinearSystem}
 use Rattle.policy_tree.specs.Meaning.{Meaning}
