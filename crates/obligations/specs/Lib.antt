@@ -4,4 +4,5 @@ pub mod Forms
 pub mod Cases
 pub mod Counts
 pub mod Systems
+pub mod Tallies
 pub mod Laws

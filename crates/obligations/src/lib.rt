@@ -1,6 +1,7 @@
 //! Every obligation of a policy as systems of linear rows: it holds exactly where none of them has a solution.
 #![tactic(auto)]
 
+mod comparisons;
 mod counts;
 pub mod laws;
 mod names;
