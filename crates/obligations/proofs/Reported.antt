@@ -41,8 +41,8 @@ reported-times n (suc m) =
     ⊎_elim
     (λ small. ap (λ k. reported (k * suc m)) small.1)
     (λ great.
-      let first = times_more (reported n) (suc m) (omega arith) in let second = times_more n (suc m) (omega arith) in
-      reported-of_great (reported n * suc m) (omega arith) ∙ sym (reported-of_great (n * suc m) (omega arith)))
+    let first = times_more (reported n) (suc m) (omega arith) in let second = times_more n (suc m) (omega arith) in
+    reported-of_great (reported n * suc m) (omega arith) ∙ sym (reported-of_great (n * suc m) (omega arith)))
     (as_is_or_greatest n)
 
 pub reported-times_right : (n m : ℕ) → reported (n * reported m) ≡ reported (n * m)

@@ -5,4 +5,5 @@ pub mod Cases
 pub mod Counts
 pub mod Systems
 pub mod Tallies
+pub mod Demands
 pub mod Laws

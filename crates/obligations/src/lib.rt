@@ -3,9 +3,11 @@
 
 mod comparisons;
 mod counts;
+mod crowding;
 pub mod laws;
 mod names;
 mod obligation;
+mod statements;
 mod variables;
 
 pub use counts::MAX_COUNT;

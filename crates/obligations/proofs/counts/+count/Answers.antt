@@ -16,8 +16,8 @@ loop-rest-preserved-in-And t c =
     let count = count_of_both outcome left right ∙ ap (count_of outcome) (sym split) in
     record {
       same =
-        c.linked-tally.ensures.worth (count_of outcome left) (count_of outcome right) c.count-in-And.ensures
-        ∙ (ap (λ k. reported (worth c.loop-rest.tally k)) count ∙ c.loop-rest.invariant.same);
+          c.linked-tally.ensures.worth (count_of outcome left) (count_of outcome right) c.count-in-And.ensures
+          ∙ (ap (λ k. reported (worth c.loop-rest.tally k)) count ∙ c.loop-rest.invariant.same);
       shallow = omega arith;
       small = c.linked-tally.ensures.small;
     }
@@ -31,8 +31,8 @@ loop-rest-preserved t c =
     let count = count_of_either outcome left right ∙ ap (count_of outcome) (sym split) in
     record {
       same =
-        c.linked-tally-in-Or.ensures.worth (count_of outcome left) (count_of outcome right) c.count-in-Or.ensures
-        ∙ (ap (λ k. reported (worth c.loop-rest.tally k)) count ∙ c.loop-rest.invariant.same);
+          c.linked-tally-in-Or.ensures.worth (count_of outcome left) (count_of outcome right) c.count-in-Or.ensures
+          ∙ (ap (λ k. reported (worth c.loop-rest.tally k)) count ∙ c.loop-rest.invariant.same);
       shallow = omega arith;
       small = c.linked-tally-in-Or.ensures.small;
     }
