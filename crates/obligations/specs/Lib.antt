@@ -6,4 +6,5 @@ pub mod Counts
 pub mod Systems
 pub mod Tallies
 pub mod Demands
+pub mod CodeForms
 pub mod Laws

@@ -5,6 +5,7 @@ mod comparisons;
 mod counts;
 mod crowding;
 pub mod laws;
+mod forms;
 mod names;
 mod obligation;
 mod statements;

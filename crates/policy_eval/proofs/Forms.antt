@@ -68,12 +68,12 @@ or_none : (a b : Bool) → (a || b) ≡ false → (a ≡ false) × (b ≡ false)
 or_none true b e = absurd (cc)
 or_none false b e = (refl, e)
 
-and_none : (a b : Bool) → (a && b) ≡ false → (a ≡ false) ⊎ (b ≡ false)
+pub and_none : (a b : Bool) → (a && b) ≡ false → (a ≡ false) ⊎ (b ≡ false)
 and_none true b e = inr e
 and_none false b e = inl refl
 
 -- an expression without variables has no coefficient
-coefficient_none : (e : ExprTree) → has_reference e ≡ false → (v : ℕ) → coefficient_of e v ≡ pos 0
+pub coefficient_none : (e : ExprTree) → has_reference e ≡ false → (v : ℕ) → coefficient_of e v ≡ pos 0
 coefficient_none (number n) none v = refl
 coefficient_none (variable at) none v = absurd (cc)
 coefficient_none (negation e) none v = ap neg_ℤ (coefficient_none e none v)

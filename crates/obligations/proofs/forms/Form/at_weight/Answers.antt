@@ -1,0 +1,12 @@
+use Rattle.std.proofs.Common.{get_or, pos, arith}
+use Rattle.obligations.proofs.Stored.{stored_weight, zero_at}
+use Rattle.obligations.proofs.forms.Form.at_weight.Goals as goal
+
+pub returns : goal.returns
+returns c =
+    let light = c.requires.weight in
+    record {
+      constant = stored_weight c.args.self.constant (get_or c.args.self.coefficients 4 (pos 0)) c.from.result c.args.weight c.from.ensures
+        c.requires.small.constant (c.requires.small.coefficients 4) (omega (arith, light));
+      coefficients = λ v lt. zero_at c.args.self.coefficients 4 v;
+    }
