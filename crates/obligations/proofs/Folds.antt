@@ -1,7 +1,7 @@
 -- Rows, cases and lists of cases as tests of the values.
-use Rattle.std.proofs.Common.{◌≡◌, ◌*◌, int_le, Bool, true, false, ◌&&◌, ◌||◌, List, [], ◌∷◌, ◌++◌, length, map, refl, ap, ◌∙◌, arith}
+use Rattle.std.proofs.Common.{◌≡◌, ◌*◌, int_le, Bool, true, false, ◌&&◌, ◌||◌, List, [], ◌∷◌, ◌++◌, length, map, refl, sym, ap, ◌∙◌, arith}
 use Rattle.std.specs.List.{list_all, list_any}
-use Rattle.std.proofs.lemmas.List.{length-append, length-map}
+use Rattle.std.proofs.lemmas.List.{append-nil, append_assoc, length-append, length-map}
 use Rattle.std.proofs.lemmas.List.Folds.{list_all-append, list_any-append}
 use Rattle.linear_form.specs.declared.form.Row.{Row}
 use Rattle.linear_form.specs.Solution.{left_side}
@@ -67,3 +67,10 @@ length-crossed (rows ∷ left) right =
     let each = length-map right (λ (more : List Row). rows ++ more) in
     let rest = length-crossed left right in
     omega arith
+
+-- one more case on the left
+pub crossed_push : (left : List (List Row)) (rows : List Row) (right : List (List Row)) → crossed (left ++ rows ∷ []) right ≡ crossed left right ++ map (λ more. rows ++ more) right
+crossed_push [] rows right = append-nil (map (λ more. rows ++ more) right)
+crossed_push (first ∷ left) rows right =
+    ap (λ cases. map (λ more. first ++ more) right ++ cases) (crossed_push left rows right)
+    ∙ sym (append_assoc (map (λ more. first ++ more) right) (crossed left right) (map (λ more. rows ++ more) right))

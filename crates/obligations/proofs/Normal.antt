@@ -52,6 +52,7 @@ opposite-value values d = let other = weighted_negated d.coefficient 0 values in
 
 -- a row compares the value of its form
 row-value : (values : Assignment) → length values ≡ 30 → (d : LinearForm) (most : ℤ) → row_holds values (at_most d most) ≡ int_le (value_of_form values d) most
+unfolding at_most
 row-value values all d most =
     ap (λ x. int_le x (most -ℤ d.constant)) (terms_below-value d.coefficient values 30 ∙ ap (weighted d.coefficient 0) (take_all 30 values (omega arith)))
     ∙ le_moved (weighted d.coefficient 0 values) most d.constant

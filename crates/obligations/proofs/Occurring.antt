@@ -72,6 +72,7 @@ terms_below-below c (suc n) =
 
 -- the rows of a condition's cases are rows over the variables that there are
 pub cases_below : (load : Load) (outcome : Bool) (c : CondTree) → AllRows (IsBelow 30) (cases_of load outcome c)
+unfolding at_most
 cases_below load outcome c =
     all_rows (IsBelow 30) load (λ e. Unit {0})
     (λ how l r left right. test_rows (IsBelow 30) (λ d most. terms_below-below d.coefficient 30) how (form_of load (minus l r)))

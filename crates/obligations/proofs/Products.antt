@@ -18,22 +18,22 @@ module _ (l r : ExprTree) (linear : IsLinear (times l r)) (v : ℕ) where
   pub first_small : IsSmall (constant_of l *ℤ coefficient_of r v)
   first_small = ⊎_elim
       (λ (none : has_reference l ≡ false).
-        let zero : coefficient_of l v *ℤ constant_of r ≡ pos 0 = ap (λ x. x *ℤ constant_of r) (coefficient_none l none v) ∙ zero-*ℤ (constant_of r) in
-        subst IsSmall (ap (λ x. constant_of l *ℤ coefficient_of r v +ℤ x) zero ∙ +ℤ_idr (constant_of l *ℤ coefficient_of r v)) sum_small)
+      let zero : coefficient_of l v *ℤ constant_of r ≡ pos 0 = ap (λ x. x *ℤ constant_of r) (coefficient_none l none v) ∙ zero-*ℤ (constant_of r) in
+      subst IsSmall (ap (λ x. constant_of l *ℤ coefficient_of r v +ℤ x) zero ∙ +ℤ_idr (constant_of l *ℤ coefficient_of r v)) sum_small)
       (λ (none : has_reference r ≡ false).
-        let zero : constant_of l *ℤ coefficient_of r v ≡ pos 0 = ap (λ x. constant_of l *ℤ x) (coefficient_none r none v) ∙ *ℤ-zero (constant_of l) in
-        subst IsSmall (sym zero) none_small)
+      let zero : constant_of l *ℤ coefficient_of r v ≡ pos 0 = ap (λ x. constant_of l *ℤ x) (coefficient_none r none v) ∙ *ℤ-zero (constant_of l) in
+      subst IsSmall (sym zero) none_small)
       (and_none (has_reference l) (has_reference r) linear.2)
 
   pub second_small : IsSmall (coefficient_of l v *ℤ constant_of r)
   second_small = ⊎_elim
       (λ (none : has_reference l ≡ false).
-        let zero : coefficient_of l v *ℤ constant_of r ≡ pos 0 = ap (λ x. x *ℤ constant_of r) (coefficient_none l none v) ∙ zero-*ℤ (constant_of r) in
-        subst IsSmall (sym zero) none_small)
+      let zero : coefficient_of l v *ℤ constant_of r ≡ pos 0 = ap (λ x. x *ℤ constant_of r) (coefficient_none l none v) ∙ zero-*ℤ (constant_of r) in
+      subst IsSmall (sym zero) none_small)
       (λ (none : has_reference r ≡ false).
-        let zero : constant_of l *ℤ coefficient_of r v ≡ pos 0 = ap (λ x. constant_of l *ℤ x) (coefficient_none r none v) ∙ *ℤ-zero (constant_of l) in
-        let sum : constant_of l *ℤ coefficient_of r v +ℤ coefficient_of l v *ℤ constant_of r ≡ coefficient_of l v *ℤ constant_of r = omega (arith, ints) in
-        subst IsSmall sum sum_small)
+      let zero : constant_of l *ℤ coefficient_of r v ≡ pos 0 = ap (λ x. constant_of l *ℤ x) (coefficient_none r none v) ∙ *ℤ-zero (constant_of l) in
+      let sum : constant_of l *ℤ coefficient_of r v +ℤ coefficient_of l v *ℤ constant_of r ≡ coefficient_of l v *ℤ constant_of r = omega (arith, ints) in
+      subst IsSmall sum sum_small)
       (and_none (has_reference l) (has_reference r) linear.2)
 
 -- a small number comes back from its bits as it was

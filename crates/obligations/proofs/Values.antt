@@ -1,5 +1,5 @@
 -- The left side of a row made from a linear form is the form's sum of coefficients times values.
-use Rattle.std.proofs.Common.{◌≡◌, ℕ, zero, suc, ◌+◌, ◌<◌, eqb, ℤ, pos, ◌+ℤ◌, ◌*ℤ◌, Bool, true, false, cond, List, [], ◌∷◌, ◌++◌, get_or, take, refl, sym, ap, ◌∙◌, arith, eq-eqb, ne_eqb}
+use Rattle.std.proofs.Common.{◌≡◌, ℕ, zero, suc, ◌+◌, ◌<◌, eqb, ℤ, pos, ◌+ℤ◌, ◌*ℤ◌, Bool, true, false, cond, List, [], ◌∷◌, ◌++◌, get_or, take, refl, sym, ap, ap₂, ◌∙◌, arith, eq-eqb, ne_eqb}
 use Rattle.std.proofs.Math.IntN.{zero-*ℤ, +ℤ_idr, *ℤ-zero}
 use Rattle.std.specs.Ordering.{int_eq}
 use Rattle.std.proofs.lemmas.Int.{ints}
@@ -67,3 +67,9 @@ weighted_without c at i (suc k) (x ∷ xs) is =
     let rest = weighted_without c at (suc i) k xs (omega arith) in
     let here : without at c i *ℤ x ≡ c i *ℤ x = ap (λ t. cond t (pos 0) (c i) *ℤ x) (ne_eqb i at (λ e. absurd (omega arith))) in
     omega (arith, ints)
+
+-- terms of the same coefficients
+pub terms_below-same : (c d : ℕ → ℤ) (n : ℕ) → ((v : ℕ) → v < n → c v ≡ d v) → terms_below c n ≡ terms_below d n
+terms_below-same c d zero same = refl
+terms_below-same c d (suc n) same =
+    ap₂ (λ xs ys. xs ++ ys) (terms_below-same c d n (λ v lt. same v (omega (arith, lt)))) (ap (term_of n) (same n (omega arith)))

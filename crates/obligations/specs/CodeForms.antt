@@ -1,9 +1,11 @@
 -- Linear forms as the code has them: a constant and a coefficient for each variable. This serves the code alone.
-use Rattle.std.specs.Prelude.{◌≡◌, ℕ, ◌+◌, ◌^◌, ◌<◌, ◌≤◌, ℤ, pos, slice_index_or, unsigned_abs}
+use Rattle.std.specs.Prelude.{◌≡◌, ℕ, ◌+◌, ◌^◌, ◌<◌, ◌≤◌, ℤ, pos, slice_index_or, unsigned_abs, cond, Option, Some, None}
+use Rattle.policy_tree.specs.declared.typed.Load.{Load}
+use Rattle.policy_eval.specs.Ranges.{least_weight}
 use Rattle.sched_base.specs.declared.limits.TheConstants.{MAX_COEFFICIENT, VARIABLES}
 use Rattle.linear_form.specs.declared.form.TheConstants.{MAX_COEF, MAX_ROW_BOUND}
 use Rattle.obligations.specs.declared.forms.Form.{Form}
-use Rattle.obligations.specs.Forms.{LinearForm}
+use Rattle.obligations.specs.Forms.{LinearForm, weighs_one}
 
 -- the form that the code has
 abbrev pub form_seen : Form → LinearForm
@@ -17,9 +19,13 @@ pub record IsForm (form : Form) (d : LinearForm) : Type 0 where
 -- its numbers fit a row, whatever the sign
 pub record FitsRow (d : LinearForm) : Type 0 where
   pub constant : unsigned_abs d.constant < MAX_ROW_BOUND
-  pub coefficients : (v : ℕ) → unsigned_abs (d.coefficient v) ≤ MAX_COEF
+  pub coefficients : (v : ℕ) → v < VARIABLES → unsigned_abs (d.coefficient v) ≤ MAX_COEF
 
 -- its numbers are differences of small ones
 pub record IsDifferenceForm (d : LinearForm) : Type 0 where
   pub constant : unsigned_abs d.constant ≤ 2 ^ 41
-  pub coefficients : (v : ℕ) → unsigned_abs (d.coefficient v) ≤ 2 ^ 41
+  pub coefficients : (v : ℕ) → v < VARIABLES → unsigned_abs (d.coefficient v) ≤ 2 ^ 41
+
+-- what all threads weigh, if they weigh the same
+abbrev pub only_weight : Load → Option ℕ
+only_weight load = cond (weighs_one load) (Some (least_weight load)) None

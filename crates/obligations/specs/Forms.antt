@@ -48,5 +48,5 @@ terms_below coefficient zero = []
 terms_below coefficient (suc v) = terms_below coefficient v ++ term_of v (coefficient v)
 
 -- the form is at most that number: its constant is moved to the bound
-abbrev pub at_most : LinearForm → ℤ → Row
+unfoldable pub at_most : LinearForm → ℤ → Row
 at_most form most = record { terms = terms_below form.coefficient VARIABLES; bound = most -ℤ form.constant }

@@ -7,4 +7,5 @@ pub mod Systems
 pub mod Tallies
 pub mod Demands
 pub mod CodeForms
+pub mod ChainCases
 pub mod Laws

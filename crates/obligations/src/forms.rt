@@ -1,16 +1,16 @@
 //! Linear forms, and the rows that they give.
 
-ghost use Rattle.std.specs.Prelude.{◌≡◌, ◌≤◌, ◌<◌, ℤ, ◌+ℤ◌, ◌*ℤ◌, pos, unsigned_abs, IfOk, length};
+ghost use Rattle.std.specs.Prelude.{◌≡◌, ◌≤◌, ◌<◌, ℤ, ◌+ℤ◌, ◌*ℤ◌, pos, unsigned_abs, IfOk, IfSome, length};
 ghost use Rattle.policy_tree.specs.Trees.{expr_tree, minus};
 ghost use Rattle.policy_eval.specs.Forms.{IsLinear, IsSmall, coefficient_of, constant_of};
 ghost use Rattle.policy_eval.specs.Resolved.{IsWeightRange};
-ghost use Rattle.obligations.specs.CodeForms.{FitsRow, IsDifferenceForm, IsForm, form_seen};
-ghost use Rattle.obligations.specs.Forms.{at_most, at_weight, form_of, opposite, plain_form};
+ghost use Rattle.obligations.specs.CodeForms.{FitsRow, IsDifferenceForm, IsForm, form_seen, only_weight};
+ghost use Rattle.obligations.specs.Forms.{LinearForm, at_most, at_weight, form_of, opposite, plain_form};
 
 use crate::variables::WEIGHT;
 use linear_form::{Row, Term};
 use lists::Items;
-use policy_tree::Expr;
+use policy_tree::{Expr, Load};
 use sched_base::{MAX_WEIGHT, VARIABLES};
 use std::alloc::{AllocError, Global};
 
@@ -82,11 +82,39 @@ fn product(left: i64, right: i64) -> i64
     left * right
 }
 
+/// The form of the difference of two expressions, the weight of a thread being a number where all weigh the same.
+pub fn form_of_difference(load: Load, left: &Expr, right: &Expr) -> Form
+    requires load { IsWeightRange load }
+    requires left { IsLinear (expr_tree left.now) }
+    requires right { IsLinear (expr_tree right.now) }
+    ensures form { IsForm result (form_of load (minus (expr_tree left.now) (expr_tree right.now))) }
+    ensures fits { FitsRow (form_seen result) }
+{
+    let plain = plain_form(left, right);
+    match only_weight(load) {
+        Some(weight) => plain.at_weight(weight),
+        None => plain,
+    }
+}
+
+/// What all threads weigh, if they weigh the same.
+fn only_weight(load: Load) -> Option<u32>
+    requires load { IsWeightRange load }
+    ensures value { result ≡ only_weight load }
+    ensures light { IfSome result (λ weight. weight ≤ MAX_WEIGHT) }
+{
+    match load {
+        Load::Count => Some(1),
+        Load::Weight { lo, hi } => { if lo == hi { Some(lo) } else { None } }
+    }
+}
+
 /// The form of the difference of two expressions as it stands.
 fn plain_form(left: &Expr, right: &Expr) -> Form
     requires left { IsLinear (expr_tree left.now) }
     requires right { IsLinear (expr_tree right.now) }
     ensures form { IsForm result (plain_form (minus (expr_tree left.now) (expr_tree right.now))) }
+    ensures small { IsDifferenceForm (form_seen result) }
 {
     let mut coefficients = [0; VARIABLES];
     for variable in 0..VARIABLES {
@@ -116,8 +144,9 @@ impl Form {
 
     /// The form with the other sign.
     pub fn opposite(self) -> Form
-        requires small { FitsRow (form_seen self) }
-        ensures { IsForm result (opposite (form_seen self)) }
+        requires fits { FitsRow (form_seen self) }
+        ensures form { (d : LinearForm) → IsForm self d → IsForm result (opposite d) }
+        ensures fits { FitsRow (form_seen result) }
     {
         let mut coefficients = [0; VARIABLES];
         for variable in 0..VARIABLES {
@@ -131,9 +160,9 @@ impl Form {
 
     /// The row that says that the form is at most that number.
     pub fn at_most(&self, alloc: Global, most: i64) -> Result<Row, AllocError>
-        requires small { FitsRow (form_seen self.now) }
+        requires fits { FitsRow (form_seen self.now) }
         requires most { unsigned_abs most ≤ 1 }
-        ensures { IfOk result (λ row. row ≡ at_most (form_seen self.now) most) }
+        ensures { (d : LinearForm) → IsForm self.now d → IfOk result (λ row. row ≡ at_most d most) }
     {
         let mut terms = Vec::new(alloc);
         for variable in 0..VARIABLES {

@@ -1,13 +1,16 @@
 //! Every obligation of a policy as systems of linear rows: it holds exactly where none of them has a solution.
 #![tactic(auto)]
 
+mod building;
 mod comparisons;
 mod counts;
+mod crossing;
 mod crowding;
-pub mod laws;
 mod forms;
+pub mod laws;
 mod names;
 mod obligation;
+mod rows;
 mod statements;
 mod variables;
 

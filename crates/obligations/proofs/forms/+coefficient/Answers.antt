@@ -31,6 +31,6 @@ product_coefficient-requires-clause-sum t c =
     let last = c.constant-in-Mul.ensures.value ∙ ap (λ e. constant_of (expr_tree e)) c.deref-in-Mul-4.ensures in
     subst IsSmall
     (ap₂ (λ x y. x +ℤ y)
-      (stored_product _ _ _ _ c.constant.ensures.small c.coefficient-in-Mul.ensures.small left right)
-      (stored_product _ _ _ _ c.coefficient-in-Mul-2.ensures.small c.constant-in-Mul.ensures.small other last))
+    (stored_product _ _ _ _ c.constant.ensures.small c.coefficient-in-Mul.ensures.small left right)
+    (stored_product _ _ _ _ c.coefficient-in-Mul-2.ensures.small c.constant-in-Mul.ensures.small other last))
     (sum_small l r linear c.args.variable)

@@ -10,6 +10,7 @@ use Rattle.linear_form.specs.declared.form.Term.{Term}
 use Rattle.linear_form.specs.declared.form.Row.{Row}
 use Rattle.linear_form.specs.declared.form.Bound.{Bound}
 use Rattle.linear_form.specs.System.{LinearSystem}
+use Rattle.obligations.specs.Forms.{at_most}
 use Rattle.obligations.specs.Counts.{case_count}
 use Rattle.obligations.specs.Systems.{systems_of}
 
@@ -57,14 +58,17 @@ pair rows = record {
 
 basic_sees : systems_of basic idle_sees_overloaded ≡
     pair (row (plus_one 0 ∷ []) (pos 0) ∷ row (minus_one 2 ∷ []) (negsuc 1) ∷ row (minus_one 0 ∷ plus_one 2 ∷ []) (pos 1) ∷ []) ∷ []
+unfolding at_most
 basic_sees = refl
 
 basic_spares : systems_of basic victim_is_overloaded ≡
     pair (row (plus_one 2 ∷ []) (pos 1) ∷ row (plus_one 0 ∷ minus_one 2 ∷ []) (negsuc 1) ∷ []) ∷ []
+unfolding at_most
 basic_spares = refl
 
 basic_narrows : systems_of basic move_narrows_gap ≡
     pair (row (plus_one 2 ∷ minus_one 3 ∷ []) (pos 0) ∷ row (minus_one 1 ∷ plus_one 3 ∷ []) (pos 1) ∷ row (plus_one 0 ∷ minus_one 2 ∷ []) (negsuc 1) ∷ []) ∷ []
+unfolding at_most
 basic_narrows = refl
 
 abbrev differs : CondTree
