@@ -100,14 +100,14 @@ module _ (Q : ExprTree → Type 0) where
       (AllByRecursion-append (EachSide Q) (map both_of (map (λ d. (c, d)) cs)) (map both_of (pairs_of cs)) (pairs_with c cs sides.0 sides.1) (pairs-sides cs sides.1))
 
 module _ (p : Meaning) (is : IsResolved p) where
-  guards-linear : (e : Event) (cases : List CaseTree) → All (IsResolvedCase p e) cases → AllByRecursion (EachSide IsLinear) (map (λ (c : CaseTree). c.guard) cases)
+  pub guards-linear : (e : Event) (cases : List CaseTree) → All (IsResolvedCase p e) cases → AllByRecursion (EachSide IsLinear) (map (λ (c : CaseTree). c.guard) cases)
   guards-linear e [] each = tt
   guards-linear e (c ∷ cases) each = (
     EachSide-mono (IsResolvedExpr p (handling e)) IsLinear (λ x resolved. resolved.linear) c.guard (each 0 c (omega arith)).guard.sides,
     guards-linear e cases (λ k d inside. each (suc k) d (omega arith)),
   )
 
-  filter-linear : EachSide IsLinear p.filter
+  pub filter-linear : EachSide IsLinear p.filter
   filter-linear = EachSide-mono (IsResolvedExpr p filtering) IsLinear (λ x resolved. resolved.linear) p.filter is.filter.sides
 
   least-small : least_weight p.load ≤ 2 ^ 20

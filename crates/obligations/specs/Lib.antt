@@ -8,4 +8,5 @@ pub mod Tallies
 pub mod Demands
 pub mod CodeForms
 pub mod ChainCases
+pub mod Marks
 pub mod Laws

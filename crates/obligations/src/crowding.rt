@@ -53,7 +53,7 @@ fn pair_count(cases: &[Case]) -> u32
 }
 
 /// The number of cases in which no guard holds.
-fn gap_count(cases: &[Case]) -> u32
+pub fn gap_count(cases: &[Case]) -> u32
     ensures { result ≡ reported (gap_count (guards_of (map case_tree cases.now))) }
 {
     let mut gaps = 1;
