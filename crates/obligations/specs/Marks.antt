@@ -1,5 +1,8 @@
 -- Marks of variables, and the places of those that are marked. This serves the code alone.
-use Rattle.std.specs.Prelude.{◌≡◌, ℕ, ◌<◌, ◌||◌, ◌==◌, Bool, false, List, slice_index_or}
+use Rattle.std.specs.Prelude.{◌≡◌, ℕ, ◌<◌, ◌||◌, ◌==◌, ℤ, pos, Bool, false, List, map, slice_index_or}
+use Rattle.policy_tree.specs.declared.typed.Attr.{Attr}
+use Rattle.policy_eval.specs.Ranges.{Range, declared_range, range}
+use Rattle.linear_form.specs.declared.form.Bound.{Bound}
 use Rattle.std.specs.List.{AllByRecursion, list_any}
 use Rattle.sched_base.specs.declared.limits.TheConstants.{VARIABLES}
 use Rattle.linear_form.specs.declared.form.Term.{Term}
@@ -24,3 +27,19 @@ kept_of marks v = slice_index_or marks v false
 -- these are marked, and no others that weren't before
 pub record IsMarked (before after : List Bool) (marked : ℕ → Bool) : Type 0 where
   pub each : (v : ℕ) → v < VARIABLES → kept_of after v ≡ (kept_of before v || marked v)
+
+-- the row over these places
+abbrev pub placed_by : List ℕ → Row → Row
+placed_by places row = record {
+  terms = map (λ (term : Term). record { var = slice_index_or places term.var 0; coef = term.coef }) row.terms;
+  bound = row.bound;
+}
+
+-- from 0 to that number
+abbrev pub up_to : ℤ → Bound
+up_to high = record { lo = pos 0; hi = high }
+
+-- the range of an attribute, 0 alone where none is declared
+abbrev pub declared_bound : List Attr → ℕ → Bound
+declared_bound attrs at =
+    let r : Range = slice_index_or (map declared_range attrs) at (range (pos 0) (pos 0)) in record { lo = r.low; hi = r.high }

@@ -1,6 +1,7 @@
 //! Every obligation of a policy as systems of linear rows: it holds exactly where none of them has a solution.
 #![tactic(auto)]
 
+mod assembling;
 mod building;
 mod comparisons;
 mod counts;
@@ -11,6 +12,7 @@ pub mod laws;
 mod marking;
 mod names;
 mod obligation;
+mod placing;
 mod premises;
 mod refuting;
 mod rows;

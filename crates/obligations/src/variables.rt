@@ -14,3 +14,13 @@ pub const VICTIM_LOAD: u32 = 3;
 
 /// The weight of a thread. The variables below it are those of a pair of cores.
 pub const WEIGHT: u32 = 4;
+
+/// Whether the thread enters just now.
+pub const FRESH: u32 = 5;
+
+/// The first attribute of the acting core, of the core that it may steal from, and of the thread.
+pub const SELF_ATTRIBUTES: u32 = 6;
+
+pub const VICTIM_ATTRIBUTES: u32 = 14;
+
+pub const THREAD_ATTRIBUTES: u32 = 22;
