@@ -1,16 +1,14 @@
 -- One more link of a chain, and links that no case comes of.
-use Rattle.std.proofs.Common.{◌≡◌, ℕ, ◌+◌, ◌<◌, ◌≤◌, Bool, true, false, cond, List, [], ◌∷◌, ◌++◌, All, length, map, refl, sym, ap, ap₂, ◌∙◌, subst, arith, ⊎_elim}
+use Rattle.std.proofs.Common.{◌≡◌, ℕ, Bool, true, cond, List, [], ◌∷◌, ◌++◌, All, map, refl, sym, ap, ap₂, ◌∙◌, subst, arith, ⊎_elim}
 use Rattle.std.proofs.lemmas.List.{append-nil, append_assoc, map-append, nil_from_length}
 use Rattle.std.proofs.lemmas.List.Elements.{All-push}
 use Rattle.policy_tree.specs.declared.trees.Cond.{Cond}
 use Rattle.policy_tree.specs.declared.typed.Load.{Load}
-use Rattle.policy_tree.specs.Chains.{nodes_of}
 use Rattle.policy_tree.specs.Trees.{CondTree, cond_tree}
 use Rattle.linear_form.specs.declared.form.Row.{Row}
 use Rattle.obligations.specs.declared.building.Link.{Link}
-use Rattle.obligations.specs.declared.counts.TheConstants.{MAX_COUNT}
 use Rattle.obligations.specs.Cases.{cases_of, crossed}
-use Rattle.obligations.specs.ChainCases.{IsBelow, IsLinearLink, SplitsOff, along, link_cases}
+use Rattle.obligations.specs.ChainCases.{SplitsOff, along, link_cases}
 use Rattle.obligations.specs.Counts.{count_of, reported}
 use Rattle.obligations.specs.Refutations.{any_of, both_of, pairs_of}
 use Rattle.obligations.proofs.Law.{count_cases}

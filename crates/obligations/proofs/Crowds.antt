@@ -1,5 +1,5 @@
 -- The counts of guards that hold together, and of guards that all fail, taken one guard after another.
-use Rattle.std.proofs.Common.{◌≡◌, ℕ, ◌+◌, ◌*◌, ◌≤◌, List, [], ◌∷◌, ◌++◌, true, false, map, refl, sym, ap, ap₂, ◌∙◌, arith}
+use Rattle.std.proofs.Common.{◌≡◌, ℕ, ◌+◌, ◌*◌, List, [], ◌∷◌, ◌++◌, true, false, map, refl, sym, ap, ◌∙◌, arith}
 use Rattle.std.proofs.Math.Nat.{add-mul, mul-add, mul_assoc, mul_comm}
 use Rattle.std.proofs.lemmas.List.{map-append}
 use Rattle.policy_tree.specs.Trees.{CondTree, negated}

@@ -1,11 +1,11 @@
 -- The numbers of the linear form of a comparison fit a row.
-use Rattle.std.proofs.Common.{◌≡◌, ℕ, ◌+◌, ◌*◌, ◌^◌, ◌<◌, ◌≤◌, eqb, ℤ, pos, ◌+ℤ◌, ◌-ℤ◌, ◌*ℤ◌, neg_ℤ, unsigned_abs, Bool, true, false, cond, get_or, refl, sym, ap, ◌∙◌, subst, arith}
+use Rattle.std.proofs.Common.{ℕ, ◌^◌, ◌<◌, ◌≤◌, eqb, ℤ, pos, ◌+ℤ◌, ◌-ℤ◌, ◌*ℤ◌, neg_ℤ, unsigned_abs, Bool, true, false, cond, sym, ap, ◌∙◌, subst, arith}
 use Rattle.std.proofs.lemmas.Int.{ints, unsigned_abs-mul}
 use Rattle.std.proofs.lemmas.Nat.{mul-le}
 use Rattle.policy_tree.specs.declared.typed.Load.{Load}
 use Rattle.policy_tree.specs.Trees.{ExprTree, number, variable, negation, plus, minus, times}
 use Rattle.policy_eval.specs.Forms.{HasSmallForm, IsLinear, IsSmall, coefficient_of, constant_of}
-use Rattle.policy_eval.specs.Ranges.{greatest_weight, least_weight}
+use Rattle.policy_eval.specs.Ranges.{least_weight}
 use Rattle.policy_eval.specs.Resolved.{IsWeightRange}
 use Rattle.obligations.specs.declared.forms.Form.{Form}
 use Rattle.obligations.specs.CodeForms.{FitsRow, IsDifferenceForm, IsForm, form_seen}

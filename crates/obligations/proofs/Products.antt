@@ -1,5 +1,5 @@
 -- Of the two products that make a coefficient of a linear product one is 0, so each of them is small.
-use Rattle.std.proofs.Common.{◌≡◌, ℕ, ◌+◌, ◌<◌, eqb, eqb-true, ℤ, pos, ◌+ℤ◌, ◌-ℤ◌, ◌*ℤ◌, Bool, true, false, List, length, get_or, set, get_or-set_same, get_or-set_other, refl, ap, ◌∙◌, sym, subst, arith, ⊎_elim, ap₂, to_z, of_z, FitsSigned}
+use Rattle.std.proofs.Common.{◌≡◌, ℕ, ◌+◌, ◌<◌, eqb, eqb-true, ℤ, pos, ◌+ℤ◌, ◌-ℤ◌, ◌*ℤ◌, Bool, true, false, List, length, get_or, set, get_or-set_same, get_or-set_other, refl, ap, ◌∙◌, sym, subst, arith, ⊎_elim, ap₂, to_z, of_z}
 use Rattle.std.specs.Int.{w64}
 use Rattle.std.proofs.Math.IntN.{*ℤ-zero, zero-*ℤ, +ℤ_idr}
 use Rattle.std.proofs.lemmas.Int.{ints, to_z-of_z}

@@ -1,9 +1,9 @@
 -- The range of an attribute's variable is the declared one.
-use Rattle.std.proofs.Common.{◌≡◌, ℕ, zero, suc, ◌+◌, ◌-◌, ◌<◌, ◌≤◌, pos, List, [], ◌∷◌, ◌++◌, length, map, get_or, replicate, refl, sym, ap, ◌∙◌, arith}
+use Rattle.std.proofs.Common.{◌≡◌, ℕ, zero, suc, ◌-◌, ◌<◌, ◌≤◌, List, [], ◌∷◌, ◌++◌, length, map, get_or, replicate, refl, sym, ap, ◌∙◌, arith}
 use Rattle.std.proofs.lemmas.List.{get_or_append_left, get_or-append_right, length-append}
 use Rattle.policy_tree.specs.declared.typed.Attr.{Attr}
 use Rattle.policy_tree.specs.Meaning.{Meaning}
-use Rattle.policy_eval.specs.Ranges.{Range, attribute_ranges, declared_range, range}
+use Rattle.policy_eval.specs.Ranges.{Range, attribute_ranges, declared_range}
 use Rattle.policy_eval.specs.Resolved.{IsResolved}
 use Rattle.linear_form.specs.declared.form.Bound.{Bound}
 use Rattle.obligations.specs.Marks.{declared_bound}

@@ -37,7 +37,7 @@ module _ (p : Meaning) (is : IsResolved p) where
       only_weight same inside = let above = inside.above in let below = inside.below in omega (arith, ints)
 
   module _ (s : Statement) where
-    all_kept_rows : AllRows (HasKept (has_variable p s) 30) (refuting_cases p s)
+    pub all_kept_rows : AllRows (HasKept (has_variable p s) 30) (refuting_cases p s)
     all_kept_rows =
         kept_cases (has_variable p s) 30 (refuting_cases p s) (λ v found. or_right (always_has s v) (occurs v (refuting_cases p s)) found)
         (cases_below p.load true (refutation p s))

@@ -1,5 +1,5 @@
 -- A count is cut at the greatest that is reported after every sum and product, with the same result as at the end.
-use Rattle.std.proofs.Common.{◌≡◌, ℕ, zero, suc, ◌+◌, ◌*◌, ◌<◌, ◌≤◌, min, leb, Bool, true, false, not, cond, refl, sym, ap, ◌∙◌, arith, ◌⊎◌, inl, inr, ⊎_elim}
+use Rattle.std.proofs.Common.{◌≡◌, ℕ, zero, suc, ◌+◌, ◌*◌, ◌≤◌, min, leb, Bool, true, false, not, cond, refl, sym, ap, ◌∙◌, arith, ◌⊎◌, inl, inr, ⊎_elim}
 use Rattle.std.proofs.Math.Nat.{min-eq_left, min-eq_right, mul_comm, mul_assoc, mul-le-mul, mul-zero, mul-add, add_comm, add_assoc}
 use Rattle.std.proofs.lemmas.Bool.Decides.{nat_tests}
 use Rattle.obligations.specs.declared.counts.TheConstants.{MAX_COUNT}

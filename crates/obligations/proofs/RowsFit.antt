@@ -1,5 +1,5 @@
 -- The rows of the cases fit a system over the places of the variables that are kept.
-use Rattle.std.proofs.Common.{◌≡◌, ℕ, zero, suc, ◌+◌, ◌-◌, ◌^◌, ◌<◌, ◌≤◌, ℤ, pos, negsuc, ◌-ℤ◌, unsigned_abs, Bool, true, false, true≢false, cond, List, [], ◌∷◌, ◌++◌, All, length, map, refl, sym, ap, ◌∙◌, subst, arith}
+use Rattle.std.proofs.Common.{◌≡◌, ℕ, zero, suc, ◌^◌, ◌<◌, ◌≤◌, ℤ, pos, negsuc, ◌-ℤ◌, unsigned_abs, Bool, true, false, true≢false, cond, List, [], ◌∷◌, ◌++◌, length, map, refl, sym, ◌∙◌, subst, arith}
 use Rattle.std.specs.List.{AllByRecursion}
 use Rattle.std.specs.Ordering.{int_eq}
 use Rattle.std.proofs.lemmas.Bool.Decides.{Decides-int_eq}
@@ -9,19 +9,19 @@ use Rattle.std.proofs.lemmas.List.Elements.{All-from_recursion}
 use Rattle.policy_tree.specs.declared.trees.Cmp.{Cmp}
 use Rattle.policy_tree.specs.declared.trees.Cmp.TheVariants as cmp
 use Rattle.policy_tree.specs.declared.typed.Load.{Load}
-use Rattle.policy_tree.specs.Trees.{CondTree, ExprTree, minus}
+use Rattle.policy_tree.specs.Trees.{CondTree, minus}
 use Rattle.policy_eval.specs.Forms.{EachSide, IsLinear}
 use Rattle.policy_eval.specs.Resolved.{IsWeightRange}
 use Rattle.linear_form.specs.declared.form.Term.{Term}
 use Rattle.linear_form.specs.declared.form.Row.{Row}
-use Rattle.linear_form.specs.System.{IsRow, IsTerm}
+use Rattle.linear_form.specs.System.{IsRow}
 use Rattle.linear_form.proofs.Build.{IsRow-nil, IsRow-push, row_of}
 use Rattle.obligations.specs.CodeForms.{FitsRow}
 use Rattle.obligations.specs.Cases.{cases_of, cases_of_test}
 use Rattle.obligations.specs.Forms.{LinearForm, at_most, form_of, opposite, term_of, terms_below}
 use Rattle.obligations.specs.Systems.{kept_below, place_of, placed}
 use Rattle.obligations.proofs.Fitting.{form_of-fits, opposite-fits}
-use Rattle.obligations.proofs.Kept.{AllByRecursion-append, IsKept, place_inside}
+use Rattle.obligations.proofs.Kept.{IsKept, place_inside}
 use Rattle.obligations.proofs.Occurring.{AllRows, HasKept, all_rows, terms_below-below}
 
 module _ (keeps : ℕ → Bool) where

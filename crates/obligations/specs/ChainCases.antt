@@ -1,5 +1,5 @@
 -- The cases of a chain of conditions: what stands at its left end, and what each link adds. This serves the code alone.
-use Rattle.std.specs.Prelude.{◌≡◌, ℕ, ◌+◌, ◌<◌, ◌≤◌, Bool, false, cond, List, [], ◌∷◌, ◌++◌, Option, Some, None}
+use Rattle.std.specs.Prelude.{◌≡◌, ℕ, ◌+◌, ◌<◌, Bool, false, cond, List, [], ◌∷◌, ◌++◌, Option, Some, None}
 use Rattle.std.specs.Borrow.{Bor}
 use Rattle.policy_tree.specs.declared.trees.Cond.{Cond}
 use Rattle.policy_tree.specs.declared.typed.Load.{Load}

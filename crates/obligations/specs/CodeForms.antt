@@ -1,8 +1,8 @@
 -- Linear forms as the code has them: a constant and a coefficient for each variable. This serves the code alone.
-use Rattle.std.specs.Prelude.{◌≡◌, ℕ, ◌+◌, ◌^◌, ◌<◌, ◌≤◌, ℤ, pos, slice_index_or, unsigned_abs, cond, Option, Some, None}
+use Rattle.std.specs.Prelude.{◌≡◌, ℕ, ◌^◌, ◌<◌, ◌≤◌, pos, slice_index_or, unsigned_abs, cond, Option, Some, None}
 use Rattle.policy_tree.specs.declared.typed.Load.{Load}
 use Rattle.policy_eval.specs.Ranges.{least_weight}
-use Rattle.sched_base.specs.declared.limits.TheConstants.{MAX_COEFFICIENT, VARIABLES}
+use Rattle.sched_base.specs.declared.limits.TheConstants.{VARIABLES}
 use Rattle.linear_form.specs.declared.form.TheConstants.{MAX_COEF, MAX_ROW_BOUND}
 use Rattle.obligations.specs.declared.forms.Form.{Form}
 use Rattle.obligations.specs.Forms.{LinearForm, weighs_one}

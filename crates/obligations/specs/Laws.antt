@@ -7,6 +7,7 @@ use Rattle.policy_eval.specs.Obligations.{IsMet, Statement, statements_of}
 use Rattle.policy_eval.specs.Ranges.{AreIn}
 use Rattle.policy_eval.specs.Resolved.{IsResolved}
 use Rattle.policy_eval.specs.Values.{Assignment, Holds}
+use Rattle.obligations.specs.declared.obligation.Obligation.{Obligation}
 use Rattle.obligations.specs.Names.{ob_names, statement_of}
 use Rattle.obligations.specs.Counts.{case_count}
 use Rattle.obligations.specs.Refutations.{refutation}
@@ -35,3 +36,8 @@ SystemsAreStatements = (p : Meaning) → IsResolved p → (s : Statement) → Is
 -- There are as many cases as are counted.
 abbrev pub CountsAreCases : Type 0
 CountsAreCases = (p : Meaning) (s : Statement) → length (refuting_cases p s) ≡ case_count p s
+
+-- Each obligation holds of the policy exactly where none of its systems has a solution.
+abbrev pub SayTheStatements : Meaning → List Obligation → Type 0
+SayTheStatements p all =
+    All (λ (o : Obligation). IsMet p (statement_of o.name) ↔ HaveNoSolution o.systems) all

@@ -9,6 +9,7 @@ mod crossing;
 mod crowding;
 mod forms;
 pub mod laws;
+mod making;
 mod marking;
 mod names;
 mod obligation;
@@ -20,5 +21,6 @@ mod statements;
 mod variables;
 
 pub use counts::MAX_COUNT;
+pub use making::{ObligeFault, oblige};
 pub use names::{OB_NAME_ROOM, ObName, ob_name, ob_names};
 pub use obligation::{Obligation, Obligations, SystemList, VarList};

@@ -1,6 +1,6 @@
 //! Rows over the places of the variables that are kept.
 
-ghost use Rattle.std.specs.Prelude.{◌≡◌, ℕ, ◌<◌, ◌≤◌, IfOk, length, slice_index_or};
+ghost use Rattle.std.specs.Prelude.{◌≡◌, ℕ, ◌<◌, ◌≤◌, IfOk, length, slice_index_or, vec_len};
 ghost use Rattle.obligations.specs.Marks.{HasSmallTerms, kept_of, placed_by};
 ghost use Rattle.obligations.specs.Systems.{kept_below, place_of};
 
@@ -21,6 +21,7 @@ pub struct Places {
 /// The places of the marked variables.
 pub fn places_of(alloc: Global, marks: &[bool; VARIABLES]) -> Result<Places, AllocError>
     ensures vars { IfOk result (λ p. p.vars.items ≡ kept_below (kept_of marks.now) VARIABLES) }
+    ensures few { IfOk result (λ p. vec_len p.vars ≤ VARIABLES) }
     ensures places { IfOk result (λ p. (v : ℕ) → v < VARIABLES →
         slice_index_or p.places v 0 ≡ place_of (kept_of marks.now) v) }
 {

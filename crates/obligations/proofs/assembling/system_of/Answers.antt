@@ -1,4 +1,4 @@
-use Rattle.std.proofs.Common.{◌≡◌, ap, ap₂, sym, subst, ◌∙◌, length, map, get_or, arith, ℕ, List}
+use Rattle.std.proofs.Common.{◌≡◌, ap, sym, subst, ◌∙◌, length, map, get_or, arith, ℕ, List}
 use Rattle.std.proofs.lemmas.List.{get_or-map, length-map}
 use Rattle.linear_form.specs.declared.form.Row.{Row}
 use Rattle.linear_form.specs.System.{IsRow}

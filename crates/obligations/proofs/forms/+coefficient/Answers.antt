@@ -1,8 +1,8 @@
 -- The two products of a product's coefficient are those of the linear form.
-use Rattle.std.proofs.Common.{◌≡◌, ap, ap₂, ◌∙◌, subst, sym, ◌+ℤ◌, ◌*ℤ◌}
+use Rattle.std.proofs.Common.{ap, ap₂, ◌∙◌, subst, ◌+ℤ◌}
 use Rattle.policy_tree.specs.Trees.{expr_tree, times}
 use Rattle.policy_eval.specs.Forms.{IsLinear, IsSmall, coefficient_of, constant_of}
-use Rattle.obligations.proofs.Products.{first_small, second_small, stored, stored_product, sum_small}
+use Rattle.obligations.proofs.Products.{first_small, second_small, stored_product, sum_small}
 use Rattle.obligations.proofs.forms.+coefficient.Goals as goal
 
 pub product_coefficient-requires-clause-first : goal.product_coefficient-requires-clause-first

@@ -1,4 +1,4 @@
-use Rattle.std.proofs.Common.{◌<◌, ◌-ℤ◌, arith, ◌∙◌, length-set}
+use Rattle.std.proofs.Common.{◌-ℤ◌, arith, ◌∙◌, length-set}
 use Rattle.policy_tree.specs.Trees.{expr_tree, minus}
 use Rattle.policy_eval.specs.Forms.{coefficient_of}
 use Rattle.obligations.specs.Forms.{plain_form}

@@ -1,4 +1,4 @@
-use Rattle.std.proofs.Common.{◌≡◌, ap, sym, subst, ◌∙◌, List, map}
+use Rattle.std.proofs.Common.{ap, sym, subst, ◌∙◌, List, map}
 use Rattle.std.specs.List.{AllByRecursion}
 use Rattle.policy_tree.specs.Meaning.{CaseTree, case_tree, cases_on, meaning_of}
 use Rattle.policy_eval.specs.Forms.{EachSide, IsLinear}

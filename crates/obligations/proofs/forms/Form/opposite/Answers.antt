@@ -1,4 +1,4 @@
-use Rattle.std.proofs.Common.{◌<◌, ap, arith, neg_ℤ, refl, ◌∙◌}
+use Rattle.std.proofs.Common.{ap, arith, neg_ℤ, refl, ◌∙◌}
 use Rattle.obligations.specs.CodeForms.{form_seen}
 use Rattle.obligations.specs.Forms.{opposite}
 use Rattle.obligations.proofs.Fitting.{opposite-fits, seen-fits}
