@@ -1,5 +1,9 @@
-//! Tests of systems and of the certificate checker, through their public calls.
+//! Tests of systems, of the certificate checker, of certificates' texts and of the deciders, through their public calls.
 #![tactic(auto)]
 
 #[cfg(test)]
+mod differences;
+#[cfg(test)]
 mod tests;
+#[cfg(test)]
+mod texts;

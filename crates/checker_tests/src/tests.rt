@@ -4,11 +4,9 @@ ghost use Rattle.std.specs.Prelude.{◌≡◌, ◌≤◌, vec_len, IfOk, IfSome,
 ghost use Rattle.linear_form.specs.System.{IsBound, IsRow, IsTerm};
 
 use linear_cert::{Cert, Mult, check};
-use linear_form::{
-    AtomFault, Bound, MAX_COEF, MAX_END, MAX_ROW_BOUND, MAX_ROWS, MAX_VARIABLES, Point, Row,
-    System, Term,
-};
+use linear_form::{AtomFault, Bound, Point, Row, System, Term};
 use lists::Items;
+use sched_base::{MAX_END, MAX_ROW_BOUND, MAX_ROW_COEFFICIENT, MAX_ROWS, MAX_VARIABLES};
 use std::alloc::{AllocError, Global};
 use std::test::Fail;
 
@@ -17,7 +15,7 @@ fn term_of(variables: u32, least: u32, var: u32, coef: i64) -> Option<Term>
     ensures fits { IfSome result (IsTerm variables) }
     ensures place { IfSome result (λ term. (least ≤ term.var) × (term.var ≡ var)) }
 {
-    if var < least || var >= variables || coef == 0 || coef.unsigned_abs() > MAX_COEF {
+    if var < least || var >= variables || coef == 0 || coef.unsigned_abs() > MAX_ROW_COEFFICIENT {
         return None;
     }
     Some(Term { var, coef })
@@ -78,15 +76,25 @@ fn ranges_of(alloc: Global, ranges: &[(i64, i64)]) -> Result<Option<Vec<Bound>>,
     Ok(Some(list))
 }
 
-type Rows<'a> = &'a [(&'a [(u32, i64)], i64)];
+pub(crate) type Rows<'a> = &'a [(&'a [(u32, i64)], i64)];
 
-fn system_of(alloc: Global, ranges: &[(i64, i64)], rows: Rows) -> Result<System, Fail> {
+pub(crate) fn system_of(alloc: Global, ranges: &[(i64, i64)], rows: Rows) -> Result<System, Fail> {
     let mut system = System::new(alloc, ranges_of(alloc, ranges)?.ok_or("no such ranges")?);
     for (terms, bound) in rows {
-        let variables = system.variable_count();
-        system.add_atom(row_of(alloc, variables, terms, *bound)?.ok_or("no such row")?)?;
+        add(alloc, &mut system, terms, *bound)?;
     }
     Ok(system)
+}
+
+pub(crate) fn add(
+    alloc: Global,
+    system: &mut System,
+    terms: &[(u32, i64)],
+    bound: i64,
+) -> Result<(), Fail> {
+    let row = row_of(alloc, system.variable_count(), terms, bound)?;
+    system.add_atom(row.ok_or("no such row")?)?;
+    Ok(())
 }
 
 fn leaf_of(alloc: Global, mults: &[(u32, u64)]) -> Result<Cert, Fail> {
@@ -150,7 +158,7 @@ fn row_limit_and_points(rt: HostRuntime) -> Result<(), Fail> {
 }
 
 // Twice the variable is at most 1 and at least 1.
-const HALF: Rows = &[(&[(0, 2)], 1), (&[(0, -2)], -1)];
+pub(crate) const HALF: Rows = &[(&[(0, 2)], 1), (&[(0, -2)], -1)];
 
 // Rows whose bounds, times a large multiplier, reach half of what 128 bits hold.
 const LARGE: Rows = &[(&[(0, 1)], 1 << 62), (&[(0, -1)], -(1 << 62))];

@@ -2,7 +2,7 @@
 
 ghost use Rattle.std.specs.Prelude.{◌≡◌, ◌≢◌, ◌<◌, ◌≤◌, [], ◌∷◌, length, OnOk, unsigned_abs};
 ghost use Rattle.linear_form.specs.System.{IsRow};
-ghost use Rattle.linear_form.specs.declared.form.TheConstants.{MAX_ROWS, MAX_ROW_BOUND, MAX_VARIABLES};
+ghost use Rattle.sched_base.specs.declared.limits.TheConstants.{MAX_ROWS, MAX_ROW_BOUND, MAX_VARIABLES};
 ghost use Rattle.count_filter.specs.Rows.{at_least, at_most, difference_at_most, minus, plus, row_of, with_rows};
 
 use crate::decide::JudgeMemory;

@@ -1,7 +1,7 @@
 //! The systems of the obligations. A solution is a pair of cores at which the obligation fails.
 
 ghost use Rattle.std.specs.Prelude.{◌≡◌, ◌<◌, ◌≢◌, ◌+◌, [], length, IfOk, OnOk};
-ghost use Rattle.linear_form.specs.declared.form.TheConstants.{MAX_ROWS};
+ghost use Rattle.sched_base.specs.declared.limits.TheConstants.{MAX_ROWS};
 ghost use Rattle.count_filter.specs.Rows.{with_rows};
 ghost use Rattle.count_filter.specs.Systems.{fit_rows, narrows_system, sees_system, spares_system, system_of_cores};
 

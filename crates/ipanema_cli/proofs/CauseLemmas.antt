@@ -1,5 +1,6 @@
 -- From how a call ends to the cause of its status.
 use Rattle.std.proofs.Common.{◌≡◌, ◌≢◌, ℕ, ◌<◌, inl, inr, List, [], ◌∷◌, Option, Some, None, refl, sym, ◌∙◌, ap, arith, length, subst, Bool, true, false, if◌then◌else◌}
+use Rattle.sched_io.specs.Shown.{Shown}
 use Rattle.sched_io.specs.Told.{Told, holds}
 use Rattle.sched_io.specs.Written.{Adds}
 use Rattle.count_filter.specs.Judged.{all_hold}
@@ -94,36 +95,36 @@ long_file (Some (check policy)) told a kind.Trace name held is file tells long =
 long_file (Some (play policy trace)) told a kind.Policy name held is file tells long = long_for_play (told policy) (told trace) a held is (sym (ap told file) ∙ tells) long
 long_file (Some (play policy trace)) told a kind.Trace name held is file tells long = long_trace_for_play (told policy) (told trace) a held is (sym (ap told file) ∙ tells) long
 
-pub causes : (asked : Option Asked) (told : List ℕ → Told) (read_fault write_fault : Type 0) (before after : Option (List ℕ)) (code : ℕ) → Ends asked told read_fault write_fault before after code → HasCause asked told read_fault write_fault before after code
-causes asked told read_fault write_fault before after code (answered a is writes) =
-    let among = code_among _ _ _ _ _ _ writes in
+pub causes : (asked : Option Asked) (told : List ℕ → Told) (read_fault : Type 0) (before after : Shown) (code : ℕ) → Ends asked told read_fault before after code → HasCause asked told read_fault before after code
+causes asked told read_fault before after code (answered a is writes) =
+    let among = code_among a before after code writes in
     let stop = no_stop a in
     let own : (n : ℕ) → n ≢ 5 → code ≡ n → code_of (status_of a) ≡ n = λ n other h. elim among [ inl e ↦ sym e ∙ h | inr e ↦ absurd (other (sym h ∙ e)) ] in
     record {
       known = elim among [ inl e ↦ rw e (known_code a) | inr e ↦ rw e refl ];
       unread = λ h. absurd (stop.0 (own 4 (λ e. omega arith) h));
-      unwritten = λ h. let found = cut _ _ _ _ _ _ writes stop.1 h in (found.0, (a, is, found.1));
+      unwritten = λ h. (a, is, cut a before after code writes stop.1 h);
       no_memory = λ h. absurd (stop.2 (own 6 (λ e. omega arith) h));
       bad_words = λ h.
           let same = seven a (own 7 (λ e. omega arith) h) in
-          let added = whole _ _ _ _ _ _ writes (λ e. omega arith) in
-          (for_no_command asked told (subst (IsAnswer asked told) same is), subst (λ (x : Answer). Adds (output_of x) before after) same added);
+          let added = whole a before after code writes (λ e. omega arith) in
+          (for_no_command asked told (subst (IsAnswer asked told) same is), subst (λ (x : Answer). Adds (output_of x) before.written after.written) same added);
       no_command = λ none. elim among [
         | inl e ↦ rw (e, no_command_code told a (subst (λ (x : Option Asked). IsAnswer x told a) none is)) refl
         | inr e ↦ rw e refl
       ];
       too_long = λ h.
           let found = ten a (own 10 (λ e. omega arith) h) in
-          let added = whole _ _ _ _ _ _ writes (λ e. omega arith) in
-          (found.0, subst (IsAnswer asked told) found.1 is, subst (λ (x : Answer). Adds (output_of x) before after) found.1 added);
+          let added = whole a before after code writes (λ e. omega arith) in
+          (found.0, subst (IsAnswer asked told) found.1 is, subst (λ (x : Answer). Adds (output_of x) before.written after.written) found.1 added);
       past_limit = λ which name held file tells long. elim among [
         | inl f ↦ rw (f, long_file asked told a which name held is file tells long) refl
         | inr f ↦ rw f refl
       ];
     }
-causes asked told read_fault write_fault before after code (unread e cause added) = record {
+causes asked told read_fault before after code (unread e cause added) = record {
   known = rw e refl;
-  unread = λ h. (cause, added);
+  unread = λ h. (cause, added.bytes);
   unwritten = λ h. absurd (omega arith);
   no_memory = λ h. absurd (omega arith);
   bad_words = λ h. absurd (omega arith);
@@ -131,11 +132,11 @@ causes asked told read_fault write_fault before after code (unread e cause added
   too_long = λ h. absurd (omega arith);
   past_limit = λ which name held file tells long. rw e refl;
 }
-causes asked told read_fault write_fault before after code (no_memory e added) = record {
+causes asked told read_fault before after code (no_memory e added) = record {
   known = rw e refl;
   unread = λ h. absurd (omega arith);
   unwritten = λ h. absurd (omega arith);
-  no_memory = λ h. added;
+  no_memory = λ h. added.bytes;
   bad_words = λ h. absurd (omega arith);
   no_command = λ none. rw e refl;
   too_long = λ h. absurd (omega arith);

@@ -1,5 +1,6 @@
 -- From how `check` ends to the truth of what it says.
 use Rattle.std.proofs.Common.{◌≡◌, ℕ, inl, inr, List, [], ◌∷◌, Option, refl, sym, ◌∙◌, ap, arith, length, subst}
+use Rattle.sched_io.specs.Shown.{Shown}
 use Rattle.sched_io.specs.Told.{Told}
 use Rattle.sched_io.specs.Written.{Adds}
 use Rattle.policy_reader.specs.Faults.{HasFault}
@@ -112,16 +113,16 @@ long_check policy before after code long own = record {
   bad_text = λ h. absurd (omega arith);
 }
 
-pub checks : (policy : Told) (write_fault : Type 0) (before after : Option (List ℕ)) (code : ℕ) (a : Answer) → AnswersCheck policy a
-    → Writes (output_of a) (status_of a) write_fault before after code → ChecksTruly policy before after code
-checks policy write_fault before after code (answer.Checked c) (text, read, is) writes = elim (code_among _ _ _ _ _ _ writes) [
-  | inr e ↦ stopped_check policy before after code (at_5 e)
-  | inl e ↦ read_check policy text c before after code read is e (whole _ _ _ _ _ _ writes (λ five. (no_stop (answer.Checked c)).1 (sym e ∙ five)))
+pub checks : (policy : Told) (before after : Shown) (code : ℕ) (a : Answer) → AnswersCheck policy a
+    → Writes a before after code → ChecksTruly policy before.written after.written code
+checks policy before after code (answer.Checked c) (text, read, is) writes = elim (code_among _ _ _ _ writes) [
+  | inr e ↦ stopped_check policy before.written after.written code (at_5 e)
+  | inl e ↦ read_check policy text c before.written after.written code read is e (whole _ _ _ _ writes (λ five. (no_stop (answer.Checked c)).1 (sym e ∙ five)))
 ]
-checks policy write_fault before after code (answer.Played outcome) is writes = absurd is
-checks policy write_fault before after code (answer.TooLong kind.Policy) long writes = elim (code_among _ _ _ _ _ _ writes) [
-  | inr e ↦ stopped_check policy before after code (at_5 e)
-  | inl e ↦ long_check policy before after code long e
+checks policy before after code (answer.Played outcome) is writes = absurd is
+checks policy before after code (answer.TooLong kind.Policy) long writes = elim (code_among _ _ _ _ writes) [
+  | inr e ↦ stopped_check policy before.written after.written code (at_5 e)
+  | inl e ↦ long_check policy before.written after.written code long e
 ]
-checks policy write_fault before after code (answer.TooLong kind.Trace) is writes = absurd is
-checks policy write_fault before after code answer.BadWords is writes = absurd is
+checks policy before after code (answer.TooLong kind.Trace) is writes = absurd is
+checks policy before after code answer.BadWords is writes = absurd is

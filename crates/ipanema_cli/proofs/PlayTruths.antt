@@ -1,5 +1,6 @@
 -- From how `play` ends to the truth of what it says.
 use Rattle.std.proofs.Common.{◌≡◌, ◌≢◌, ℕ, ◌⊎◌, inl, inr, List, Option, false, refl, sym, ◌∙◌, arith, subst}
+use Rattle.sched_io.specs.Shown.{Shown}
 use Rattle.sched_io.specs.Told.{Told}
 use Rattle.sched_io.specs.Written.{Adds}
 use Rattle.policy_reader.proofs.OneFault.{one_policy}
@@ -234,24 +235,24 @@ answered_trace policy trace text jobs p (play_answer.Broken fault) before after 
 answered_trace policy trace text jobs p (play_answer.Played (played.Whole history)) before after code read is own added = played_whole policy trace text jobs p history before after code read is own added
 answered_trace policy trace text jobs p (play_answer.Played (played.Full history)) before after code read is own added = played_full policy trace text jobs p history before after code read is own added
 
-pub plays_truly : (policy trace : Told) (write_fault : Type 0) (before after : Option (List ℕ)) (code : ℕ) (a : Answer) → AnswersPlay policy trace a
-    → Writes (output_of a) (status_of a) write_fault before after code → PlaysTruly policy trace before after code
-plays_truly policy trace write_fault before after code (answer.Checked c) texts writes = elim (code_among _ _ _ _ _ _ writes) [
-  | inr e ↦ stopped_play policy trace before after code (at_5 e)
-  | inl e ↦ unaccepted policy trace c before after code texts e (whole _ _ _ _ _ _ writes (λ five. (no_stop (answer.Checked c)).1 (sym e ∙ five)))
+pub plays_truly : (policy trace : Told) (before after : Shown) (code : ℕ) (a : Answer) → AnswersPlay policy trace a
+    → Writes a before after code → PlaysTruly policy trace before.written after.written code
+plays_truly policy trace before after code (answer.Checked c) texts writes = elim (code_among _ _ _ _ writes) [
+  | inr e ↦ stopped_play policy trace before.written after.written code (at_5 e)
+  | inl e ↦ unaccepted policy trace c before.written after.written code texts e (whole _ _ _ _ writes (λ five. (no_stop (answer.Checked c)).1 (sym e ∙ five)))
 ]
-plays_truly policy trace write_fault before after code (answer.Played outcome) texts writes = elim (code_among _ _ _ _ _ _ writes) [
-  | inr e ↦ stopped_play policy trace before after code (at_5 e)
-  | inl e ↦ answered_trace policy trace texts.text texts.jobs texts.answers.0 outcome before after code
+plays_truly policy trace before after code (answer.Played outcome) texts writes = elim (code_among _ _ _ _ writes) [
+  | inr e ↦ stopped_play policy trace before.written after.written code (at_5 e)
+  | inl e ↦ answered_trace policy trace texts.text texts.jobs texts.answers.0 outcome before.written after.written code
       (record { policy_read = texts.policy_read; trace_read = texts.trace_read; accepted = texts.answers.1 })
-      texts.answers.2 e (whole _ _ _ _ _ _ writes (λ five. (no_stop (answer.Played outcome)).1 (sym e ∙ five)))
+      texts.answers.2 e (whole _ _ _ _ writes (λ five. (no_stop (answer.Played outcome)).1 (sym e ∙ five)))
 ]
-plays_truly policy trace write_fault before after code (answer.TooLong kind.Policy) long writes = elim (code_among _ _ _ _ _ _ writes) [
-  | inr e ↦ stopped_play policy trace before after code (at_5 e)
-  | inl e ↦ long_play policy trace before after code (λ text jobs held also. not_long kind.Policy policy text long held) e
+plays_truly policy trace before after code (answer.TooLong kind.Policy) long writes = elim (code_among _ _ _ _ writes) [
+  | inr e ↦ stopped_play policy trace before.written after.written code (at_5 e)
+  | inl e ↦ long_play policy trace before.written after.written code (λ text jobs held also. not_long kind.Policy policy text long held) e
 ]
-plays_truly policy trace write_fault before after code (answer.TooLong kind.Trace) long writes = elim (code_among _ _ _ _ _ _ writes) [
-  | inr e ↦ stopped_play policy trace before after code (at_5 e)
-  | inl e ↦ long_play policy trace before after code (λ text jobs held also. not_long kind.Trace trace jobs long.1 also) e
+plays_truly policy trace before after code (answer.TooLong kind.Trace) long writes = elim (code_among _ _ _ _ writes) [
+  | inr e ↦ stopped_play policy trace before.written after.written code (at_5 e)
+  | inl e ↦ long_play policy trace before.written after.written code (λ text jobs held also. not_long kind.Trace trace jobs long.1 also) e
 ]
-plays_truly policy trace write_fault before after code answer.BadWords is writes = absurd is
+plays_truly policy trace before after code answer.BadWords is writes = absurd is

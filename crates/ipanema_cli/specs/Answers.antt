@@ -1,5 +1,5 @@
 -- What a command answers, and when that is its answer.
-use Rattle.std.specs.Prelude.{ℕ, List, IsFalse, Option, Some, None, codes}
+use Rattle.std.specs.Prelude.{ℕ, List, [], ◌∷◌, IsFalse, Option, Some, None, codes}
 use Rattle.policy_tree.specs.Meaning.{Meaning}
 use Rattle.policy_reader.specs.Spelled.{SpellsPolicy}
 use Rattle.count_filter.specs.Reasons.{IsCertified}
@@ -8,7 +8,7 @@ use Rattle.serial_play.specs.declared.rounds.Played.TheVariants as played
 use Rattle.trace_play.specs.declared.answer.PlayAnswer.{PlayAnswer}
 use Rattle.trace_play.specs.declared.answer.PlayAnswer.TheVariants as play_answer
 use Rattle.trace_play.specs.Plays as plays
-use Rattle.ipanema_cli.specs.CheckAnswer.{IsCheckOf, accepts, check_output, check_status}
+use Rattle.ipanema_cli.specs.CheckAnswer.{IsCheckOf, accepts, check_lines, check_output, check_status}
 use Rattle.ipanema_cli.specs.Command.{Asked, check, play}
 use Rattle.ipanema_cli.specs.Texts.{MayBeLong, MayRead, too_long_line}
 use Rattle.ipanema_cli.specs.declared.answers.Answer.{Answer}
@@ -23,6 +23,13 @@ output_of (answer.Checked checked) = check_output checked
 output_of (answer.Played outcome) = plays.output_of outcome
 output_of (answer.TooLong which) = too_long_line which
 output_of answer.BadWords = codes "bad words\n"
+
+-- the lines of an answer
+abbrev pub lines_of : Answer → List (List ℕ)
+lines_of (answer.Checked checked) = check_lines checked
+lines_of (answer.Played outcome) = plays.lines_of outcome
+lines_of (answer.TooLong which) = too_long_line which ∷ []
+lines_of answer.BadWords = codes "bad words\n" ∷ []
 
 -- the status of a trace that was read, and played if it could be
 abbrev pub play_status : PlayAnswer → Status

@@ -1,9 +1,11 @@
 -- When each status comes, and what is then written.
 use Rattle.std.specs.Prelude.{◌≡◌, ℕ, ◌<◌, List, [], ◌∷◌, Option, None, IsTrue, codes, length, ◌==◌}
 use Rattle.std.specs.List.{list_any}
+use Rattle.sched_io.specs.Puts.{WritesPart}
+use Rattle.sched_io.specs.Shown.{Shown}
 use Rattle.sched_io.specs.Told.{Told, holds}
-use Rattle.sched_io.specs.Written.{Adds, AddsPart}
-use Rattle.ipanema_cli.specs.Answers.{IsAnswer, output_of}
+use Rattle.sched_io.specs.Written.{Adds}
+use Rattle.ipanema_cli.specs.Answers.{IsAnswer, lines_of}
 use Rattle.ipanema_cli.specs.Command.{Asked, IsFileOf}
 use Rattle.ipanema_cli.specs.Stops.{IsUnread}
 use Rattle.ipanema_cli.specs.Texts.{room_of, too_long_line}
@@ -15,9 +17,9 @@ use Rattle.ipanema_cli.specs.declared.texts.TextKind.{TextKind}
 abbrev pub OneOf : List ℕ → ℕ → Type 0
 OneOf statuses code = IsTrue (list_any (λ status. status == code) statuses)
 
--- of an output that the call might have a front was written that isn't all of it
-abbrev pub StopsIn : Option Asked → (List ℕ → Told) → Option (List ℕ) → Option (List ℕ) → Type 0
-StopsIn asked told before after = (a : Answer) × IsAnswer asked told a × AddsPart (output_of a) before after
+-- a put failed, and of the lines of an answer that the call might have not all were written
+abbrev pub StopsIn : Option Asked → (List ℕ → Told) → Shown → Shown → Type 0
+StopsIn asked told before after = (a : Answer) × IsAnswer asked told a × WritesPart (lines_of a) before after
 
 -- a text may be longer than its limit, and its line is written
 abbrev pub SaysTooLong : Option Asked → (List ℕ → Told) → Option (List ℕ) → Option (List ℕ) → Type 0
@@ -25,17 +27,17 @@ SaysTooLong asked told before after =
     (which : TextKind) × IsAnswer asked told (answer.TooLong which) × Adds (too_long_line which) before after
 
 -- Each status has its cause.
-pub record HasCause (asked : Option Asked) (told : List ℕ → Told) (read_fault write_fault : Type 0) (before after : Option (List ℕ)) (code : ℕ) : Type 0 where
+pub record HasCause (asked : Option Asked) (told : List ℕ → Told) (read_fault : Type 0) (before after : Shown) (code : ℕ) : Type 0 where
   pub known : OneOf (0 ∷ 1 ∷ 2 ∷ 4 ∷ 5 ∷ 6 ∷ 7 ∷ 8 ∷ 10 ∷ []) code
   -- the outside failed in this call, or a file of the command is told to be missing; and nothing is written
-  pub unread : code ≡ 4 → IsUnread asked told read_fault × Adds [] before after
+  pub unread : code ≡ 4 → IsUnread asked told read_fault × Adds [] before.written after.written
   -- the outside failed in this call, before all of an output was written
-  pub unwritten : code ≡ 5 → write_fault × StopsIn asked told before after
+  pub unwritten : code ≡ 5 → StopsIn asked told before after
   -- the one free answer
-  pub no_memory : code ≡ 6 → Adds [] before after
+  pub no_memory : code ≡ 6 → Adds [] before.written after.written
   -- the words are no command
-  pub bad_words : code ≡ 7 → (asked ≡ None) × Adds (codes "bad words\n") before after
+  pub bad_words : code ≡ 7 → (asked ≡ None) × Adds (codes "bad words\n") before.written after.written
   pub no_command : asked ≡ None → OneOf (5 ∷ 6 ∷ 7 ∷ []) code
   -- a file of the command may be longer than its limit, and one that is told to be gets no other answer
-  pub too_long : code ≡ 10 → SaysTooLong asked told before after
+  pub too_long : code ≡ 10 → SaysTooLong asked told before.written after.written
   pub past_limit : (which : TextKind) (name text : List ℕ) → IsFileOf asked which name → told name ≡ holds text → room_of which < length text → OneOf (4 ∷ 5 ∷ 6 ∷ 10 ∷ []) code

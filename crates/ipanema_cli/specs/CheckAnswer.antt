@@ -1,5 +1,5 @@
 -- What `check` answers: a line for each obligation and the verdict, or one line where the text isn't judged.
-use Rattle.std.specs.Prelude.{ℕ, List, ◌++◌, Bool, false, codes, if◌then◌else◌}
+use Rattle.std.specs.Prelude.{ℕ, List, [], ◌∷◌, ◌++◌, Bool, false, codes, if◌then◌else◌, map}
 use Rattle.std.specs.List.{flat_map}
 use Rattle.policy_tree.specs.Meaning.{Meaning, meaning_of}
 use Rattle.policy_reader.specs.Faults.{HasFault}
@@ -33,6 +33,12 @@ abbrev pub check_output : CheckAnswer → List ℕ
 check_output (check.Judged policy balance) = judged_lines balance
 check_output (check.Faulty fault) = fault_line fault
 check_output check.NotBuilt = codes "policy 0 not-built\n"
+
+-- the lines of an answer: one for each obligation and one for the verdict, or one for what is wrong with the text
+abbrev pub check_lines : CheckAnswer → List (List ℕ)
+check_lines (check.Judged policy balance) = map (line_of balance) ob_names ++ verdict_line balance ∷ []
+check_lines (check.Faulty fault) = fault_line fault ∷ []
+check_lines check.NotBuilt = codes "policy 0 not-built\n" ∷ []
 
 -- whether the policy is accepted
 abbrev pub accepts : CheckAnswer → Bool

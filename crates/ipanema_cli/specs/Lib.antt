@@ -1,4 +1,5 @@
 pub mod Answers
+pub mod Arguments
 pub mod Asks
 pub mod Causes
 pub mod CheckAnswer

@@ -1,10 +1,9 @@
 //! What commands answer, and how it is written.
 
-ghost use Rattle.std.specs.Prelude.{◌≡◌, ◌≤◌, IfErr, IfOk, OnOk, OnErr, length};
+ghost use Rattle.std.specs.Prelude.{◌≡◌, ◌≤◌, IfErr, IfOk, length};
 ghost use Rattle.sched_base.specs.declared.limits.TheConstants.{MAX_POLICY_BYTES, MAX_TRACE_BYTES};
-ghost use Rattle.sched_io.specs.Faults.{Rose};
-ghost use Rattle.sched_io.specs.Written.{Adds, AddsPart};
-ghost use Rattle.ipanema_cli.specs.Answers.{CanBePut, IsPlayOfTexts, output_of, status_of};
+ghost use Rattle.sched_io.specs.Puts.{Puts};
+ghost use Rattle.ipanema_cli.specs.Answers.{CanBePut, IsPlayOfTexts, lines_of, status_of};
 ghost use Rattle.ipanema_cli.specs.declared.stop.Stop.TheVariants as stop;
 
 use crate::checking::{CheckAnswer, check_text};
@@ -63,10 +62,7 @@ impl Answer {
     /// Writes the answer, a line at a time.
     pub fn put<S: Sink>(&self, out: &mut S) -> Result<(), PutFault>
         requires { CanBePut self.now }
-        ensures whole { OnOk result (Adds (output_of self.now) (S.written out.old) (S.written out.new)) }
-        ensures part { OnErr result (AddsPart (output_of self.now) (S.written out.old) (S.written out.new)) }
-        ensures failed { OnErr result (Rose (S.faults out.old) (S.faults out.new)) }
-        ensures steady { OnOk result (S.faults out.new ≡ S.faults out.old) }
+        ensures { Puts (lines_of self.now) result (S.shown out.old) (S.shown out.new) }
     {
         match self {
             Answer::Checked(answer) => answer.put(out),

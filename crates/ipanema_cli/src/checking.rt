@@ -1,14 +1,13 @@
 //! What `check` answers, and how it is written.
 
-ghost use Rattle.std.specs.Prelude.{◌≡◌, ◌≤◌, ℕ, List, IfErr, IfOk, OnOk, OnErr, length};
-ghost use Rattle.std.specs.List.{flat_map};
+ghost use Rattle.std.specs.Prelude.{◌≡◌, ◌≤◌, ◌++◌, ◌∷◌, [], ℕ, List, IfErr, IfOk, length, map};
 ghost use Rattle.sched_base.specs.declared.limits.TheConstants.{MAX_POLICY_BYTES};
-ghost use Rattle.sched_io.specs.Faults.{Rose};
-ghost use Rattle.sched_io.specs.Written.{Adds, AddsPart};
+ghost use Rattle.sched_io.specs.Puts.{Puts};
+ghost use Rattle.count_filter.specs.Judged.{ob_names};
 ghost use Rattle.policy_reader.specs.Lines.{fault_line};
 ghost use Rattle.policy_reader.specs.Spelled.{SpellsPolicy};
 ghost use Rattle.policy_tree.specs.Meaning.{meaning_of};
-ghost use Rattle.ipanema_cli.specs.CheckAnswer.{IsCheckOf, check_output, check_status, judged_lines, line_of, verdict_line};
+ghost use Rattle.ipanema_cli.specs.CheckAnswer.{IsCheckOf, check_lines, check_status, line_of, verdict_line};
 ghost use Rattle.ipanema_cli.specs.declared.stop.Stop.TheVariants as stop;
 
 use crate::status::Status;
@@ -71,10 +70,7 @@ impl CheckAnswer {
 
     /// Writes the answer, a line at a time.
     pub fn put<S: Sink>(&self, out: &mut S) -> Result<(), PutFault>
-        ensures whole { OnOk result (Adds (check_output self.now) (S.written out.old) (S.written out.new)) }
-        ensures part { OnErr result (AddsPart (check_output self.now) (S.written out.old) (S.written out.new)) }
-        ensures failed { OnErr result (Rose (S.faults out.old) (S.faults out.new)) }
-        ensures steady { OnOk result (S.faults out.new ≡ S.faults out.old) }
+        ensures { Puts (check_lines self.now) result (S.shown out.old) (S.shown out.new) }
     {
         match self {
             CheckAnswer::Judged(_, balance) => put_judged(out, balance),
@@ -86,10 +82,7 @@ impl CheckAnswer {
 
 /// Writes the line of each obligation, and the verdict.
 fn put_judged<S: Sink>(out: &mut S, balance: &Balance) -> Result<(), PutFault>
-    ensures whole { OnOk result (Adds (judged_lines balance.now) (S.written out.old) (S.written out.new)) }
-    ensures part { OnErr result (AddsPart (judged_lines balance.now) (S.written out.old) (S.written out.new)) }
-    ensures failed { OnErr result (Rose (S.faults out.old) (S.faults out.new)) }
-    ensures steady { OnOk result (S.faults out.new ≡ S.faults out.old) }
+    ensures { Puts (map (line_of balance.now) ob_names ++ verdict_line balance.now ∷ []) result (S.shown out.old) (S.shown out.new) }
 {
     put_lines(out, balance, &NAMES)?;
     put_all(out, verdict(balance))?;
@@ -113,10 +106,7 @@ fn put_lines<S: Sink>(
     balance: &Balance,
     obligations: &[ObName],
 ) -> Result<(), PutFault>
-    ensures whole { OnOk result (Adds (flat_map (line_of balance.now) obligations.now) (S.written out.old) (S.written out.new)) }
-    ensures part { OnErr result (AddsPart (flat_map (line_of balance.now) obligations.now) (S.written out.old) (S.written out.new)) }
-    ensures failed { OnErr result (Rose (S.faults out.old) (S.faults out.new)) }
-    ensures steady { OnOk result (S.faults out.new ≡ S.faults out.old) }
+    ensures { Puts (map (line_of balance.now) obligations.now) result (S.shown out.old) (S.shown out.new) }
 {
     for obligation in obligations {
         put_all(out, answer_line(balance, *obligation).as_bytes())?;

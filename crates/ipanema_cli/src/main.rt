@@ -2,6 +2,7 @@
 #![tactic(auto)]
 
 mod answers;
+mod arguments;
 mod checking;
 mod command;
 #[cfg(test)]
@@ -16,29 +17,12 @@ mod tests;
 mod texts;
 mod top;
 
-use crate::status::Status;
-use sched_io::{DiskFiles, OpenGate, StdoutSink};
-use std::alloc::AllocError;
-use std::env;
-use std::io::ErrorKind;
+use sched_io::{DiskFiles, StdoutSink};
 use std::process::ExitCode;
-
-/// The words of the call without the program's name. Words that are no text are as no words.
-fn words(rt: &HostRuntime) -> Result<Vec<String>, AllocError> {
-    match env::args(rt) {
-        Ok(args) => args.skip(1).collect(rt.alloc()),
-        Err(error) => match error.kind() {
-            ErrorKind::OutOfMemory => Err(AllocError),
-            _ => Ok(Vec::new(rt.alloc())),
-        },
-    }
-}
+use std::{env, io};
 
 fn main(rt: HostRuntime) -> ExitCode {
-    let Ok(words) = words(&rt) else {
-        return ExitCode::from(Status::Memory.code());
-    };
     let mut files = DiskFiles::new(&rt);
-    let mut out = StdoutSink::new(&rt);
-    ExitCode::from(top::ipanema(&rt, rt.alloc(), &words, &mut files, &mut out, &OpenGate))
+    let mut out = StdoutSink::new(io::writer(&rt));
+    arguments::exit_code(&rt, rt.alloc(), env::args(&rt), &mut files, &mut out)
 }

@@ -1,6 +1,8 @@
 //! `play` over files and a sink in memory: the histories of `examples/`, each fault of a trace, and which answer comes first.
 
 use crate::tests::{Outside, call, first_lines, lines, policy};
+use crate::top::ipanema;
+use sched_io::{MemoryFiles, OpenGate, SteadySink};
 use std::alloc::Global;
 use std::sync::Wait;
 use std::test::Fail;
@@ -60,6 +62,7 @@ fn faults_of_traces(rt: HostRuntime) -> Result<(), Fail> {
     let cases = [
         ("", "trace 1 bad-line\n"),
         ("cores 0\n", "trace 1 limit\n"),
+        ("cores 0\nrounds 0\n", "trace 1 limit\n"),
         ("cores 1\n", "trace 2 bad-line\n"),
         ("cores 1\nrounds 0\ncores 1\n", "trace 3 twice\n"),
         (
@@ -124,6 +127,12 @@ fn files_come_before_texts(rt: HostRuntime) -> Result<(), Fail> {
     assert_eq!(rt; trace.0, 10);
     assert_eq!(rt; trace.1.as_slice(), b"too-long trace\n".as_slice());
 
+    let longest = vec![in alloc; b'#'; 4_194_304]?;
+    let basic = policy(alloc, "2")?;
+    let trace = play(&rt, alloc, (basic.as_bytes(), longest.as_slice()), &[], &[])?;
+    assert_eq!(rt; trace.0, 2);
+    assert_eq!(rt; trace.1.as_slice(), b"trace 2 bad-line\n".as_slice());
+
     for load in 0..2u64 {
         let unread = play(&rt, alloc, (b"no policy", b"no trace"), &[load], &[])?;
         assert_eq!(rt; unread.0, 4, "at load {load}");
@@ -151,6 +160,32 @@ fn puts_that_fail(rt: HostRuntime) -> Result<(), Fail> {
         assert_eq!(rt; status, if at < 7 { 5 } else { 0 }, "at put {at}");
         assert_eq!(rt; out.as_slice(), front.as_slice(), "at put {at}");
     }
+    Ok(())
+}
+
+#[test]
+fn steady_sink(rt: HostRuntime) -> Result<(), Fail> {
+    let alloc = rt.alloc();
+    let mut words = Vec::new(alloc);
+    for word in ["play", "p", "t"] {
+        words.push(String::from_str(alloc, word)?)?;
+    }
+    let mut held = Vec::new(alloc);
+    held.push((
+        String::from_str(alloc, "p")?,
+        policy(alloc, "2")?.into_bytes(),
+    ))?;
+    held.push((
+        String::from_str(alloc, "t")?,
+        ONE_STEAL.as_bytes().to_vec(alloc)?,
+    ))?;
+    let mut files = MemoryFiles::new(alloc, held, Vec::new(alloc));
+    let mut out = SteadySink::with_room(alloc, 4_096)?;
+    assert_eq!(rt;
+        ipanema(&rt, alloc, &words, &mut files, &mut out, &OpenGate),
+        0
+    );
+    assert_eq!(rt; out.bytes(), ONE_STEAL_HISTORY.as_bytes());
     Ok(())
 }
 

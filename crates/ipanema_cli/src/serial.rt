@@ -3,7 +3,7 @@
 ghost use Rattle.std.specs.Prelude.{◌≡◌, ◌≢◌, ◌⊎◌, [], ◌∷◌, Some, IfErr, IfOk, IsErrOf, OnOk, codes, slice_get};
 ghost use Rattle.sched_io.specs.Faults.{Rose};
 ghost use Rattle.sched_io.specs.Loads.{Asks};
-ghost use Rattle.ipanema_cli.specs.Answers.{AnswersCheck, AnswersPlay, CanBePut, IsAnswer, output_of, status_of};
+ghost use Rattle.ipanema_cli.specs.Answers.{AnswersCheck, AnswersPlay, CanBePut, IsAnswer};
 ghost use Rattle.ipanema_cli.specs.Command.{asked_by, check, play, words_of};
 ghost use Rattle.ipanema_cli.specs.Ends.{Ends, Writes};
 ghost use Rattle.ipanema_cli.specs.Causes.{HasCause, OneOf};
@@ -31,19 +31,17 @@ pub fn serial_command<F: Files, S: Sink>(
 ) -> u8
     requires { slice_get (words_of words.now.items) 0 ≢ Some (codes "run") }
     ensures ends { Ends (asked_by (words_of words.now.items)) (F.told files.old)
-        (Rose (F.faults files.old) (F.faults files.new)) (Rose (S.faults out.old) (S.faults out.new))
-        (S.written out.old) (S.written out.new) result }
+        (Rose (F.faults files.old) (F.faults files.new)) (S.shown out.old) (S.shown out.new) result }
     ensures causes { HasCause (asked_by (words_of words.now.items)) (F.told files.old)
-        (Rose (F.faults files.old) (F.faults files.new)) (Rose (S.faults out.old) (S.faults out.new))
-        (S.written out.old) (S.written out.new) result }
+        (Rose (F.faults files.old) (F.faults files.new)) (S.shown out.old) (S.shown out.new) result }
     ensures truthful { IsTruthful (asked_by (words_of words.now.items)) (F.told files.old)
-        (S.written out.old) (S.written out.new) result }
+        (S.shown out.old).written (S.shown out.new).written result }
     ensures loads { FirstAreLoaded (asked_by (words_of words.now.items)) (F.told files.old)
         (F.asked files.old) (F.asked files.new) }
     ensures loaded { OneOf (0 ∷ 1 ∷ 2 ∷ 7 ∷ 8 ∷ []) result → Asks (files_of (asked_by (words_of words.now.items)))
         (F.asked files.old) (F.asked files.new) }
     ensures calm { (result ≡ 4) ⊎ (F.faults files.new ≡ F.faults files.old) }
-    ensures quiet { (result ≡ 5) ⊎ (S.faults out.new ≡ S.faults out.old) }
+    ensures quiet { (result ≡ 5) ⊎ ((S.shown out.new).faults ≡ (S.shown out.old).faults) }
 {
     carry_out(alloc, words.as_slice(), files, out)
 }
@@ -51,14 +49,13 @@ pub fn serial_command<F: Files, S: Sink>(
 /// Does what the words ask for.
 fn carry_out<F: Files, S: Sink>(alloc: Global, words: &[String], files: &mut F, out: &mut S) -> u8
     ensures ends { Ends (asked_by (words_of words.now)) (F.told files.old)
-        (Rose (F.faults files.old) (F.faults files.new)) (Rose (S.faults out.old) (S.faults out.new))
-        (S.written out.old) (S.written out.new) result }
+        (Rose (F.faults files.old) (F.faults files.new)) (S.shown out.old) (S.shown out.new) result }
     ensures loads { FirstAreLoaded (asked_by (words_of words.now)) (F.told files.old)
         (F.asked files.old) (F.asked files.new) }
     ensures loaded { OneOf (0 ∷ 1 ∷ 2 ∷ 7 ∷ 8 ∷ []) result → Asks (files_of (asked_by (words_of words.now)))
         (F.asked files.old) (F.asked files.new) }
     ensures calm { (result ≡ 4) ⊎ (F.faults files.new ≡ F.faults files.old) }
-    ensures quiet { (result ≡ 5) ⊎ (S.faults out.new ≡ S.faults out.old) }
+    ensures quiet { (result ≡ 5) ⊎ ((S.shown out.new).faults ≡ (S.shown out.old).faults) }
 {
     match answer_to(alloc, words, files) {
         Ok(answer) => give(&answer, out),
@@ -121,9 +118,8 @@ fn play<F: Files>(alloc: Global, policy: &str, trace: &str, files: &mut F) -> Re
 /// Writes an answer, and gives its status.
 pub fn give<S: Sink>(answer: &Answer, out: &mut S) -> u8
     requires { CanBePut answer.now }
-    ensures writes { Writes (output_of answer.now) (status_of answer.now) (Rose (S.faults out.old) (S.faults out.new))
-        (S.written out.old) (S.written out.new) result }
-    ensures quiet { (result ≡ 5) ⊎ (S.faults out.new ≡ S.faults out.old) }
+    ensures writes { Writes answer.now (S.shown out.old) (S.shown out.new) result }
+    ensures quiet { (result ≡ 5) ⊎ ((S.shown out.new).faults ≡ (S.shown out.old).faults) }
 {
     match answer.put(out) {
         Ok(()) => answer.status().code(),

@@ -1,7 +1,9 @@
 //! Calls of the program over files and a sink in memory, each with its status and its bytes.
 
 use crate::top::ipanema;
-use sched_io::{Files, MemoryFiles, MemorySink, OpenGate};
+use sched_io::{
+    Files, LoadFault, MemoryFiles, MemorySink, OpenGate, WriterSink, load_from, put_all,
+};
 use std::alloc::Global;
 use std::sync::Wait;
 use std::test::Fail;
@@ -110,8 +112,16 @@ pub(crate) fn check<R: Threads + Wait + Sync>(
 fn words_and_texts(rt: HostRuntime) -> Result<(), Fail> {
     let alloc = rt.alloc();
     let basic = policy(alloc, "2")?;
-    let wrong_words: [&[&str]; 15] = [
+    let wrong_words: [&[&str]; 23] = [
         &[],
+        &["-"],
+        &["--"],
+        &["p"],
+        &["", "p"],
+        &["--", "check", "p"],
+        &["check", "--", "p"],
+        &["check", "-"],
+        &["play", "", "p"],
         &["check"],
         &["check", "p", "p"],
         &["Check", "p"],
@@ -276,7 +286,7 @@ fn longest_texts(rt: HostRuntime) -> Result<(), Fail> {
 }
 
 #[test]
-fn loads_are_kept(rt: HostRuntime) -> Result<(), Fail> {
+fn loads_and_pieces_are_kept(rt: HostRuntime) -> Result<(), Fail> {
     let alloc = rt.alloc();
     let mut files = MemoryFiles::new(alloc, Vec::new(alloc), Vec::new(alloc));
     assert!(rt; files.load(alloc, "p", 9).is_err());
@@ -287,5 +297,39 @@ fn loads_are_kept(rt: HostRuntime) -> Result<(), Fail> {
         }
         _ => assert!(rt; false, "one load is kept"),
     }
+    let mut out = MemorySink::new(alloc, 3, Vec::new(alloc))?;
+    assert!(rt; put_all(&mut out, b"abc").is_ok());
+    assert!(rt; put_all(&mut out, b"d").is_err());
+    match out.offered() {
+        Some([first, second]) => {
+            assert_eq!(rt; first.as_slice(), b"abc".as_slice());
+            assert_eq!(rt; second.as_slice(), b"d".as_slice());
+        }
+        _ => assert!(rt; false, "two pieces are kept"),
+    }
+    Ok(())
+}
+
+#[test]
+fn readers_and_writers(rt: HostRuntime) -> Result<(), Fail> {
+    let alloc = rt.alloc();
+    let text = b"cores 1";
+    for limit in [7u64, 8, u64::MAX] {
+        let loaded = load_from(alloc, text.as_slice(), limit);
+        assert!(rt;
+            matches!(&loaded, Ok(bytes) if bytes.as_slice() == text.as_slice()),
+            "at {limit}"
+        );
+    }
+    for limit in [0u64, 6] {
+        let loaded = load_from(alloc, text.as_slice(), limit);
+        assert!(rt; matches!(loaded, Err(LoadFault::TooLong)), "at {limit}");
+    }
+    let mut room = [0; 5];
+    let mut out = WriterSink::new(room.as_mut_slice());
+    assert!(rt; put_all(&mut out, b"abc").is_ok());
+    assert!(rt; put_all(&mut out, b"def").is_err());
+    drop(out);
+    assert_eq!(rt; room.as_slice(), b"abcde".as_slice());
     Ok(())
 }

@@ -30,15 +30,13 @@ pub fn ipanema<R: Threads + Wait + Sync, F: Files, S: Sink, G: Gate>(
 ) -> u8
     // One definition says how the call ends for these words and these files.
     ensures ends { Ends (asked_by (words_of words.now.items)) (F.told files.old)
-        (Rose (F.faults files.old) (F.faults files.new)) (Rose (S.faults out.old) (S.faults out.new))
-        (S.written out.old) (S.written out.new) result }
+        (Rose (F.faults files.old) (F.faults files.new)) (S.shown out.old) (S.shown out.new) result }
     // Each status has its cause.
     ensures causes { HasCause (asked_by (words_of words.now.items)) (F.told files.old)
-        (Rose (F.faults files.old) (F.faults files.new)) (Rose (S.faults out.old) (S.faults out.new))
-        (S.written out.old) (S.written out.new) result }
+        (Rose (F.faults files.old) (F.faults files.new)) (S.shown out.old) (S.shown out.new) result }
     // What is said of a policy and of a trace is true.
     ensures truthful { IsTruthful (asked_by (words_of words.now.items)) (F.told files.old)
-        (S.written out.old) (S.written out.new) result }
+        (S.shown out.old).written (S.shown out.new).written result }
     // Just the first of the command's files are loaded, each once and with its limit, and none behind one that is told to be
     // missing or too long.
     ensures loads { FirstAreLoaded (asked_by (words_of words.now.items)) (F.told files.old)
@@ -48,7 +46,7 @@ pub fn ipanema<R: Threads + Wait + Sync, F: Files, S: Sink, G: Gate>(
         (F.asked files.old) (F.asked files.new) }
     // Where the files' count of faults moves, the call ends with 4, and where the sink's does, with 5.
     ensures calm { (result ≡ 4) ⊎ (F.faults files.new ≡ F.faults files.old) }
-    ensures quiet { (result ≡ 5) ⊎ (S.faults out.new ≡ S.faults out.old) }
+    ensures quiet { (result ≡ 5) ⊎ ((S.shown out.new).faults ≡ (S.shown out.old).faults) }
 {
     match words.first() {
         Some(verb) if verb.as_str() == "run" => give(&Answer::BadWords, out),

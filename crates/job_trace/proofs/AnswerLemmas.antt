@@ -1,11 +1,12 @@
 -- Why the answer to a text is the only one.
-use Rattle.std.proofs.Common.{◌≡◌, ℕ, List, [], Result, Ok, Err, subst}
+use Rattle.std.proofs.Common.{◌≡◌, ℕ, List, [], Result, Ok, Err, inl, inr, refl, subst}
 use Rattle.std.specs.Prelude.{IfOk, IfErr}
 use Rattle.text_forms.specs.Lines.{lines_of}
 use Rattle.job_trace.specs.declared.fault.TraceFault.{TraceFault}
 use Rattle.job_trace.specs.declared.fault.TraceFault.TheVariants.{BadLine, Limit, Twice, Memory, NotBuilt}
 use Rattle.job_trace.specs.declared.trace.Numbered.{Numbered}
 use Rattle.job_trace.specs.Faults.{FailsAs, IsBroken, IsFault, IsUnlessMemory}
+use Rattle.job_trace.specs.Laws.{HasAnswer}
 use Rattle.job_trace.specs.Steps.{scan}
 use Rattle.job_trace.specs.TraceText.{SpellsTrace}
 use Rattle.job_trace.proofs.ScanLemmas.{IsScanned, scan-fails, scan-is, scan-reads}
@@ -40,3 +41,10 @@ module _ (text : List ℕ) where
       (fault : TraceFault) → IsBroken text fault → IsUnlessMemory (Err fault) result
   refuses_it result told fault broken =
       subst (λ a. IsUnlessMemory a result) (scan-fails [] 1 (lines_of text) fault broken) told
+
+  by_scan : (r : Result (List Numbered) TraceFault) → scan [] 1 (lines_of text) ≡ r → HasAnswer text
+  by_scan (Ok trace) e = inl (trace, spells_it (Ok trace) e)
+  by_scan (Err fault) e = inr (fault, answered (Err fault) e)
+
+  pub each_answered : HasAnswer text
+  each_answered = by_scan (scan [] 1 (lines_of text)) refl

@@ -4,4 +4,5 @@ pub mod Rules
 pub mod TraceText
 pub mod Faults
 pub mod Steps
+pub mod Laws
 pub mod Plans

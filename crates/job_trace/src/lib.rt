@@ -4,6 +4,7 @@
 
 mod fault;
 mod form;
+mod laws;
 mod plan_fault;
 mod planning;
 mod ranges;
@@ -13,6 +14,7 @@ mod trace;
 mod words;
 
 pub use fault::TraceFault;
+pub use laws::law_each_has_answer;
 pub use plan_fault::PlanFault;
 pub use planning::plan;
 pub use reading::read_trace;

@@ -1,13 +1,14 @@
 //! Whether a text has a syntax: `read`, or its first fault with its place and its limit.
 
 use policy_grammar::ParseFault;
-use policy_lexer::{LexFault, TEXT_LIMIT, lex};
+use policy_lexer::{LexFault, lex};
 use policy_parser::parse;
+use sched_base::MAX_POLICY_BYTES;
 use std::alloc::{AllocError, Global};
 
 /// The answer to the text.
 pub(crate) fn syntax_answer(alloc: Global, text: &[u8]) -> Result<String, AllocError> {
-    if text.len() > TEXT_LIMIT {
+    if text.len() as u64 > MAX_POLICY_BYTES {
         return String::from_str(alloc, "too-long");
     }
     let tokens = match lex(alloc, text) {

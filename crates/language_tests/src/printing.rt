@@ -1,15 +1,16 @@
 //! The printed text of a text's syntax, which is read to the same syntax again.
 
 use crate::reading_again::{Unread, read_again};
-use policy_lexer::{TEXT_LIMIT, lex};
+use policy_lexer::lex;
 use policy_parser::parse;
 use policy_printer::{PrintFault, print};
 use policy_tree::Syntax;
+use sched_base::MAX_POLICY_BYTES;
 use std::alloc::{AllocError, Global};
 
 /// What is printed of the text's syntax, where the syntax that it is read to again prints the same.
 pub(crate) fn printed_answer(alloc: Global, text: &[u8]) -> Result<String, AllocError> {
-    if text.len() > TEXT_LIMIT {
+    if text.len() as u64 > MAX_POLICY_BYTES {
         return String::from_str(alloc, "too-long");
     }
     let Ok(tokens) = lex(alloc, text) else {

@@ -1,22 +1,23 @@
 //! A syntax, printed and read again.
 
 ghost use Rattle.std.specs.Prelude.{◌≡◌, ◌<◌, ℕ, List, length, IfOk, IfErr};
-ghost use Rattle.policy_lexer.specs.declared.token.TheConstants.{TEXT_LIMIT};
+ghost use Rattle.sched_base.specs.declared.limits.TheConstants.{MAX_POLICY_BYTES};
 ghost use Rattle.policy_tree.specs.SyntaxTrees.{syntax_tree};
 ghost use Rattle.policy_printer.specs.Printed.{IsTextOf, printed};
 ghost use Rattle.language_tests.specs.Unread.{IsUnread};
 
 use policy_grammar::ParseFault;
-use policy_lexer::{LexFault, TEXT_LIMIT, lex};
+use policy_lexer::{LexFault, lex};
 use policy_parser::parse;
 use policy_printer::{PrintFault, print};
 use policy_tree::Syntax;
+use sched_base::MAX_POLICY_BYTES;
 use std::alloc::Global;
 
 /// Why a printed text isn't read again.
 #[derive(Clone, Copy)]
 pub enum Unread {
-    /// It has more than `TEXT_LIMIT` bytes.
+    /// It has more than `MAX_POLICY_BYTES` bytes.
     TooLong,
     /// There was no memory for the text, its tokens or its syntax.
     Memory,
@@ -33,7 +34,7 @@ pub fn read_again(alloc: Global, syntax: &Syntax) -> Result<Syntax, Unread>
         Ok(text) => text,
         Err(PrintFault::Memory) => return Err(Unread::Memory),
     };
-    if text.len() > TEXT_LIMIT {
+    if text.len() as u64 > MAX_POLICY_BYTES {
         return Err(Unread::TooLong);
     }
     let tokens = match lex(alloc, text.as_slice()) {

@@ -2,15 +2,16 @@
 //! token.
 
 use crate::shown::show_policy;
-use policy_lexer::{TEXT_LIMIT, lex};
+use policy_lexer::lex;
 use policy_parser::parse;
 use policy_tree::Syntax;
 use policy_types::{TypeFault, resolve};
+use sched_base::MAX_POLICY_BYTES;
 use std::alloc::{AllocError, Global};
 
 /// The syntax of a text, if it has one.
 pub(crate) fn syntax_of(alloc: Global, text: &[u8]) -> Option<Syntax> {
-    if text.len() > TEXT_LIMIT {
+    if text.len() as u64 > MAX_POLICY_BYTES {
         return None;
     }
     let tokens = lex(alloc, text).ok()?;

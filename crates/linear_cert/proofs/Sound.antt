@@ -1,8 +1,9 @@
 -- Why a right certificate leaves no solution. At a solution each named row holds, so the sum of the rows times their
 -- multipliers holds too. Without a term it says that 0 is at most its bound, which is negative.
-use Rattle.std.proofs.Common.{◌≡◌, ◌≢◌, ℕ, zero, suc, ◌-◌, ◌/◌, ◌%◌, ◌<◌, slice_get, List, [], ◌∷◌, length, Bool, true, false, Option, Some, None, option_map, ℤ, pos, ◌+ℤ◌, ◌*ℤ◌, ◌≤ℤ◌, ◌==◌, if◌then◌else◌, inl, inr, subst, ap, sym, ◌∙◌, refl, arith}
+use Rattle.std.proofs.Common.{◌≡◌, ◌≢◌, ℕ, zero, suc, ◌-◌, ◌/◌, ◌%◌, ◌<◌, slice_get, List, [], ◌∷◌, length, Bool, true, false, Option, Some, None, option_map, ℤ, pos, ◌+ℤ◌, ◌*ℤ◌, ◌≤ℤ◌, ◌==◌, if◌then◌else◌, ◌⊎◌, inl, inr, set, length-set, subst, ap, sym, ◌∙◌, refl, arith}
 use Rattle.std.proofs.lemmas.Bool.{cases_lt}
 use Rattle.std.proofs.lemmas.Int.{ints}
+use Rattle.std.proofs.lemmas.Grind.{common_steps}
 use Rattle.std.proofs.lemmas.List.{get_or_past}
 use Rattle.std.proofs.lemmas.Option.{get_or_from_slice_get, slice_get_within}
 use Rattle.linear_form.specs.declared.form.Term.{Term}
@@ -14,7 +15,7 @@ use Rattle.linear_cert.specs.declared.cert.Mult.{Mult}
 use Rattle.linear_cert.specs.declared.rows.Column.TheVariants.{Variable, RightSide}
 use Rattle.linear_cert.specs.Rows.{numbered_row, lower_row, upper_row}
 use Rattle.linear_cert.specs.Columns.{coefficient, column_sum, entry, times, value_in}
-use Rattle.linear_cert.specs.Right.{CertTree, leaf, IsRight}
+use Rattle.linear_cert.specs.Right.{CertTree, leaf, split, IsRight, up_to, past}
 use Rattle.linear_cert.proofs.Coefficients.{pick_other, pick_same}
 use Rattle.linear_cert.proofs.Numbered.{numbered_below, numbered_past}
 use Rattle.linear_cert.proofs.Integers.{add-mul, mul_right_comm, mul_mono}
@@ -146,6 +147,18 @@ module _ (point : List ℤ) where
         range_holds (place % 2 == 0) (place / 2) (slice_get bounds (place / 2)) r within (sym (numbered_past bounds rows number past) ∙ named)
   ]
 
+-- a value of a range lies in one part or the other
+in_a_part : (lo hi at v : ℤ) → lo ≤ℤ v → v ≤ℤ hi → (v ≤ℤ at) ⊎ ((at +ℤ pos 1) ≤ℤ v)
+in_a_part lo hi at v low high = grind (arith, ints)
+
+-- a solution lies in each range that has its value
+narrowed : (bounds : List Bound) (rows : List Row) (point : List ℤ) (variable : ℕ) (range : Bound) → Solves bounds rows point → IsWithin range (value_at point variable) → Solves (set bounds variable range) rows point
+narrowed bounds rows point variable range solves within = record {
+  one_each = solves.one_each ∙ sym (length-set bounds variable range);
+  within = λ k d lt. grind (arith, common_steps, solves.within k d, within);
+  rows_hold = solves.rows_hold;
+}
+
 -- a right certificate leaves no solution
 pub no_solution : (bounds : List Bound) (rows : List Row) (tree : CertTree) → IsRight bounds rows tree → HasNoSolution bounds rows
 no_solution bounds rows (leaf mults) right point solves =
@@ -155,3 +168,10 @@ no_solution bounds rows (leaf mults) right point solves =
     let left = mults_by_variable point bounds rows n mults solves.one_each in
     let order = in_order point bounds rows mults (numbered_holds point bounds rows solves) in
     omega (arith, ints, none, left, order, right.negative.sum)
+no_solution bounds rows (split variable at left right) (cut, left_right, right_right) point solves =
+    let none : Bound = record { lo = pos 0; hi = pos 0 } in
+    let within = solves.within variable none cut.known in
+    elim (in_a_part _ _ at (value_at point variable) within.0 within.1) [
+      | inl low ↦ no_solution (up_to bounds variable at) rows left left_right point (narrowed bounds rows point variable _ solves (within.0, low))
+      | inr high ↦ no_solution (past bounds variable at) rows right right_right point (narrowed bounds rows point variable _ solves (high, within.1))
+    ]

@@ -15,9 +15,23 @@ pub struct Mult {
 /// Rows with their multipliers, in the order in which they are added up.
 pub type MultList = Items<Mult>;
 
+/// The most splits that stand one within another in a certificate that is written or read.
+pub const MAX_SPLITS: u32 = 128;
+
 /// A reason why a system has no solution.
 #[derive(Drop)]
 pub enum Cert {
     /// Rows that add up to `0 <= c` with c negative, each times its multiplier.
     Leaf(MultList),
+    /// A case for each part of a variable's range: the values up to one, and those past it.
+    Split {
+        /// The number of the variable.
+        var: u32,
+        /// The greatest value of the left part.
+        at: i64,
+        /// Why no solution has a value up to `at`.
+        left: Box<Cert>,
+        /// Why no solution has a value past `at`.
+        right: Box<Cert>,
+    },
 }

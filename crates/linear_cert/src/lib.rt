@@ -1,6 +1,7 @@
 //! Certificates that a system of linear rows has no solution, and their checker.
 //!
-//! A certificate is a sum of rows that says `0 <= c` with c negative, as in Farkas' lemma.
+//! A certificate is a sum of rows that says `0 <= c` with c negative, as in Farkas' lemma. Or it cuts
+//! the range of a variable in two, and has a certificate for either part.
 #![tactic(auto)]
 
 mod cert;
@@ -8,6 +9,6 @@ mod checker;
 mod laws;
 mod rows;
 
-pub use cert::{Cert, Mult, MultList};
+pub use cert::{Cert, MAX_SPLITS, Mult, MultList};
 pub use checker::check;
 pub use laws::law_sound;

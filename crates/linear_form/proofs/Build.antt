@@ -4,7 +4,7 @@ use Rattle.std.specs.List.Sorted.{IsStrictlyIncreasing}
 use Rattle.std.proofs.lemmas.Grind.{common_steps}
 use Rattle.std.proofs.lemmas.List.{map-append}
 use Rattle.std.proofs.lemmas.List.Elements.{All-nil, All-push, All-map}
-use Rattle.linear_form.specs.declared.form.TheConstants.{MAX_ROW_BOUND}
+use Rattle.sched_base.specs.declared.limits.TheConstants.{MAX_ROW_BOUND}
 use Rattle.linear_form.specs.declared.form.Term.{Term}
 use Rattle.linear_form.specs.declared.form.Row.{Row}
 use Rattle.linear_form.specs.System.{IsRow, IsTerm}

@@ -1,7 +1,7 @@
 -- Which bounds and rows a system may have.
 use Rattle.std.specs.Prelude.{ℕ, ◌<◌, ◌≤◌, ◌≢◌, List, length, map, All, pos, ◌≤ℤ◌, unsigned_abs}
 use Rattle.std.specs.List.Sorted.{IsStrictlyIncreasing}
-use Rattle.linear_form.specs.declared.form.TheConstants.{MAX_VARIABLES, MAX_ROWS, MAX_END, MAX_COEF, MAX_ROW_BOUND}
+use Rattle.sched_base.specs.declared.limits.TheConstants.{MAX_VARIABLES, MAX_ROWS, MAX_END, MAX_ROW_COEFFICIENT, MAX_ROW_BOUND}
 use Rattle.linear_form.specs.declared.form.Term.{Term}
 use Rattle.linear_form.specs.declared.form.Row.{Row}
 use Rattle.linear_form.specs.declared.form.Bound.{Bound}
@@ -21,7 +21,7 @@ pub record IsBound (bound : Bound) : Type 0 where
 pub record IsTerm (variables : ℕ) (term : Term) : Type 0 where
   pub known : term.var < variables
   pub nonzero : term.coef ≢ pos 0
-  pub small : unsigned_abs term.coef ≤ MAX_COEF
+  pub small : unsigned_abs term.coef ≤ MAX_ROW_COEFFICIENT
 
 -- a row over so many variables, each in at most one term
 pub record IsRow (variables : ℕ) (row : Row) : Type 0 where

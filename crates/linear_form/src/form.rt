@@ -1,21 +1,6 @@
-//! The parts of a system: terms, rows, bounds and points, with their limits.
+//! The parts of a system: terms, rows, bounds and points.
 
 use lists::Items;
-
-/// The most variables that a system has.
-pub const MAX_VARIABLES: usize = 30;
-
-/// The most rows that a system has.
-pub const MAX_ROWS: usize = 256;
-
-/// The greatest magnitude of an end of a variable's range.
-pub const MAX_END: u64 = 1 << 41;
-
-/// The greatest magnitude of a coefficient.
-pub const MAX_COEF: u64 = 1 << 42;
-
-/// The greatest magnitude of a row's bound.
-pub const MAX_ROW_BOUND: u64 = 1 << 62;
 
 /// A variable times a whole number.
 #[derive(Clone, Copy)]

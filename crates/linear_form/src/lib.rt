@@ -6,8 +6,5 @@ mod shape;
 mod system;
 mod value;
 
-pub use form::{
-    Bound, MAX_COEF, MAX_END, MAX_ROW_BOUND, MAX_ROWS, MAX_VARIABLES, Point, Row, Term, TermList,
-    ValueList,
-};
+pub use form::{Bound, Point, Row, Term, TermList, ValueList};
 pub use system::{AtomFault, System};

@@ -6,9 +6,10 @@ ghost use Rattle.linear_form.specs.Points.{points_of};
 ghost use Rattle.linear_form.specs.Solution.{Solves};
 ghost use Rattle.linear_form.specs.System.{IsBound, IsRow};
 
-use crate::form::{Bound, MAX_ROWS, MAX_VARIABLES, Point, Row};
+use crate::form::{Bound, Point, Row};
 use crate::shape::{are_differences, points_of};
 use crate::value::{all_hold, all_within};
+use sched_base::{MAX_ROWS, MAX_VARIABLES};
 use std::alloc::Global;
 use std::marker::Model;
 

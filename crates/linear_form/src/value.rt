@@ -4,7 +4,8 @@ ghost use Rattle.std.specs.Prelude.{◌≡◌, ◌↔◌, ◌*◌, ◌^◌, ◌�
 ghost use Rattle.linear_form.specs.Solution.{LiesWithin, RowHolds, left_side, term_value};
 ghost use Rattle.linear_form.specs.System.{IsRow, IsTerm};
 
-use crate::form::{Bound, MAX_COEF, MAX_VARIABLES, Row, Term};
+use crate::form::{Bound, Row, Term};
+use sched_base::{MAX_ROW_COEFFICIENT, MAX_VARIABLES};
 
 // Whether each value lies in its range.
 pub fn all_within(bounds: &[Bound], vals: &[i64]) -> bool
@@ -57,7 +58,7 @@ fn left_side(terms: &[Term], vals: &[i64]) -> i128
 fn term_value(term: Term, vals: &[i64]) -> i128
     requires { IsTerm (length vals.now) term }
     ensures value { result ≡ term_value vals.now term }
-    ensures small { unsigned_abs result ≤ MAX_COEF * 2 ^ 63 }
+    ensures small { unsigned_abs result ≤ MAX_ROW_COEFFICIENT * 2 ^ 63 }
 {
     i128::from(term.coef) * i128::from(vals[term.var as usize])
 }

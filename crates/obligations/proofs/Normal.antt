@@ -11,7 +11,7 @@ use Rattle.policy_eval.specs.Forms.{EachSide, IsLinear, coefficient_of}
 use Rattle.policy_eval.specs.Ranges.{least_weight}
 use Rattle.policy_eval.specs.Values.{Assignment, compared, holds, value_of, variable_of}
 use Rattle.policy_eval.proofs.Forms.{value_of-form, weighted, weighted_minus, weighted_negated}
-use Rattle.obligations.specs.declared.variables.TheConstants.{WEIGHT}
+use Rattle.policy_tree.specs.declared.variables.TheConstants.{WEIGHT}
 use Rattle.obligations.specs.Forms.{LinearForm, at_most, at_weight, form_of, opposite, plain_form, weighs_one}
 use Rattle.obligations.specs.Cases.{asked, below, cases_of, cases_of_test, complement, not_above}
 use Rattle.obligations.proofs.Folds.{row_holds, some_crossed, some_holds, some_joined}

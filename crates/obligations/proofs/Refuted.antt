@@ -11,7 +11,7 @@ use Rattle.policy_eval.specs.Values.{Assignment, holds, variable_of}
 use Rattle.linear_form.specs.declared.form.Row.{Row}
 use Rattle.linear_form.specs.Solution.{HasNoSolution}
 use Rattle.linear_form.specs.System.{LinearSystem}
-use Rattle.obligations.specs.declared.variables.TheConstants.{WEIGHT}
+use Rattle.policy_tree.specs.declared.variables.TheConstants.{WEIGHT}
 use Rattle.obligations.specs.Laws.{HaveNoSolution, NoneRefutes}
 use Rattle.obligations.specs.Refutations.{refutation}
 use Rattle.obligations.specs.Systems.{always_has, has_variable, occurs, refuting_cases, system_of_case, systems_of, variable_ranges}

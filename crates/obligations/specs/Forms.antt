@@ -1,14 +1,14 @@
 -- The linear form of a comparison's difference, and the rows that it gives.
 use Rattle.std.specs.Prelude.{ℕ, zero, suc, ◌==◌, ℤ, pos, neg_ℤ, ◌+ℤ◌, ◌-ℤ◌, ◌*ℤ◌, Bool, cond, List, [], ◌∷◌, ◌++◌}
 use Rattle.std.specs.Ordering.{int_eq}
-use Rattle.sched_base.specs.declared.limits.TheConstants.{VARIABLES}
+use Rattle.sched_base.specs.declared.limits.TheConstants.{MAX_VARIABLES}
 use Rattle.policy_tree.specs.declared.typed.Load.{Load}
 use Rattle.policy_tree.specs.Trees.{ExprTree}
 use Rattle.policy_eval.specs.Forms.{coefficient_of, constant_of}
 use Rattle.policy_eval.specs.Ranges.{greatest_weight, least_weight}
 use Rattle.linear_form.specs.declared.form.Term.{Term}
 use Rattle.linear_form.specs.declared.form.Row.{Row}
-use Rattle.obligations.specs.declared.variables.TheConstants.{WEIGHT}
+use Rattle.policy_tree.specs.declared.variables.TheConstants.{WEIGHT}
 
 -- a constant, and a coefficient for each variable by its number
 pub record LinearForm : Type 0 where
@@ -49,4 +49,4 @@ terms_below coefficient (suc v) = terms_below coefficient v ++ term_of v (coeffi
 
 -- the form is at most that number: its constant is moved to the bound
 unfoldable pub at_most : LinearForm → ℤ → Row
-at_most form most = record { terms = terms_below form.coefficient VARIABLES; bound = most -ℤ form.constant }
+at_most form most = record { terms = terms_below form.coefficient MAX_VARIABLES; bound = most -ℤ form.constant }

@@ -1,20 +1,20 @@
 -- Marks of variables, and the places of those that are marked. This serves the code alone.
 use Rattle.std.specs.Prelude.{◌≡◌, ℕ, ◌<◌, ◌≤◌, ◌||◌, ◌==◌, ℤ, pos, Bool, false, List, All, length, map, slice_index_or}
 use Rattle.policy_eval.specs.Obligations.{Statement}
-use Rattle.linear_form.specs.declared.form.TheConstants.{MAX_ROWS}
+use Rattle.sched_base.specs.declared.limits.TheConstants.{MAX_ROWS}
 use Rattle.linear_form.specs.System.{IsRow, LinearSystem}
 use Rattle.policy_tree.specs.declared.typed.Attr.{Attr}
 use Rattle.policy_eval.specs.Ranges.{Range, declared_range, range}
 use Rattle.linear_form.specs.declared.form.Bound.{Bound}
 use Rattle.std.specs.List.{AllByRecursion, list_any}
-use Rattle.sched_base.specs.declared.limits.TheConstants.{VARIABLES}
+use Rattle.sched_base.specs.declared.limits.TheConstants.{MAX_VARIABLES}
 use Rattle.linear_form.specs.declared.form.Term.{Term}
 use Rattle.linear_form.specs.declared.form.Row.{Row}
 use Rattle.obligations.specs.Systems.{always_has, occurs}
 
 -- the terms are of variables that there are
 abbrev pub HasSmallTerms : Row → Type 0
-HasSmallTerms row = AllByRecursion (λ (term : Term). term.var < VARIABLES) row.terms
+HasSmallTerms row = AllByRecursion (λ (term : Term). term.var < MAX_VARIABLES) row.terms
 
 -- the variable occurs in the row, or in one of the rows
 abbrev pub occurs_in_row : ℕ → Row → Bool
@@ -29,7 +29,7 @@ kept_of marks v = slice_index_or marks v false
 
 -- these are marked, and no others that weren't before
 pub record IsMarked (before after : List Bool) (marked : ℕ → Bool) : Type 0 where
-  pub each : (v : ℕ) → v < VARIABLES → kept_of after v ≡ (kept_of before v || marked v)
+  pub each : (v : ℕ) → v < MAX_VARIABLES → kept_of after v ≡ (kept_of before v || marked v)
 
 -- the row over these places
 abbrev pub placed_by : List ℕ → Row → Row
@@ -49,11 +49,11 @@ declared_bound attrs at =
 
 -- nothing is marked
 abbrev pub IsUnmarked : List Bool → Type 0
-IsUnmarked marks = (v : ℕ) → v < VARIABLES → kept_of marks v ≡ false
+IsUnmarked marks = (v : ℕ) → v < MAX_VARIABLES → kept_of marks v ≡ false
 
 -- the variables are marked that the statement always has
 abbrev pub AlwaysMarked : List Bool → Statement → Type 0
-AlwaysMarked marks s = (v : ℕ) → v < VARIABLES → kept_of marks v ≡ always_has s v
+AlwaysMarked marks s = (v : ℕ) → v < MAX_VARIABLES → kept_of marks v ≡ always_has s v
 
 -- the rows of a case fit a system of so many variables, when their variables are in these places
 pub record IsCase (variables : ℕ) (places : List ℕ) (rows : List Row) : Type 0 where

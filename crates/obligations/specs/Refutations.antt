@@ -8,7 +8,7 @@ use Rattle.policy_tree.specs.Meaning.{CaseTree, Meaning, cases_on}
 use Rattle.policy_tree.specs.Trees.{CondTree, ExprTree, always, negated, both, either, test, number, variable, plus, times}
 use Rattle.policy_eval.specs.Obligations.{Statement, idle_sees_overloaded, victim_is_overloaded, move_narrows_gap, no_overlap, no_gap}
 use Rattle.policy_eval.specs.Ranges.{greatest_weight, least_weight}
-use Rattle.obligations.specs.declared.variables.TheConstants.{SELF_NR, SELF_LOAD, VICTIM_NR, VICTIM_LOAD, WEIGHT}
+use Rattle.policy_tree.specs.declared.variables.TheConstants.{SELF_NR, SELF_LOAD, OTHER_NR, OTHER_LOAD, WEIGHT}
 
 -- a number that the policy or its limits give
 abbrev pub whole : ℕ → ExprTree
@@ -23,26 +23,26 @@ load_fits load nr sum =
 
 -- the loads of self and of victim are those of their threads
 abbrev pub cores_fit : Load → CondTree
-cores_fit load = both (load_fits load SELF_NR SELF_LOAD) (load_fits load VICTIM_NR VICTIM_LOAD)
+cores_fit load = both (load_fits load SELF_NR SELF_LOAD) (load_fits load OTHER_NR OTHER_LOAD)
 
 -- self is idle, and victim is overloaded
 abbrev pub idle_and_overloaded : CondTree
-idle_and_overloaded = both (test cmp.Le (variable SELF_NR) (whole 0)) (test cmp.Ge (variable VICTIM_NR) (whole 2))
+idle_and_overloaded = both (test cmp.Le (variable SELF_NR) (whole 0)) (test cmp.Ge (variable OTHER_NR) (whole 2))
 
 -- victim isn't overloaded
 abbrev pub victim_has_one : CondTree
-victim_has_one = test cmp.Le (variable VICTIM_NR) (whole 1)
+victim_has_one = test cmp.Le (variable OTHER_NR) (whole 1)
 
 -- victim can have a thread of that weight queued beside its others
 abbrev pub has_thread : Load → CondTree
 has_thread load =
     test cmp.Le
-    (plus (times (whole (least_weight load)) (variable VICTIM_NR)) (variable WEIGHT))
-    (plus (variable VICTIM_LOAD) (whole (least_weight load)))
+    (plus (times (whole (least_weight load)) (variable OTHER_NR)) (variable WEIGHT))
+    (plus (variable OTHER_LOAD) (whole (least_weight load)))
 
 -- the gap between the loads is no greater than the weight
 abbrev pub gap_is_small : CondTree
-gap_is_small = test cmp.Le (variable VICTIM_LOAD) (plus (variable SELF_LOAD) (variable WEIGHT))
+gap_is_small = test cmp.Le (variable OTHER_LOAD) (plus (variable SELF_LOAD) (variable WEIGHT))
 
 -- the pairs of an item and a later one, in the order of the first and then of the second
 abbrev pub pairs_of : {X : Type 0} → List X → List (X × X)

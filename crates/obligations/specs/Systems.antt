@@ -1,7 +1,7 @@
 -- The systems of an obligation: a solution of one of them is a point at which the obligation fails.
 use Rattle.std.specs.Prelude.{ℕ, zero, suc, pos, ◌*◌, ◌==◌, nat_lt, Bool, true, false, cond, ◌||◌, List, [], ◌∷◌, ◌++◌, map, length, slice_index_or}
 use Rattle.std.specs.List.{list_any}
-use Rattle.sched_base.specs.declared.limits.TheConstants.{MAX_THREADS, VARIABLES}
+use Rattle.sched_base.specs.declared.limits.TheConstants.{MAX_THREADS, MAX_VARIABLES}
 use Rattle.policy_tree.specs.Meaning.{Meaning}
 use Rattle.policy_eval.specs.Obligations.{Statement, idle_sees_overloaded, victim_is_overloaded, move_narrows_gap, no_overlap, no_gap}
 use Rattle.policy_eval.specs.Ranges.{Range, attribute_ranges, greatest_weight, least_weight, range}
@@ -11,7 +11,7 @@ use Rattle.linear_form.specs.declared.form.Bound.{Bound}
 use Rattle.linear_form.specs.System.{LinearSystem}
 use Rattle.obligations.specs.declared.names.ObName.{ObName}
 use Rattle.obligations.specs.declared.obligation.Obligation.{Obligation}
-use Rattle.obligations.specs.declared.variables.TheConstants.{WEIGHT}
+use Rattle.policy_tree.specs.declared.variables.TheConstants.{WEIGHT}
 use Rattle.obligations.specs.Cases.{cases_of}
 use Rattle.obligations.specs.Names.{ob_names, statement_of}
 use Rattle.obligations.specs.Refutations.{refutation}
@@ -70,7 +70,7 @@ placed keeps row = record {
 
 -- the variables of a statement, in the order of their numbers
 abbrev pub variables_of : Meaning → Statement → List ℕ
-variables_of p s = kept_below (has_variable p s) VARIABLES
+variables_of p s = kept_below (has_variable p s) MAX_VARIABLES
 
 -- the system of a case: the range of each variable, and the rows over the variables' places
 abbrev pub system_of_case : Meaning → Statement → List Row → LinearSystem

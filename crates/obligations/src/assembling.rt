@@ -11,13 +11,13 @@ ghost use Rattle.obligations.specs.Systems.{bound_of};
 use crate::placing::placed;
 use crate::premises::{greatest_weight, least_weight};
 use crate::rows::Rows;
-use crate::variables::{
-    FRESH, SELF_ATTRIBUTES, SELF_LOAD, SELF_NR, THREAD_ATTRIBUTES, VICTIM_ATTRIBUTES, VICTIM_LOAD,
-    VICTIM_NR, WEIGHT,
+use linear_form::{AtomFault, Bound, Row, System};
+use policy_tree::variables::{
+    FRESH, OTHER_ATTRIBUTES, OTHER_LOAD, OTHER_NR, SELF_ATTRIBUTES, SELF_LOAD, SELF_NR,
+    THREAD_ATTRIBUTES, WEIGHT,
 };
-use linear_form::{AtomFault, Bound, MAX_ROWS, MAX_VARIABLES, Row, System};
 use policy_tree::{AttrList, Policy};
-use sched_base::{MAX_THREADS, VARIABLES};
+use sched_base::{MAX_ROWS, MAX_THREADS, MAX_VARIABLES};
 use std::alloc::{AllocError, Global};
 
 /// The system with these ranges and rows.
@@ -25,7 +25,7 @@ pub fn system_of(
     alloc: Global,
     bounds: &[Bound],
     rows: &Rows,
-    places: &[u32; VARIABLES],
+    places: &[u32; MAX_VARIABLES],
 ) -> Result<System, AllocError>
     requires few { length bounds.now ≤ MAX_VARIABLES }
     requires bounds { All IsBound bounds.now }
@@ -59,7 +59,7 @@ fn with_row(mut system: System, row: Row) -> Result<System, AllocError>
 /// The ranges of variables.
 pub fn bounds_of(alloc: Global, policy: &Policy, vars: &[u32]) -> Result<Vec<Bound>, AllocError>
     requires policy { IsResolved (meaning_of policy.now) }
-    requires known { AllByRecursion (λ v. v < VARIABLES) vars.now }
+    requires known { AllByRecursion (λ v. v < MAX_VARIABLES) vars.now }
     ensures { IfOk result (λ bounds. bounds.items ≡ map (bound_of (meaning_of policy.now)) vars.now) }
 {
     let mut bounds = Vec::new(alloc);
@@ -72,13 +72,13 @@ pub fn bounds_of(alloc: Global, policy: &Policy, vars: &[u32]) -> Result<Vec<Bou
 /// The range of a variable.
 fn bound_of(policy: &Policy, variable: u32) -> Bound
     requires policy { IsResolved (meaning_of policy.now) }
-    requires known { variable < VARIABLES }
+    requires known { variable < MAX_VARIABLES }
     ensures { result ≡ bound_of (meaning_of policy.now) variable }
 {
     let greatest = greatest_weight(policy.load);
     match variable {
-        SELF_NR | VICTIM_NR => up_to(i64::from(MAX_THREADS)),
-        SELF_LOAD | VICTIM_LOAD => up_to(i64::from(MAX_THREADS) * i64::from(greatest)),
+        SELF_NR | OTHER_NR => up_to(i64::from(MAX_THREADS)),
+        SELF_LOAD | OTHER_LOAD => up_to(i64::from(MAX_THREADS) * i64::from(greatest)),
         WEIGHT => Bound {
             lo: i64::from(least_weight(policy.load)),
             hi: i64::from(greatest),
@@ -94,10 +94,10 @@ fn attribute_bound(policy: &Policy, variable: u32) -> Bound
     requires attribute { SELF_ATTRIBUTES ≤ variable }
     ensures { result ≡ bound_of (meaning_of policy.now) variable }
 {
-    if variable < VICTIM_ATTRIBUTES {
+    if variable < OTHER_ATTRIBUTES {
         declared_bound(&policy.core_attrs, variable - SELF_ATTRIBUTES)
     } else if variable < THREAD_ATTRIBUTES {
-        declared_bound(&policy.core_attrs, variable - VICTIM_ATTRIBUTES)
+        declared_bound(&policy.core_attrs, variable - OTHER_ATTRIBUTES)
     } else {
         declared_bound(&policy.thread_attrs, variable - THREAD_ATTRIBUTES)
     }

@@ -7,18 +7,18 @@ ghost use Rattle.policy_eval.specs.Resolved.{IsWeightRange};
 ghost use Rattle.obligations.specs.CodeForms.{FitsRow, IsDifferenceForm, IsForm, form_seen, only_weight};
 ghost use Rattle.obligations.specs.Forms.{LinearForm, at_most, at_weight, form_of, opposite, plain_form};
 
-use crate::variables::WEIGHT;
 use linear_form::{Row, Term};
 use lists::Items;
+use policy_tree::variables::WEIGHT;
 use policy_tree::{Expr, Load};
-use sched_base::{MAX_WEIGHT, VARIABLES};
+use sched_base::{MAX_VARIABLES, MAX_WEIGHT};
 use std::alloc::{AllocError, Global};
 
 /// The constant and the coefficient of each variable by its number.
 #[derive(Clone, Copy)]
 pub struct Form {
     constant: i64,
-    coefficients: [i64; VARIABLES],
+    coefficients: [i64; MAX_VARIABLES],
 }
 
 /// The constant of the expression's linear form.
@@ -116,8 +116,8 @@ fn plain_form(left: &Expr, right: &Expr) -> Form
     ensures form { IsForm result (plain_form (minus (expr_tree left.now) (expr_tree right.now))) }
     ensures small { IsDifferenceForm (form_seen result) }
 {
-    let mut coefficients = [0; VARIABLES];
-    for variable in 0..VARIABLES {
+    let mut coefficients = [0; MAX_VARIABLES];
+    for variable in 0..MAX_VARIABLES {
         let at = variable as u32;
         coefficients[variable] = coefficient(left, at) - coefficient(right, at);
     }
@@ -148,8 +148,8 @@ impl Form {
         ensures form { (d : LinearForm) → IsForm self d → IsForm result (opposite d) }
         ensures fits { FitsRow (form_seen result) }
     {
-        let mut coefficients = [0; VARIABLES];
-        for variable in 0..VARIABLES {
+        let mut coefficients = [0; MAX_VARIABLES];
+        for variable in 0..MAX_VARIABLES {
             coefficients[variable] = -self.coefficients[variable];
         }
         Form {
@@ -165,7 +165,7 @@ impl Form {
         ensures { (d : LinearForm) → IsForm self.now d → IfOk result (λ row. row ≡ at_most d most) }
     {
         let mut terms = Vec::new(alloc);
-        for variable in 0..VARIABLES {
+        for variable in 0..MAX_VARIABLES {
             let coef = self.coefficients[variable];
             if coef != 0 {
                 terms.push(Term {

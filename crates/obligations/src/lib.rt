@@ -18,7 +18,6 @@ mod premises;
 mod refuting;
 mod rows;
 mod statements;
-mod variables;
 
 pub use counts::MAX_COUNT;
 pub use making::{ObligeFault, oblige};

@@ -22,11 +22,11 @@ use crate::placing::{Places, places_of};
 use crate::refuting::refuting_cases;
 use crate::rows::Rows;
 use crate::statements::{Statement, statement_of};
-use crate::variables::WEIGHT;
-use linear_form::{Bound, MAX_VARIABLES, System};
+use linear_form::{Bound, System};
 use lists::Items;
 use policy_tree::Policy;
-use sched_base::{MAX_SYSTEM_CASES, VARIABLES};
+use policy_tree::variables::WEIGHT;
+use sched_base::{MAX_SYSTEM_CASES, MAX_VARIABLES};
 use std::alloc::{AllocError, Global};
 
 /// Why the obligations of a policy weren't made into systems.
@@ -93,12 +93,12 @@ fn obligation_of(alloc: Global, policy: &Policy, name: ObName) -> Result<Obligat
 fn places_in(alloc: Global, statement: Statement, cases: &[Rows]) -> Result<Places, AllocError>
     requires small { AllByRecursion (AllByRecursion HasSmallTerms) cases.now }
     ensures vars { IfOk result (λ p.
-        p.vars.items ≡ kept_below (stays (statement_seen statement) cases.now) VARIABLES) }
-    ensures few { IfOk result (λ p. vec_len p.vars ≤ VARIABLES) }
-    ensures places { IfOk result (λ p. (v : ℕ) → v < VARIABLES →
+        p.vars.items ≡ kept_below (stays (statement_seen statement) cases.now) MAX_VARIABLES) }
+    ensures few { IfOk result (λ p. vec_len p.vars ≤ MAX_VARIABLES) }
+    ensures places { IfOk result (λ p. (v : ℕ) → v < MAX_VARIABLES →
         slice_index_or p.places v 0 ≡ place_of (stays (statement_seen statement) cases.now) v) }
 {
-    let mut marks = [false; VARIABLES];
+    let mut marks = [false; MAX_VARIABLES];
     mark_always(&mut marks, statement);
     mark_cases(&mut marks, cases);
     places_of(alloc, &marks)
@@ -113,7 +113,7 @@ fn systems_in(
 ) -> Result<Vec<System>, AllocError>
     requires policy { IsResolved (meaning_of policy.now) }
     requires few { length kept.now.vars.items ≤ MAX_VARIABLES }
-    requires known { AllByRecursion (λ v. v < VARIABLES) kept.now.vars.items }
+    requires known { AllByRecursion (λ v. v < MAX_VARIABLES) kept.now.vars.items }
     requires cases { AreCases (length kept.now.vars.items) kept.now.places cases.now }
     ensures systems { IfOk result (λ systems. systems.items ≡
         placed_systems (map (bound_of (meaning_of policy.now)) kept.now.vars.items) kept.now.places cases.now) }
@@ -124,7 +124,7 @@ fn systems_in(
 }
 
 /// Marks the variables that a statement has also where no row has them.
-fn mark_always(marks: &mut [bool; VARIABLES], statement: Statement)
+fn mark_always(marks: &mut [bool; MAX_VARIABLES], statement: Statement)
     requires { IsUnmarked marks.old }
     ensures { AlwaysMarked marks.new (statement_seen statement) }
 {
@@ -135,7 +135,7 @@ fn mark_always(marks: &mut [bool; VARIABLES], statement: Statement)
 
 /// How many of the first variables a statement always has: a statement on a pair of cores those of the pair.
 fn always_count(statement: Statement) -> usize
-    ensures few { result ≤ VARIABLES }
+    ensures few { result ≤ MAX_VARIABLES }
     ensures value { (v : ℕ) → always_has (statement_seen statement) v ≡ nat_lt v result }
 {
     match statement {
@@ -150,7 +150,7 @@ fn systems_of(
     alloc: Global,
     bounds: &[Bound],
     cases: &[Rows],
-    places: &[u32; VARIABLES],
+    places: &[u32; MAX_VARIABLES],
 ) -> Result<Vec<System>, AllocError>
     requires few { length bounds.now ≤ MAX_VARIABLES }
     requires bounds { All IsBound bounds.now }

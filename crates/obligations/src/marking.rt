@@ -7,11 +7,11 @@ ghost use Rattle.obligations.specs.Systems.{kept_below, occurs, place_of};
 
 use crate::rows::Rows;
 use linear_form::Row;
-use sched_base::VARIABLES;
+use sched_base::MAX_VARIABLES;
 use std::alloc::{AllocError, Global};
 
 /// Marks the variables of the terms of all rows of the cases.
-pub fn mark_cases(marks: &mut [bool; VARIABLES], cases: &[Rows])
+pub fn mark_cases(marks: &mut [bool; MAX_VARIABLES], cases: &[Rows])
     requires { AllByRecursion (AllByRecursion HasSmallTerms) cases.now }
     ensures { IsMarked marks.old marks.new (λ v. occurs v cases.now) }
 {
@@ -21,7 +21,7 @@ pub fn mark_cases(marks: &mut [bool; VARIABLES], cases: &[Rows])
 }
 
 /// Marks the variables of the terms of the rows.
-fn mark_rows(marks: &mut [bool; VARIABLES], rows: &[Row])
+fn mark_rows(marks: &mut [bool; MAX_VARIABLES], rows: &[Row])
     requires { AllByRecursion HasSmallTerms rows.now }
     ensures { IsMarked marks.old marks.new (λ v. occurs_in_case v rows.now) }
 {
@@ -31,7 +31,7 @@ fn mark_rows(marks: &mut [bool; VARIABLES], rows: &[Row])
 }
 
 /// Marks the variables of the terms of the row.
-fn mark_row(marks: &mut [bool; VARIABLES], row: &Row)
+fn mark_row(marks: &mut [bool; MAX_VARIABLES], row: &Row)
     requires { HasSmallTerms row.now }
     ensures { IsMarked marks.old marks.new (λ v. occurs_in_row v row.now) }
 {

@@ -6,7 +6,7 @@ ghost use Rattle.obligations.specs.Systems.{kept_below, place_of};
 
 use linear_form::{Row, Term};
 use lists::Items;
-use sched_base::VARIABLES;
+use sched_base::MAX_VARIABLES;
 use std::alloc::{AllocError, Global};
 
 /// The variables that are kept, and the place of each among them.
@@ -15,19 +15,19 @@ pub struct Places {
     /// The kept variables, rising.
     pub vars: Vec<u32>,
     /// How many kept variables come before each variable.
-    pub places: [u32; VARIABLES],
+    pub places: [u32; MAX_VARIABLES],
 }
 
 /// The places of the marked variables.
-pub fn places_of(alloc: Global, marks: &[bool; VARIABLES]) -> Result<Places, AllocError>
-    ensures vars { IfOk result (λ p. p.vars.items ≡ kept_below (kept_of marks.now) VARIABLES) }
-    ensures few { IfOk result (λ p. vec_len p.vars ≤ VARIABLES) }
-    ensures places { IfOk result (λ p. (v : ℕ) → v < VARIABLES →
+pub fn places_of(alloc: Global, marks: &[bool; MAX_VARIABLES]) -> Result<Places, AllocError>
+    ensures vars { IfOk result (λ p. p.vars.items ≡ kept_below (kept_of marks.now) MAX_VARIABLES) }
+    ensures few { IfOk result (λ p. vec_len p.vars ≤ MAX_VARIABLES) }
+    ensures places { IfOk result (λ p. (v : ℕ) → v < MAX_VARIABLES →
         slice_index_or p.places v 0 ≡ place_of (kept_of marks.now) v) }
 {
     let mut vars = Vec::new(alloc);
-    let mut places = [0; VARIABLES];
-    for variable in 0..VARIABLES {
+    let mut places = [0; MAX_VARIABLES];
+    for variable in 0..MAX_VARIABLES {
         places[variable] = vars.len() as u32;
         if marks[variable] {
             vars.push(variable as u32)?;
@@ -37,7 +37,7 @@ pub fn places_of(alloc: Global, marks: &[bool; VARIABLES]) -> Result<Places, All
 }
 
 /// The row over the places of its variables.
-pub fn placed(alloc: Global, row: &Row, places: &[u32; VARIABLES]) -> Result<Row, AllocError>
+pub fn placed(alloc: Global, row: &Row, places: &[u32; MAX_VARIABLES]) -> Result<Row, AllocError>
     requires { HasSmallTerms row.now }
     ensures { IfOk result (λ there. there ≡ placed_by places.now row.now) }
 {

@@ -5,7 +5,7 @@ ghost use Rattle.policy_tree.specs.Trees.{both, cond_tree, expr_tree, plus, test
 ghost use Rattle.policy_eval.specs.Ranges.{greatest_weight, least_weight};
 ghost use Rattle.obligations.specs.Refutations.{cores_fit, gap_is_small, has_thread, idle_and_overloaded, load_fits, victim_has_one, whole};
 
-use crate::variables::{SELF_LOAD, SELF_NR, VICTIM_LOAD, VICTIM_NR, WEIGHT};
+use policy_tree::variables::{OTHER_LOAD, OTHER_NR, SELF_LOAD, SELF_NR, WEIGHT};
 use policy_tree::{Cmp, Cond, Expr, Load};
 use std::alloc::{AllocError, Global};
 
@@ -14,7 +14,7 @@ pub fn idle_beside_overloaded(alloc: Global, load: Load) -> Result<Cond, AllocEr
     ensures { IfOk result (λ c. cond_tree c ≡ both (cores_fit load) idle_and_overloaded) }
 {
     let idle = Cond::Test(Cmp::Le, Expr::Var(SELF_NR), Expr::Num(0));
-    let overloaded = Cond::Test(Cmp::Ge, Expr::Var(VICTIM_NR), Expr::Num(2));
+    let overloaded = Cond::Test(Cmp::Ge, Expr::Var(OTHER_NR), Expr::Num(2));
     let rest = both(alloc, idle, overloaded)?;
     both(alloc, cores_fit(alloc, load)?, rest)
 }
@@ -23,7 +23,7 @@ pub fn idle_beside_overloaded(alloc: Global, load: Load) -> Result<Cond, AllocEr
 pub fn victim_of_one(alloc: Global, load: Load) -> Result<Cond, AllocError>
     ensures { IfOk result (λ c. cond_tree c ≡ both (cores_fit load) victim_has_one) }
 {
-    let few = Cond::Test(Cmp::Le, Expr::Var(VICTIM_NR), Expr::Num(1));
+    let few = Cond::Test(Cmp::Le, Expr::Var(OTHER_NR), Expr::Num(1));
     both(alloc, cores_fit(alloc, load)?, few)
 }
 
@@ -39,10 +39,10 @@ pub fn thread_and_small_gap(alloc: Global, load: Load) -> Result<Cond, AllocErro
 fn has_thread(alloc: Global, load: Load) -> Result<Cond, AllocError>
     ensures { IfOk result (λ c. cond_tree c ≡ has_thread load) }
 {
-    let others = scaled(alloc, least_weight(load), VICTIM_NR)?;
+    let others = scaled(alloc, least_weight(load), OTHER_NR)?;
     let queued = sum(alloc, others, Expr::Var(WEIGHT))?;
     let least = Expr::Num(i64::from(least_weight(load)));
-    let room = sum(alloc, Expr::Var(VICTIM_LOAD), least)?;
+    let room = sum(alloc, Expr::Var(OTHER_LOAD), least)?;
     Ok(Cond::Test(Cmp::Le, queued, room))
 }
 
@@ -50,14 +50,14 @@ fn gap_is_small(alloc: Global) -> Result<Cond, AllocError>
     ensures { IfOk result (λ c. cond_tree c ≡ gap_is_small) }
 {
     let after = sum(alloc, Expr::Var(SELF_LOAD), Expr::Var(WEIGHT))?;
-    Ok(Cond::Test(Cmp::Le, Expr::Var(VICTIM_LOAD), after))
+    Ok(Cond::Test(Cmp::Le, Expr::Var(OTHER_LOAD), after))
 }
 
 fn cores_fit(alloc: Global, load: Load) -> Result<Cond, AllocError>
     ensures { IfOk result (λ c. cond_tree c ≡ cores_fit load) }
 {
     let own = load_fits(alloc, load, SELF_NR, SELF_LOAD)?;
-    both(alloc, own, load_fits(alloc, load, VICTIM_NR, VICTIM_LOAD)?)
+    both(alloc, own, load_fits(alloc, load, OTHER_NR, OTHER_LOAD)?)
 }
 
 fn load_fits(alloc: Global, load: Load, nr: u32, sum: u32) -> Result<Cond, AllocError>

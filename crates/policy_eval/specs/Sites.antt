@@ -5,6 +5,7 @@ use Rattle.policy_tree.specs.declared.typed.Event.{Event}
 use Rattle.policy_tree.specs.declared.typed.Event.TheVariants as event
 use Rattle.policy_tree.specs.declared.typed.Put.{Put}
 use Rattle.policy_tree.specs.declared.typed.Put.TheVariants as put
+use Rattle.policy_tree.specs.declared.variables.TheConstants.{FRESH, OTHER_ATTRIBUTES, OTHER_LOAD, OTHER_NR, SELF_ATTRIBUTES, THREAD_ATTRIBUTES, WEIGHT}
 use Rattle.policy_tree.specs.Meaning.{Meaning}
 
 -- where an expression or a condition of a policy may stand
@@ -20,21 +21,21 @@ pub data Site : Type 0 where
 abbrev pub is_attribute : ℕ → List Attr → ℕ → Bool
 is_attribute first attrs at = nat_le first at && nat_lt at (first + length attrs)
 
--- whether the variable may stand there
+-- whether the variable may stand there. Those before the weight are the counts and loads of the two cores
 abbrev pub allows : Meaning → Site → ℕ → Bool
-allows p filtering at = nat_lt at 4 || is_attribute 6 p.core_attrs at || is_attribute 14 p.core_attrs at
-allows p choosing at = nat_lt at 4 || is_attribute 6 p.core_attrs at || is_attribute 14 p.core_attrs at
-allows p placing at = at == 2 || at == 3 || is_attribute 14 p.core_attrs at
-allows p electing at = at == 4 || is_attribute 22 p.thread_attrs at
-allows p stealing at = at == 4 || is_attribute 22 p.thread_attrs at
-allows p (handling event.Enqueue) at = at == 4 || at == 5 || is_attribute 6 p.core_attrs at
-    || is_attribute 22 p.thread_attrs at
-allows p (handling event.Tick) at = at == 4 || is_attribute 6 p.core_attrs at
-    || is_attribute 22 p.thread_attrs at
-allows p (handling event.Yield) at = at == 4 || is_attribute 6 p.core_attrs at
-    || is_attribute 22 p.thread_attrs at
-allows p (handling event.Block) at = at == 4 || is_attribute 6 p.core_attrs at
-    || is_attribute 22 p.thread_attrs at
+allows p filtering at = nat_lt at WEIGHT || is_attribute SELF_ATTRIBUTES p.core_attrs at || is_attribute OTHER_ATTRIBUTES p.core_attrs at
+allows p choosing at = nat_lt at WEIGHT || is_attribute SELF_ATTRIBUTES p.core_attrs at || is_attribute OTHER_ATTRIBUTES p.core_attrs at
+allows p placing at = at == OTHER_NR || at == OTHER_LOAD || is_attribute OTHER_ATTRIBUTES p.core_attrs at
+allows p electing at = at == WEIGHT || is_attribute THREAD_ATTRIBUTES p.thread_attrs at
+allows p stealing at = at == WEIGHT || is_attribute THREAD_ATTRIBUTES p.thread_attrs at
+allows p (handling event.Enqueue) at = at == WEIGHT || at == FRESH || is_attribute SELF_ATTRIBUTES p.core_attrs at
+    || is_attribute THREAD_ATTRIBUTES p.thread_attrs at
+allows p (handling event.Tick) at = at == WEIGHT || is_attribute SELF_ATTRIBUTES p.core_attrs at
+    || is_attribute THREAD_ATTRIBUTES p.thread_attrs at
+allows p (handling event.Yield) at = at == WEIGHT || is_attribute SELF_ATTRIBUTES p.core_attrs at
+    || is_attribute THREAD_ATTRIBUTES p.thread_attrs at
+allows p (handling event.Block) at = at == WEIGHT || is_attribute SELF_ATTRIBUTES p.core_attrs at
+    || is_attribute THREAD_ATTRIBUTES p.thread_attrs at
 
 -- where a case of that event may put the thread
 abbrev pub AllowsPut : Event → Put → Type 0

@@ -3,12 +3,13 @@
 ghost use Rattle.std.specs.Prelude.{◌≡◌, ◌+◌, ◌≤◌, ◌++◌, pos, map, take, drop};
 ghost use Rattle.policy_eval.specs.Sights.{core_values, event_values, pair_values, thread_values};
 
-use sched_base::{MAX_ATTRIBUTES, MAX_LOAD, Task, VARIABLES};
+use policy_tree::variables;
+use sched_base::{MAX_ATTRIBUTES, MAX_LOAD, MAX_VARIABLES, Task};
 
 /// A value for each variable, by the variable's number.
 #[derive(Clone, Copy)]
 pub struct Env {
-    pub vals: [i64; VARIABLES],
+    pub vals: [i64; MAX_VARIABLES],
 }
 
 /// What a policy may ask of a core.
@@ -59,31 +60,34 @@ impl Env {
     }
 }
 
+// The variables before the attributes.
+const NUMBERS: usize = variables::SELF_ATTRIBUTES as usize;
+
 const NO_ATTRIBUTES: [i32; MAX_ATTRIBUTES] = [0; MAX_ATTRIBUTES];
 
 /// All variables in the order of their numbers: those before the attributes, then the attributes of
 /// the core itself, of the other core and of the thread.
 fn assigned(
-    numbers: &[u32; 6],
+    numbers: &[u32; NUMBERS],
     own: &[i32; MAX_ATTRIBUTES],
     victims: &[i32; MAX_ATTRIBUTES],
     attrs: &[i32; MAX_ATTRIBUTES],
 ) -> Env
     ensures { result.vals ≡ map pos numbers.now ++ (own.now ++ victims.now ++ attrs.now) }
 {
-    let mut vals = [0; VARIABLES];
-    fill(&mut vals, 22, attrs);
-    fill(&mut vals, 14, victims);
-    fill(&mut vals, 6, own);
-    for at in 0..6 {
+    let mut vals = [0; MAX_VARIABLES];
+    fill(&mut vals, variables::THREAD_ATTRIBUTES as usize, attrs);
+    fill(&mut vals, variables::OTHER_ATTRIBUTES as usize, victims);
+    fill(&mut vals, NUMBERS, own);
+    for at in 0..NUMBERS {
         vals[at] = i64::from(numbers[at]);
     }
     Env { vals }
 }
 
 /// Writes the values of the attributes, the first of them to that place.
-fn fill(vals: &mut [i64; VARIABLES], first: usize, attrs: &[i32; MAX_ATTRIBUTES])
-    requires { first + MAX_ATTRIBUTES ≤ VARIABLES }
+fn fill(vals: &mut [i64; MAX_VARIABLES], first: usize, attrs: &[i32; MAX_ATTRIBUTES])
+    requires { first + MAX_ATTRIBUTES ≤ MAX_VARIABLES }
     ensures { vals.new ≡ take first vals.old ++ (attrs.now ++ drop (first + MAX_ATTRIBUTES) vals.old) }
 {
     for at in 0..MAX_ATTRIBUTES {

@@ -45,7 +45,7 @@ module _ (limits : Limits) (text : List ℕ) where
     stops = subst (λ x. Stops (length x) count stack ts) (sym (append-nil ps)) stops;
   }
 
-  course : (ts ps : List Lexeme) (count : ℕ) (stack : List Symbol) → Reach text ps stack → Course ps ts count stack
+  pub course : (ts ps : List Lexeme) (count : ℕ) (stack : List Symbol) → Reach text ps stack → Course ps ts count stack
   course [] ps count stack reach = stays ps [] count stack reach at_end
   course (t ∷ ts) ps count stack reach = by (moves limits count (length ps) stack (kind_of t)) refl (course ts (ps ++ t ∷ []))
     where

@@ -6,6 +6,7 @@ pub mod Viable
 pub mod Reached
 pub mod Places
 pub mod Exact
+pub mod Total
 pub mod Tags
 pub mod Same
 pub mod OneExpressions

@@ -165,7 +165,7 @@ reach-step limits text ps t count next stack to o reach e = λ ts rest last same
     reach ts (t ∷ rest) last split (pull (subst (λ n. Are text ts to n last) one means))
 
 -- the symbols of a whole policy are a policy
-policy-from : (text : List ℕ) (ts : List Lexeme) → Are text ts start 0 (length ts) → (s : SyntaxTree) × IsPolicy text ts s
+pub policy-from : (text : List ℕ) (ts : List Lexeme) → Are text ts start 0 (length ts) → (s : SyntaxTree) × IsPolicy text ts s
 policy-from text ts
     (are_more m0 (token k0) (are_more m1 (token k1) (are_more m2 (token kl) (are_more m3 load (are_more m4 us (are_more m5 p (are_more m6 e (are_more m7 hs
     (are_more m8 (token kf) (are_more m9 f (are_more m10 (token kc) (are_more m11 c (are_more m12 (token ks) (are_more m13 s are_none)))))))))))))) =

@@ -1,3 +1,4 @@
+pub mod Answered
 pub mod Terminals
 pub mod Words
 pub mod Expressions

@@ -7,6 +7,6 @@ mod limits;
 mod terminal;
 
 pub use fault::ParseFault;
-pub use laws::law_one_tree;
+pub use laws::{law_each_has_answer, law_one_tree};
 pub use limits::{Limits, POLICY_LIMITS};
 pub use terminal::{Lexeme, Terminal};

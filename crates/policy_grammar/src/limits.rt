@@ -1,5 +1,9 @@
 //! The limits of a language.
 
+use sched_base::{
+    MAX_ATTRIBUTES, MAX_CASES, MAX_COMPARISONS, MAX_KEYS, MAX_NESTING, MAX_OPERATORS, MAX_SETS,
+};
+
 /// How much of each thing a text may have.
 #[derive(Clone, Copy)]
 pub struct Limits {
@@ -21,11 +25,11 @@ pub struct Limits {
 
 /// The limits of policies.
 pub const POLICY_LIMITS: Limits = Limits {
-    attrs: 8,
-    cases: 8,
-    sets: 8,
-    keys: 4,
-    comparisons: 16,
-    operators: 32,
-    nesting: 32,
+    attrs: MAX_ATTRIBUTES as u32,
+    cases: MAX_CASES as u32,
+    sets: MAX_SETS as u32,
+    keys: MAX_KEYS as u32,
+    comparisons: MAX_COMPARISONS as u32,
+    operators: MAX_OPERATORS as u32,
+    nesting: MAX_NESTING as u32,
 };

@@ -3,7 +3,7 @@ use Rattle.std.specs.Prelude.{ℕ, ◌+◌, ◌*◌, ◌==◌, Bool, ◌||◌, �
 use Rattle.std.specs.Char.{is_ascii_alphanumeric, digit_value}
 use Rattle.std.specs.Int.{is_in_range}
 use Rattle.policy_lexer.specs.declared.token.Symbol.{Symbol}
-use Rattle.policy_lexer.specs.declared.token.Symbol.TheVariants.{Dot, Range, Comma, Colon, Open, Close, Begin, End, Plus, Minus, Star, Gets, Equal, Unequal, Less, AtMost, More, AtLeast}
+use Rattle.policy_lexer.specs.declared.token.Symbol.TheVariants.{Dot, Range, Comma, Colon, Open, Close, Begin, Finish, Plus, Minus, Star, Gets, Equal, Unequal, Less, AtMost, More, AtLeast}
 
 -- a letter, a digit or `_`
 abbrev pub is_word_byte : ℕ → Bool
@@ -34,7 +34,7 @@ single_symbol byte =
     if byte == 40 then Some Open else
     if byte == 41 then Some Close else
     if byte == 123 then Some Begin else
-    if byte == 125 then Some End else
+    if byte == 125 then Some Finish else
     if byte == 43 then Some Plus else
     if byte == 45 then Some Minus else
     if byte == 42 then Some Star else

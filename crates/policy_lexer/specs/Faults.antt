@@ -1,6 +1,6 @@
 -- Where a text has no tokens, and what is answered.
-use Rattle.std.specs.Prelude.{ℕ, ◌^◌, ◌≡◌, ◌<◌, ◌≤◌, List, length, take, drop, slice_index, Result, Ok, Err}
-use Rattle.policy_lexer.specs.declared.token.TheConstants.{NAME_LIMIT}
+use Rattle.std.specs.Prelude.{ℕ, ◌^◌, ◌≡◌, ◌≢◌, ◌<◌, ◌≤◌, List, length, take, drop, slice_index, Result, Ok, Err}
+use Rattle.sched_base.specs.declared.limits.TheConstants.{MAX_NAME_BYTES}
 use Rattle.policy_lexer.specs.declared.token.Token.{Token}
 use Rattle.policy_lexer.specs.declared.token.TokenKind.TheVariants.{Word, Number}
 use Rattle.policy_lexer.specs.declared.fault.LexFault.{LexFault}
@@ -19,7 +19,7 @@ pub record Reaches (text : List ℕ) (at : ℕ) : Type 0 where
 abbrev pub IsBroken : List ℕ → LexFault → Type 0
 IsBroken text (NotAscii at) = Reaches text at × (128 ≤ slice_index text at)
 IsBroken text (BadByte at) = Reaches text at × (slice_index text at < 128) × HasNoPiece (drop at text)
-IsBroken text (LongName at) = Reaches text at × ((size : ℕ) × IsFirstPiece (drop at text) size (token Word) × (NAME_LIMIT < size))
+IsBroken text (LongName at) = Reaches text at × ((size : ℕ) × IsFirstPiece (drop at text) size (token Word) × (MAX_NAME_BYTES < size))
 IsBroken text (WideNumber at) = Reaches text at × ((size : ℕ) × (value : ℕ) × IsFirstPiece (drop at text) size (token (Number value)) × (2 ^ 64 ≤ value))
 IsBroken text Memory = ⊥
 
@@ -33,6 +33,10 @@ IsFault text (BadByte at) = IsBroken text (BadByte at) × HasTokens (take at tex
 IsFault text (LongName at) = IsBroken text (LongName at) × HasTokens (take at text)
 IsFault text (WideNumber at) = IsBroken text (WideNumber at) × HasTokens (take at text)
 IsFault text Memory = Unit {0}
+
+-- the text has this fault, which is one of texts
+abbrev pub IsRealFault : List ℕ → LexFault → Type 0
+IsRealFault text fault = IsFault text fault × (fault ≢ Memory)
 
 -- the result is this answer, or the want of memory
 abbrev pub IsUnlessMemory : Result (List Token) LexFault → Result (List Token) LexFault → Type 0

@@ -1,7 +1,7 @@
 -- What one step of reading finds at a place.
 use Rattle.std.specs.Prelude.{ℕ, ◌^◌, ◌≡◌, ◌<◌, ◌≤◌, List, length, Some, None, slice_index, ◌==◌, false}
 use Rattle.std.specs.Char.{is_ascii_alphabetic, is_ascii_digit}
-use Rattle.policy_lexer.specs.declared.token.TheConstants.{NAME_LIMIT}
+use Rattle.sched_base.specs.declared.limits.TheConstants.{MAX_NAME_BYTES}
 use Rattle.policy_lexer.specs.declared.token.Symbol.{Symbol}
 use Rattle.policy_lexer.specs.declared.token.TokenKind.TheVariants.{Word, Number}
 use Rattle.policy_lexer.specs.declared.fault.LexFault.{LexFault}
@@ -17,11 +17,16 @@ abbrev pub IsStep : List ℕ → Step → Type 0
 IsStep text (Gap size) = IsFirstPiece text size gap
 IsStep text (Token kind size) = IsFirstPiece text size (token kind) × KeepsLimits kind size
 
+-- how many bytes the step goes on
+abbrev pub size_of_step : Step → ℕ
+size_of_step (Gap size) = size
+size_of_step (Token kind size) = size
+
 -- the text, which begins at this offset of a longer one, begins with this fault
 abbrev pub IsFirstFault : List ℕ → ℕ → LexFault → Type 0
 IsFirstFault text at (NotAscii place) = (place ≡ at) × (128 ≤ slice_index text 0)
 IsFirstFault text at (BadByte place) = (place ≡ at) × (slice_index text 0 < 128) × HasNoPiece text
-IsFirstFault text at (LongName place) = (place ≡ at) × ((size : ℕ) × IsFirstPiece text size (token Word) × (NAME_LIMIT < size))
+IsFirstFault text at (LongName place) = (place ≡ at) × ((size : ℕ) × IsFirstPiece text size (token Word) × (MAX_NAME_BYTES < size))
 IsFirstFault text at (WideNumber place) = (place ≡ at) × ((size : ℕ) × (value : ℕ) × IsFirstPiece text size (token (Number value)) × (2 ^ 64 ≤ value))
 IsFirstFault text at Memory = ⊥
 

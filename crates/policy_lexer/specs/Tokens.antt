@@ -1,6 +1,6 @@
 -- The tokens of a text.
 use Rattle.std.specs.Prelude.{ℕ, ◌+◌, ◌^◌, ◌≡◌, ◌<◌, ◌≤◌, List, [], ◌∷◌, length, drop}
-use Rattle.policy_lexer.specs.declared.token.TheConstants.{NAME_LIMIT}
+use Rattle.sched_base.specs.declared.limits.TheConstants.{MAX_NAME_BYTES}
 use Rattle.policy_lexer.specs.declared.token.Token.{Token}
 use Rattle.policy_lexer.specs.declared.token.TokenKind.{TokenKind}
 use Rattle.policy_lexer.specs.declared.token.TokenKind.TheVariants.{Word, Number, Symbol}
@@ -8,7 +8,7 @@ use Rattle.policy_lexer.specs.Pieces.{gap, token, IsFirstPiece}
 
 -- a token of so many bytes keeps the limits on words and numbers
 abbrev pub KeepsLimits : TokenKind → ℕ → Type 0
-KeepsLimits Word size = size ≤ NAME_LIMIT
+KeepsLimits Word size = size ≤ MAX_NAME_BYTES
 KeepsLimits (Number value) size = value < 2 ^ 64
 KeepsLimits (Symbol symbol) size = Unit {0}
 

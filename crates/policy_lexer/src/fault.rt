@@ -11,7 +11,7 @@ pub enum LexFault {
     NotAscii(u32),
     /// This byte is a control byte other than a blank, also in a comment, or begins no token.
     BadByte(u32),
-    /// The word that begins here has more than `NAME_LIMIT` bytes.
+    /// The word that begins here has more than `MAX_NAME_BYTES` bytes.
     LongName(u32),
     /// The number that begins here is `2^64` or more.
     WideNumber(u32),

@@ -5,9 +5,11 @@ mod fault;
 mod laws;
 mod piece;
 mod reading;
+mod scanning;
 mod token;
 
 pub use fault::LexFault;
 pub use laws::law_one_reading;
 pub use reading::lex;
-pub use token::{NAME_LIMIT, Symbol, TEXT_LIMIT, Token, TokenKind, Tokens};
+pub use scanning::fault_of;
+pub use token::{Symbol, Token, TokenKind, Tokens};

@@ -4,11 +4,13 @@ ghost use Rattle.std.specs.Prelude.{◌≡◌, ◌<◌, ◌≤◌, ◌^◌, IfOk
 ghost use Rattle.std.specs.List.{AllPass, prefix_len};
 ghost use Rattle.std.specs.Option.{SomeIff};
 ghost use Rattle.std.specs.Char.{is_ascii_alphabetic, is_ascii_digit};
+ghost use Rattle.sched_base.specs.declared.limits.TheConstants.{MAX_POLICY_BYTES};
 ghost use Rattle.policy_lexer.specs.Bytes.{is_word_byte, is_blank, is_comment_byte, number_of, single_symbol, double_symbol};
 ghost use Rattle.policy_lexer.specs.First.{IsStep, IsFirstFault, IsOther, HasDouble, HasNoDouble};
 
 use crate::fault::LexFault;
-use crate::token::{NAME_LIMIT, Symbol, TEXT_LIMIT, TokenKind};
+use crate::token::{Symbol, TokenKind};
+use sched_base::MAX_NAME_BYTES;
 
 /// A piece of the text, with its size in bytes: blanks or a comment, or a token.
 #[derive(Clone, Copy)]
@@ -20,7 +22,7 @@ pub(crate) enum Step {
 /// The piece with which this text begins, which stands at an offset of a longer one.
 pub(crate) fn first_step(text: &[u8], at: u32) -> Result<Step, LexFault>
     requires some { 0 < length text.now }
-    requires few { length text.now ≤ TEXT_LIMIT }
+    requires few { length text.now ≤ MAX_POLICY_BYTES }
     ensures step { IfOk result (IsStep text.now) }
     ensures fault { IfErr result (IsFirstFault text.now at) }
 {
@@ -40,13 +42,13 @@ pub(crate) fn first_step(text: &[u8], at: u32) -> Result<Step, LexFault>
 
 fn word(text: &[u8], at: u32) -> Result<Step, LexFault>
     requires some { 0 < length text.now }
-    requires few { length text.now ≤ TEXT_LIMIT }
+    requires few { length text.now ≤ MAX_POLICY_BYTES }
     requires letter { is_ascii_alphabetic (slice_index text.now 0) ≡ true }
     ensures step { IfOk result (IsStep text.now) }
     ensures fault { IfErr result (IsFirstFault text.now at) }
 {
     let size = word_size(text);
-    if size > NAME_LIMIT {
+    if size > MAX_NAME_BYTES {
         return Err(LexFault::LongName(at));
     }
     Ok(Step::Token(TokenKind::Word, size))
@@ -54,7 +56,7 @@ fn word(text: &[u8], at: u32) -> Result<Step, LexFault>
 
 fn number(text: &[u8], at: u32) -> Result<Step, LexFault>
     requires some { 0 < length text.now }
-    requires few { length text.now ≤ TEXT_LIMIT }
+    requires few { length text.now ≤ MAX_POLICY_BYTES }
     requires digit { is_ascii_digit (slice_index text.now 0) ≡ true }
     ensures step { IfOk result (IsStep text.now) }
     ensures fault { IfErr result (IsFirstFault text.now at) }
@@ -107,7 +109,7 @@ fn single(byte: u8) -> Option<Symbol>
         b'(' => Some(Symbol::Open),
         b')' => Some(Symbol::Close),
         b'{' => Some(Symbol::Begin),
-        b'}' => Some(Symbol::End),
+        b'}' => Some(Symbol::Finish),
         b'+' => Some(Symbol::Plus),
         b'-' => Some(Symbol::Minus),
         b'*' => Some(Symbol::Star),
@@ -166,7 +168,7 @@ fn is_comment_byte(byte: u8) -> bool
 
 /// How many bytes the text begins with that go on with a word.
 fn word_size(text: &[u8]) -> u32
-    requires { length text.now ≤ TEXT_LIMIT }
+    requires { length text.now ≤ MAX_POLICY_BYTES }
     ensures { result ≡ prefix_len is_word_byte text.now }
 {
     text.iter().take_while(|byte| is_word_byte(**byte)).count() as u32
@@ -174,7 +176,7 @@ fn word_size(text: &[u8]) -> u32
 
 /// How many digits the text begins with.
 fn digits_size(text: &[u8]) -> u32
-    requires { length text.now ≤ TEXT_LIMIT }
+    requires { length text.now ≤ MAX_POLICY_BYTES }
     ensures { result ≡ prefix_len is_ascii_digit text.now }
 {
     text.iter().take_while(|byte| byte.is_ascii_digit()).count() as u32
@@ -182,7 +184,7 @@ fn digits_size(text: &[u8]) -> u32
 
 /// How many blanks the text begins with.
 fn blanks_size(text: &[u8]) -> u32
-    requires { length text.now ≤ TEXT_LIMIT }
+    requires { length text.now ≤ MAX_POLICY_BYTES }
     ensures { result ≡ prefix_len is_blank text.now }
 {
     text.iter().take_while(|byte| is_blank(**byte)).count() as u32
@@ -190,7 +192,7 @@ fn blanks_size(text: &[u8]) -> u32
 
 /// How many bytes the text begins with that go on with a comment.
 fn comment_size(text: &[u8]) -> u32
-    requires { length text.now ≤ TEXT_LIMIT }
+    requires { length text.now ≤ MAX_POLICY_BYTES }
     ensures { result ≡ prefix_len is_comment_byte text.now }
 {
     text.iter()

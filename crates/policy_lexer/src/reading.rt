@@ -1,6 +1,7 @@
 //! Reads a text from its start, piece after piece.
 
 ghost use Rattle.std.specs.Prelude.{◌≡◌, ◌≤◌, List, Ok, Err, IfOk, IfErr, length};
+ghost use Rattle.sched_base.specs.declared.limits.TheConstants.{MAX_POLICY_BYTES};
 ghost use Rattle.policy_lexer.specs.declared.token.Token.{Token};
 ghost use Rattle.policy_lexer.specs.declared.fault.LexFault.{LexFault};
 ghost use Rattle.policy_lexer.specs.Tokens.{SpellsTokens};
@@ -8,12 +9,12 @@ ghost use Rattle.policy_lexer.specs.Faults.{IsBroken, IsFault, IsUnlessMemory};
 
 use crate::fault::LexFault;
 use crate::piece::{Step, first_step};
-use crate::token::{TEXT_LIMIT, Token, Tokens};
+use crate::token::{Token, Tokens};
 use std::alloc::Global;
 
 /// The tokens of a text, or its first fault.
 pub fn lex(alloc: Global, text: &[u8]) -> Result<Tokens, LexFault>
-    requires { length text.now ≤ TEXT_LIMIT }
+    requires { length text.now ≤ MAX_POLICY_BYTES }
     ensures tokens { IfOk result (SpellsTokens text.now) }
     ensures fault { IfErr result (IsFault text.now) }
 
@@ -25,7 +26,7 @@ pub fn lex(alloc: Global, text: &[u8]) -> Result<Tokens, LexFault>
 }
 
 fn read(alloc: Global, text: &[u8]) -> Result<Tokens, LexFault>
-    requires { length text.now ≤ TEXT_LIMIT }
+    requires { length text.now ≤ MAX_POLICY_BYTES }
     ensures tokens { IfOk result (SpellsTokens text.now) }
     ensures fault { IfErr result (IsFault text.now) }
 {

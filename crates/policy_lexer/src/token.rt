@@ -2,12 +2,6 @@
 
 use lists::Items;
 
-/// The most bytes that the text of a policy has.
-pub const TEXT_LIMIT: usize = 65_536;
-
-/// The most bytes that a word has.
-pub const NAME_LIMIT: u32 = 32;
-
 /// One of the eighteen symbols of the language.
 #[derive(Clone, Copy)]
 pub enum Symbol {
@@ -26,7 +20,7 @@ pub enum Symbol {
     /// `{`
     Begin,
     /// `}`
-    End,
+    Finish,
     /// `+`
     Plus,
     /// `-`
@@ -52,7 +46,7 @@ pub enum Symbol {
 /// What a token is. A reserved word is a word like any other.
 #[derive(Clone, Copy)]
 pub enum TokenKind {
-    /// A letter, then letters, digits and `_`: at most `NAME_LIMIT` bytes, which stand in the text.
+    /// A letter, then letters, digits and `_`: at most `MAX_NAME_BYTES` bytes, which stand in the text.
     Word,
     /// Decimal digits, with this value. Leading zeros are allowed.
     Number(u64),

@@ -415,7 +415,7 @@ fn count_of_kind(of_cores: bool, cores: u32, threads: u32) -> u32
 fn one_more(is_one: bool, count: u32) -> u32
     requires { count < 2 ^ 32 - 1 }
     ensures yes { IsTrue is_one → result ≡ count + 1 }
-    ensures nay { is_one ≡ false → result ≡ count }
+    ensures no { is_one ≡ false → result ≡ count }
 {
     if is_one { count + 1 } else { count }
 }

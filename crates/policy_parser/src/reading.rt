@@ -3,7 +3,7 @@
 ghost use Rattle.std.specs.Prelude.{◌≡◌, ◌≤◌, length, IfOk, IfErr};
 ghost use Rattle.policy_tree.specs.SyntaxTrees.{SyntaxTree, syntax_tree};
 ghost use Rattle.policy_lexer.specs.Tokens.{SpellsTokens};
-ghost use Rattle.policy_lexer.specs.declared.token.TheConstants.{TEXT_LIMIT};
+ghost use Rattle.sched_base.specs.declared.limits.TheConstants.{MAX_POLICY_BYTES};
 ghost use Rattle.policy_grammar.specs.Correct.{IsParseFault, IsWithin};
 ghost use Rattle.policy_grammar.specs.OneTree.{IsOnlySyntax};
 ghost use Rattle.policy_grammar.specs.declared.limits.TheConstants.{POLICY_LIMITS};
@@ -19,7 +19,7 @@ use std::alloc::Global;
 
 /// The syntax of a text with these tokens, or its first fault.
 pub fn parse(alloc: Global, text: &[u8], tokens: &[Token]) -> Result<Syntax, ParseFault>
-    requires small { length text.now ≤ TEXT_LIMIT }
+    requires small { length text.now ≤ MAX_POLICY_BYTES }
     requires spells { SpellsTokens text.now tokens.now }
     ensures syntax { IfOk result (λ s. IsWithin POLICY_LIMITS text.now (lexemes_of text.now tokens.now) (syntax_tree s)) }
     ensures only { IfOk result

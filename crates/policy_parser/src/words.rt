@@ -117,7 +117,7 @@ fn symbol_terminal(symbol: Symbol) -> Terminal
         Symbol::Open => Terminal::Open,
         Symbol::Close => Terminal::Close,
         Symbol::Begin => Terminal::Begin,
-        Symbol::End => Terminal::Finish,
+        Symbol::Finish => Terminal::Finish,
         Symbol::Plus => Terminal::Plus,
         Symbol::Minus => Terminal::Minus,
         Symbol::Star => Terminal::Star,

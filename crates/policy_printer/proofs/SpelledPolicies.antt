@@ -163,7 +163,7 @@ module _ (text : List ℕ) (tokens : List Token) where
   unfolding reserved_words
   handler-spells {at = at} (handler_of e k v b d rest f) =
       reserved text tokens 17 refl k (lit< tt) (lit< tt) ▹ event-spells e (two at) v ▹ symbol text tokens sign.Begin (three at) b (lit< tt)
-      ▹ (case-spells d ▹ cases-spells rest) ▹ symbol text tokens sign.End refl f (lit< tt)
+      ▹ (case-spells d ▹ cases-spells rest) ▹ symbol text tokens sign.Finish refl f (lit< tt)
 
   handlers-spells : {at to : ℕ} {v : List HandlerSyntaxTree} → IsHandlers text (lexemes_of text tokens) at v to → Are text tokens at (flat_map handler_texts v) to
   handlers-spells handlers_none = nothing

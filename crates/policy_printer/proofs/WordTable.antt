@@ -81,7 +81,7 @@ symbol-large sign.Colon = lit< tt
 symbol-large sign.Open = lit< tt
 symbol-large sign.Close = lit< tt
 symbol-large sign.Begin = lit< tt
-symbol-large sign.End = lit< tt
+symbol-large sign.Finish = lit< tt
 symbol-large sign.Plus = lit< tt
 symbol-large sign.Minus = lit< tt
 symbol-large sign.Star = lit< tt
@@ -97,7 +97,7 @@ symbol-large sign.AtLeast = lit< tt
 abbrev sign_of : ℕ → Sign
 sign_of c =
     if c == 36 then sign.Dot else if c == 37 then sign.Range else if c == 38 then sign.Comma else if c == 39 then sign.Colon else
-    if c == 40 then sign.Open else if c == 41 then sign.Close else if c == 42 then sign.Begin else if c == 43 then sign.End else
+    if c == 40 then sign.Open else if c == 41 then sign.Close else if c == 42 then sign.Begin else if c == 43 then sign.Finish else
     if c == 44 then sign.Plus else if c == 45 then sign.Minus else if c == 46 then sign.Star else if c == 47 then sign.Gets else
     if c == 48 then sign.Equal else if c == 49 then sign.Unequal else if c == 50 then sign.Less else if c == 51 then sign.AtMost else
     if c == 52 then sign.More else sign.AtLeast
@@ -110,7 +110,7 @@ sign-back sign.Colon = refl
 sign-back sign.Open = refl
 sign-back sign.Close = refl
 sign-back sign.Begin = refl
-sign-back sign.End = refl
+sign-back sign.Finish = refl
 sign-back sign.Plus = refl
 sign-back sign.Minus = refl
 sign-back sign.Star = refl

@@ -1,7 +1,7 @@
 -- What the reader's steps give.
 use Rattle.std.proofs.Common.{◌≡◌, ℕ, ◌≤◌, List, length, Result, Ok, Err, IfOk, IfErr, sym, arith}
 use Rattle.policy_lexer.specs.declared.token.Token.{Token}
-use Rattle.policy_lexer.specs.declared.token.TheConstants.{TEXT_LIMIT}
+use Rattle.sched_base.specs.declared.limits.TheConstants.{MAX_POLICY_BYTES}
 use Rattle.policy_lexer.specs.declared.fault.LexFault.{LexFault}
 use Rattle.policy_lexer.specs.Faults.{IsFault}
 use Rattle.policy_lexer.specs.Tokens.{SpellsTokens}
@@ -27,7 +27,7 @@ use Rattle.policy_reader.specs.Told.{lex_fault, offset_of, parse_fault, told_of,
 use Rattle.policy_reader.proofs.OneFault.{one_fault, one_policy, never_both}
 
 -- the syntax of a text is one that the grammar has
-pub of_grammar : (text : List ℕ) (tokens : List Token) (s : SyntaxTree) → length text ≤ TEXT_LIMIT → SpellsSyntax text tokens s → IsOfGrammar s
+pub of_grammar : (text : List ℕ) (tokens : List Token) (s : SyntaxTree) → length text ≤ MAX_POLICY_BYTES → SpellsSyntax text tokens s → IsOfGrammar s
 of_grammar text tokens s small has =
     let few = tokens-few text has.spells in
     let size = map-length (lexeme_of text) tokens in

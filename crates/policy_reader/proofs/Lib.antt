@@ -1,3 +1,4 @@
 pub mod OneGrammarFault
 pub mod OneFault
 pub mod Answered
+pub mod EachAnswered

@@ -7,6 +7,5 @@ mod places;
 mod reading;
 
 pub use fault::{FaultKind, PolicyFault, TextFault};
-pub use laws::{law_one_answer, law_spells_resolved};
-pub use policy_lexer::TEXT_LIMIT;
+pub use laws::{law_each_has_answer, law_one_answer, law_spells_resolved};
 pub use reading::read_policy;

@@ -1,11 +1,11 @@
 //! Where the tokens of a text stand in it.
 
 ghost use Rattle.std.specs.Prelude.{◌≡◌, ◌≤◌, length};
-ghost use Rattle.policy_lexer.specs.declared.token.TheConstants.{TEXT_LIMIT};
+ghost use Rattle.sched_base.specs.declared.limits.TheConstants.{MAX_POLICY_BYTES};
 ghost use Rattle.policy_reader.specs.Told.{offset_of, parse_fault, told_of, type_fault};
 
 use crate::fault::{FaultKind, PolicyFault};
-use policy_lexer::{TEXT_LIMIT, Token};
+use policy_lexer::Token;
 use policy_parser::ParseFault;
 use policy_types::TypeFault;
 
@@ -14,7 +14,7 @@ use policy_types::TypeFault;
 pub(crate) struct Places<'a> {
     pub(crate) text: &'a [u8],
     pub(crate) tokens: &'a [Token],
-    ghost small: { length text.now ≤ TEXT_LIMIT },
+    ghost small: { length text.now ≤ MAX_POLICY_BYTES },
 }
 
 impl<'a> Places<'a> {

@@ -2,7 +2,7 @@
 
 ghost use Rattle.std.specs.Prelude.{◌≤◌, length, IfOk, IfErr};
 ghost use Rattle.policy_eval.specs.Resolved.{IsResolved};
-ghost use Rattle.policy_lexer.specs.declared.token.TheConstants.{TEXT_LIMIT};
+ghost use Rattle.sched_base.specs.declared.limits.TheConstants.{MAX_POLICY_BYTES};
 ghost use Rattle.policy_tree.specs.Meaning.{Meaning, meaning_of};
 ghost use Rattle.policy_reader.specs.declared.fault.TextFault.{TextFault};
 ghost use Rattle.policy_reader.specs.Answers.{IsFaultUnlessMemory, IsReadUnlessMemory, IsRefusedUnlessMemory};
@@ -11,7 +11,7 @@ ghost use Rattle.policy_reader.specs.Spelled.{SpellsPolicy};
 
 use crate::fault::PolicyFault;
 use crate::places::Places;
-use policy_lexer::{TEXT_LIMIT, lex};
+use policy_lexer::lex;
 use policy_parser::parse;
 use policy_tree::Policy;
 use policy_types::resolve;
@@ -19,7 +19,7 @@ use std::alloc::Global;
 
 /// The policy that the text spells, or the fault that it has.
 pub fn read_policy(alloc: Global, text: &[u8]) -> Result<Policy, PolicyFault>
-    requires { length text.now ≤ TEXT_LIMIT }
+    requires { length text.now ≤ MAX_POLICY_BYTES }
     ensures policy { IfOk result (λ p. SpellsPolicy text.now (meaning_of p)) }
     ensures resolved { IfOk result (λ p. IsResolved (meaning_of p)) }
     ensures fault { IfErr result (IsFaultUnlessMemory text.now) }
@@ -34,7 +34,7 @@ pub fn read_policy(alloc: Global, text: &[u8]) -> Result<Policy, PolicyFault>
 
 /// The answer to the text. That it is the only one follows from what it says.
 fn read(alloc: Global, text: &[u8]) -> Result<Policy, PolicyFault>
-    requires { length text.now ≤ TEXT_LIMIT }
+    requires { length text.now ≤ MAX_POLICY_BYTES }
     ensures policy { IfOk result (λ p. SpellsPolicy text.now (meaning_of p)) }
     ensures resolved { IfOk result (λ p. IsResolved (meaning_of p)) }
     ensures fault { IfErr result (IsFaultUnlessMemory text.now) }

@@ -5,6 +5,7 @@ mod copies;
 mod syntax;
 mod trees;
 mod typed;
+pub mod variables;
 
 pub use copies::{copy_of_cond, copy_of_expr, copy_of_order};
 pub use syntax::{

@@ -2,7 +2,7 @@
 use Rattle.std.proofs.Common.{◌≡◌, ℕ, ◌+◌, ◌<◌, ◌≤◌, Bool, true, false, if◌then◌else◌, List, [], ◌∷◌, length, Option, Some, None, refl, arith, codes}
 use Rattle.std.specs.Str.{bytes_eq}
 use Rattle.std.proofs.lemmas.Bool.Decides.{nat_tests}
-use Rattle.sched_base.specs.declared.limits.TheConstants.{VARIABLES}
+use Rattle.sched_base.specs.declared.limits.TheConstants.{MAX_VARIABLES}
 use Rattle.policy_tree.specs.declared.syntax.Owner.{Owner}
 use Rattle.policy_tree.specs.declared.syntax.Owner.TheVariants.{Itself, Victim, Core, Thread}
 use Rattle.policy_tree.specs.declared.typed.Attr.{Attr}
@@ -127,10 +127,10 @@ module _ (p : Meaning) (cores : length p.core_attrs ≤ 8) (threads : length p.t
       let attrs = attributes_of (declared p) owner in
       found_allowed site at owner (feature_among attrs word) (feature_inside attrs word) none
 
-attribute_known : (first at : ℕ) → first ≤ 22 → attribute_from first at ≤ VARIABLES
+attribute_known : (first at : ℕ) → first ≤ 22 → attribute_from first at ≤ MAX_VARIABLES
 attribute_known first at low = grind (arith, nat_tests)
 
-variable_known : (owner : Owner) (feature : Feature) → variable_of owner feature ≤ VARIABLES
+variable_known : (owner : Owner) (feature : Feature) → variable_of owner feature ≤ MAX_VARIABLES
 variable_known Itself (Attribute at) = attribute_known 6 at (omega arith)
 variable_known Victim (Attribute at) = attribute_known 14 at (omega arith)
 variable_known Core (Attribute at) = attribute_known 14 at (omega arith)
@@ -153,9 +153,9 @@ variable_known Core Fresh = omega arith
 variable_known Thread Fresh = omega arith
 
 -- a reference is one of the variables, or what is unknown
-pub reference_known : (scope : Scope) (owner : Owner) (word : List ℕ) → reference_of scope owner word ≤ VARIABLES
+pub reference_known : (scope : Scope) (owner : Owner) (word : List ℕ) → reference_of scope owner word ≤ MAX_VARIABLES
 reference_known scope owner word = found_known (feature_of scope owner word)
   where
-    found_known : (found : Option Feature) → variable_or_none owner found ≤ VARIABLES
+    found_known : (found : Option Feature) → variable_or_none owner found ≤ MAX_VARIABLES
     found_known None = omega arith
     found_known (Some feature) = variable_known owner feature

@@ -19,3 +19,4 @@ pub mod Spans
 pub mod WalkExpressions
 pub mod WalkConditions
 pub mod WalkPolicies
+pub mod NumberedNames

@@ -4,7 +4,7 @@ use Rattle.std.proofs.Math.IntN.{*ℤ-zero, zero-*ℤ}
 use Rattle.std.proofs.lemmas.Int.{ints}
 use Rattle.std.proofs.lemmas.Bool.{and_parts, le-leb, leb-true, ne_eqb}
 use Rattle.std.proofs.lemmas.Bool.Decides.{leb_tells}
-use Rattle.sched_base.specs.declared.limits.TheConstants.{MAX_COEFFICIENT, VARIABLES}
+use Rattle.sched_base.specs.declared.limits.TheConstants.{MAX_COEFFICIENT, MAX_VARIABLES}
 use Rattle.policy_tree.specs.Trees.{ExprTree, number, variable, negation, plus, minus, times}
 use Rattle.policy_eval.specs.Forms.{HasSmallForm, IsLinear, IsSmall, RefersTo, coefficient_of, constant_of, has_reference}
 use Rattle.policy_types.specs.Expressions.{big_faults, joined, product_faults}
@@ -14,7 +14,7 @@ use Rattle.policy_types.proofs.Firsts.{where_not}
 use Rattle.policy_types.proofs.Small.{small_coefficient, small_constant, small_zero}
 
 abbrev pub is_known : ℕ → Bool
-is_known at = leb at VARIABLES
+is_known at = leb at MAX_VARIABLES
 
 le_of : (a b : ℤ) → int_le a b ≡ true → a ≤ℤ b
 le_of a b e = grind (arith, ints)
@@ -26,10 +26,10 @@ small_is x small =
     record { above = le_of (neg_ℤ MAX_COEFFICIENT) x parts.0; below = le_of x MAX_COEFFICIENT parts.1 }
 
 -- what isn't known has no coefficient
-coefficient_past : (e : ExprTree) → RefersTo is_known e → (v : ℕ) → VARIABLES < v → coefficient_of e v ≡ pos 0
+coefficient_past : (e : ExprTree) → RefersTo is_known e → (v : ℕ) → MAX_VARIABLES < v → coefficient_of e v ≡ pos 0
 coefficient_past (number n) known v past = refl
 coefficient_past (variable at) known v past =
-    let below : at ≤ VARIABLES = leb-true at VARIABLES known in
+    let below : at ≤ MAX_VARIABLES = leb-true at MAX_VARIABLES known in
     ap (λ b. cond b (pos 1) (pos 0)) (ne_eqb at v (λ e. absurd (omega arith)))
 coefficient_past (negation e) known v past = ap neg_ℤ (coefficient_past e known v past)
 coefficient_past (plus l r) known v past = rw (coefficient_past l known.0 v past, coefficient_past r known.1 v past) refl
@@ -40,11 +40,11 @@ coefficient_past (times l r) known v past =
 form_small : (e : ExprTree) → RefersTo is_known e → has_small_form e ≡ true → HasSmallForm e
 form_small e known small = record {
   constant = small_is (constant_of e) (small_constant e small);
-  coefficients = λ v. small_is (coefficient_of e v) (either v (leb v VARIABLES) refl);
+  coefficients = λ v. small_is (coefficient_of e v) (either v (leb v MAX_VARIABLES) refl);
 }
   where
-    either : (v : ℕ) (b : Bool) → leb v VARIABLES ≡ b → is_small (coefficient_of e v) ≡ true
-    either v true inside = small_coefficient e small v (leb-true v VARIABLES inside)
+    either : (v : ℕ) (b : Bool) → leb v MAX_VARIABLES ≡ b → is_small (coefficient_of e v) ≡ true
+    either v true inside = small_coefficient e small v (leb-true v MAX_VARIABLES inside)
     either v false past = ap is_small (coefficient_past e known v (grind (arith, leb_tells))) ∙ small_zero
 
 -- an expression without fault, whose variables pass the test
@@ -61,8 +61,8 @@ module _ (may : ℕ → Bool) where
   pub sound_number : (value : ℕ) → is_small (pos value) ≡ true → IsSound may (number (pos value))
   sound_number value small = record { linear = small_is (pos value) small; form = refl; known = tt; allowed = tt }
 
-  pub sound_variable : (at : ℕ) → at ≤ VARIABLES → may at ≡ true → IsSound may (variable at)
-  sound_variable at inside allowed = record { linear = tt; form = refl; known = le-leb at VARIABLES inside; allowed = allowed }
+  pub sound_variable : (at : ℕ) → at ≤ MAX_VARIABLES → may at ≡ true → IsSound may (variable at)
+  sound_variable at inside allowed = record { linear = tt; form = refl; known = le-leb at MAX_VARIABLES inside; allowed = allowed }
 
   pub sound_negation : (at : ℕ) (e : ExprTree) → IsSound may e → big_faults at (negation e) ≡ [] → IsSound may (negation e)
   sound_negation at e is none = record {

@@ -5,7 +5,7 @@ use Rattle.std.specs.Int.{w64}
 use Rattle.std.proofs.lemmas.Int.{ints, fits_signed_from_abs, to_z-of_z}
 use Rattle.std.proofs.lemmas.Bool.{leb-true, eqb-true, eqb-false}
 use Rattle.std.proofs.lemmas.List.{get_or-set_same, get_or-set_other}
-use Rattle.sched_base.specs.declared.limits.TheConstants.{VARIABLES}
+use Rattle.sched_base.specs.declared.limits.TheConstants.{MAX_VARIABLES}
 use Rattle.policy_tree.specs.Trees.{ExprTree, number}
 use Rattle.policy_eval.specs.Forms.{coefficient_of, constant_of}
 use Rattle.policy_types.specs.declared.sums.Form.{Form}
@@ -90,7 +90,7 @@ module _ (f : Form) (l e : ExprTree) (x : ℤ) (is : IsForm f l) (moved : IsMove
   }
 
 -- one coefficient changes
-module _ (f : Form) (l e : ExprTree) (x : ℤ) (at : ℕ) (is : IsForm f l) (moved : IsMoved (Some at) x l e) (known : at ≤ VARIABLES) where
+module _ (f : Form) (l e : ExprTree) (x : ℤ) (at : ℕ) (is : IsForm f l) (moved : IsMoved (Some at) x l e) (known : at ≤ MAX_VARIABLES) where
   here : get_or f.coefficients at (pos 0) +ℤ x ≡ coefficient_of e at
   here =
       ap (λ z. z +ℤ x) (is.coefficients at known)
@@ -106,13 +106,13 @@ module _ (f : Form) (l e : ExprTree) (x : ℤ) (at : ℕ) (is : IsForm f l) (mov
   pub coefficient_big : is_small (get_or f.coefficients at (pos 0) +ℤ x) ≡ false → has_small_form e ≡ false
   coefficient_big big = big_coefficient e at known (ap is_small (sym here) ∙ big)
 
-  either_small : is_small (get_or f.coefficients at (pos 0) +ℤ x) ≡ true → (v : ℕ) → v ≤ VARIABLES → (b : Bool) → eqb at v ≡ b → is_small (coefficient_of e v) ≡ true
+  either_small : is_small (get_or f.coefficients at (pos 0) +ℤ x) ≡ true → (v : ℕ) → v ≤ MAX_VARIABLES → (b : Bool) → eqb at v ≡ b → is_small (coefficient_of e v) ≡ true
   either_small small v inside true same =
       ap (λ w. is_small (coefficient_of e w)) (sym (eqb-true at v same)) ∙ (ap is_small (sym here) ∙ small)
   either_small small v inside false apart =
       ap is_small (elsewhere v (eqb-false at v apart)) ∙ small_coefficient l is.small v inside
 
-  either_read : (y : ℤ) → at < length f.coefficients → y ≡ get_or f.coefficients at (pos 0) +ℤ x → (v : ℕ) → v ≤ VARIABLES → (b : Bool) → eqb at v ≡ b → get_or (set f.coefficients at y) v (pos 0) ≡ coefficient_of e v
+  either_read : (y : ℤ) → at < length f.coefficients → y ≡ get_or f.coefficients at (pos 0) +ℤ x → (v : ℕ) → v ≤ MAX_VARIABLES → (b : Bool) → eqb at v ≡ b → get_or (set f.coefficients at y) v (pos 0) ≡ coefficient_of e v
   either_read y long same v inside true equal =
       ap (λ w. get_or (set f.coefficients at y) w (pos 0)) (sym (eqb-true at v equal))
       ∙ (get_or-set_same f.coefficients at y (pos 0) long ∙ (same ∙ (here ∙ ap (coefficient_of e) (eqb-true at v equal))))

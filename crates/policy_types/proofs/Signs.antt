@@ -3,7 +3,7 @@ use Rattle.std.proofs.Common.{◌≡◌, ℕ, zero, suc, ◌+◌, ◌^◌, ◌<�
 use Rattle.std.proofs.lemmas.Int.{ints}
 use Rattle.std.proofs.lemmas.Bool.{le-leb}
 use Rattle.std.proofs.lemmas.Bool.Decides.{leb_tells}
-use Rattle.sched_base.specs.declared.limits.TheConstants.{VARIABLES}
+use Rattle.sched_base.specs.declared.limits.TheConstants.{MAX_VARIABLES}
 use Rattle.policy_tree.specs.Trees.{ExprTree, negation, number, variable}
 use Rattle.policy_tree.specs.declared.syntax.FactorSyntax.{FactorSyntax}
 use Rattle.policy_tree.specs.declared.syntax.OperandSyntax.TheVariants.{Number, Reference}
@@ -31,7 +31,7 @@ negation_small : (e : ExprTree) → has_small_form (negation e) ≡ has_small_fo
 unfolding has_small_form
 negation_small e =
     ap₂ (λ a b. a && b) (small_neg (constant_of e))
-    (all_below-same (λ v. is_small (neg_ℤ (coefficient_of e v))) (λ v. is_small (coefficient_of e v)) (suc VARIABLES) (λ v. small_neg (coefficient_of e v)))
+    (all_below-same (λ v. is_small (neg_ℤ (coefficient_of e v))) (λ v. is_small (coefficient_of e v)) (suc MAX_VARIABLES) (λ v. small_neg (coefficient_of e v)))
 
 pub signed_small : (n : ℕ) (e : ExprTree) → has_small_form (signed n e) ≡ has_small_form e
 signed_small zero e = refl

@@ -3,7 +3,7 @@ use Rattle.std.proofs.Common.{◌≡◌, ℕ, zero, suc, ◌<◌, ◌≤◌, eqb
 use Rattle.std.proofs.lemmas.Int.{ints}
 use borrow.Author.Count.{below_more}
 use Rattle.std.proofs.lemmas.Bool.{and_parts, and_from, and_left, and_right}
-use Rattle.sched_base.specs.declared.limits.TheConstants.{VARIABLES}
+use Rattle.sched_base.specs.declared.limits.TheConstants.{MAX_VARIABLES}
 use Rattle.policy_tree.specs.Trees.{ExprTree}
 use Rattle.policy_eval.specs.Forms.{coefficient_of, constant_of}
 use Rattle.policy_types.specs.Forms.{all_below, has_small_form, is_small}
@@ -42,31 +42,31 @@ all_below-false test (suc n) v below fails =
     (λ fails. and_left (test n) (all_below test n) fails) v (omega arith) fails
 
 module _ (e : ExprTree) where
-  pub small_form : is_small (constant_of e) ≡ true → ((v : ℕ) → v ≤ VARIABLES → is_small (coefficient_of e v) ≡ true) → has_small_form e ≡ true
+  pub small_form : is_small (constant_of e) ≡ true → ((v : ℕ) → v ≤ MAX_VARIABLES → is_small (coefficient_of e v) ≡ true) → has_small_form e ≡ true
   unfolding has_small_form
   small_form constant coefficients =
-      and_from (is_small (constant_of e)) (all_below (λ v. is_small (coefficient_of e v)) (suc VARIABLES)) constant
-      (all_below-true (λ v. is_small (coefficient_of e v)) (suc VARIABLES) (λ v below. coefficients v (omega arith)))
+      and_from (is_small (constant_of e)) (all_below (λ v. is_small (coefficient_of e v)) (suc MAX_VARIABLES)) constant
+      (all_below-true (λ v. is_small (coefficient_of e v)) (suc MAX_VARIABLES) (λ v below. coefficients v (omega arith)))
 
   pub small_constant : has_small_form e ≡ true → is_small (constant_of e) ≡ true
   unfolding has_small_form
-  small_constant all = (and_parts (is_small (constant_of e)) (all_below (λ v. is_small (coefficient_of e v)) (suc VARIABLES)) all).0
+  small_constant all = (and_parts (is_small (constant_of e)) (all_below (λ v. is_small (coefficient_of e v)) (suc MAX_VARIABLES)) all).0
 
-  pub small_coefficient : has_small_form e ≡ true → (v : ℕ) → v ≤ VARIABLES → is_small (coefficient_of e v) ≡ true
+  pub small_coefficient : has_small_form e ≡ true → (v : ℕ) → v ≤ MAX_VARIABLES → is_small (coefficient_of e v) ≡ true
   unfolding has_small_form
   small_coefficient all v known =
-      all_below-at (λ v. is_small (coefficient_of e v)) (suc VARIABLES) v
-      (and_parts (is_small (constant_of e)) (all_below (λ v. is_small (coefficient_of e v)) (suc VARIABLES)) all).1 (omega arith)
+      all_below-at (λ v. is_small (coefficient_of e v)) (suc MAX_VARIABLES) v
+      (and_parts (is_small (constant_of e)) (all_below (λ v. is_small (coefficient_of e v)) (suc MAX_VARIABLES)) all).1 (omega arith)
 
   pub big_constant : is_small (constant_of e) ≡ false → has_small_form e ≡ false
   unfolding has_small_form
-  big_constant big = and_left (is_small (constant_of e)) (all_below (λ v. is_small (coefficient_of e v)) (suc VARIABLES)) big
+  big_constant big = and_left (is_small (constant_of e)) (all_below (λ v. is_small (coefficient_of e v)) (suc MAX_VARIABLES)) big
 
-  pub big_coefficient : (v : ℕ) → v ≤ VARIABLES → is_small (coefficient_of e v) ≡ false → has_small_form e ≡ false
+  pub big_coefficient : (v : ℕ) → v ≤ MAX_VARIABLES → is_small (coefficient_of e v) ≡ false → has_small_form e ≡ false
   unfolding has_small_form
   big_coefficient v known big =
-      and_right (is_small (constant_of e)) (all_below (λ v. is_small (coefficient_of e v)) (suc VARIABLES))
-      (all_below-false (λ v. is_small (coefficient_of e v)) (suc VARIABLES) v (omega arith) big)
+      and_right (is_small (constant_of e)) (all_below (λ v. is_small (coefficient_of e v)) (suc MAX_VARIABLES))
+      (all_below-false (λ v. is_small (coefficient_of e v)) (suc MAX_VARIABLES) v (omega arith) big)
 
 -- a number times a variable has a small form where the number is small
 pub single_small : (at : Option ℕ) (x : ℤ) (e : ExprTree) → IsKnown at → IsSingle at x e → is_small x ≡ true → has_small_form e ≡ true

@@ -1,5 +1,5 @@
 -- Faults in the order of their tokens, from one token up to another.
-use Rattle.std.proofs.Common.{◌≡◌, ℕ, ◌+◌, ◌^◌, ◌<◌, ◌≤◌, Bool, true, false, List, [], ◌∷◌, ◌++◌, All, subst, arith, Some}
+use Rattle.std.proofs.Common.{◌≡◌, ◌≢◌, ℕ, ◌+◌, ◌^◌, ◌<◌, ◌≤◌, Bool, true, false, List, [], ◌∷◌, ◌++◌, All, refl, subst, arith, Some}
 use Rattle.std.proofs.lemmas.List.Elements.{All-cons, All-nil}
 use Rattle.policy_types.specs.declared.fault.TypeFault.{TypeFault}
 use Rattle.policy_types.specs.declared.fault.TypeFault.TheVariants.{Unknown, Twice, NotLinear, NotHere, BadRange, Big, Memory}
@@ -89,3 +89,13 @@ first_least from to xs (NotHere at) is first = least_of from xs (NotHere at) is.
 first_least from to xs (BadRange at) is first = least_of from xs (BadRange at) is.rises first
 first_least from to xs (Big at) is first = least_of from xs (Big at) is.rises first
 first_least from to xs Memory is first = nothing_less xs
+
+-- a fault behind the first token is no want of memory
+pub first_real : (to : ℕ) (fault : TypeFault) (rest : List TypeFault) → Spans 1 to (fault ∷ rest) → IsFirst (fault ∷ rest) fault × (fault ≢ Memory)
+first_real to (Unknown at) rest is = (refl, λ e. cc)
+first_real to (Twice at) rest is = (refl, λ e. cc)
+first_real to (NotLinear at) rest is = (refl, λ e. cc)
+first_real to (NotHere at) rest is = (refl, λ e. cc)
+first_real to (BadRange at) rest is = (refl, λ e. cc)
+first_real to (Big at) rest is = (refl, λ e. cc)
+first_real to Memory rest is = let least = is.rises.0 in absurd (omega arith)

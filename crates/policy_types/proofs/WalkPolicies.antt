@@ -1,5 +1,5 @@
 -- The faults of a policy stand in the order of its tokens.
-use Rattle.std.proofs.Common.{◌≡◌, ℕ, ◌+◌, ◌^◌, ◌<◌, ◌≤◌, not, List, [], ◌∷◌, ◌++◌, length, refl, arith, Option, Some, None, Result, Ok, Err, IfErr}
+use Rattle.std.proofs.Common.{◌≡◌, ◌≢◌, ◌⊎◌, inl, inr, ℕ, ◌+◌, ◌^◌, ◌<◌, ◌≤◌, not, List, [], ◌∷◌, ◌++◌, length, refl, arith, Option, Some, None, Result, Ok, Err, IfErr}
 use Rattle.policy_tree.specs.declared.syntax.AttrSyntax.{AttrSyntax}
 use Rattle.policy_tree.specs.declared.syntax.ElectSyntax.{ElectSyntax}
 use Rattle.policy_tree.specs.declared.syntax.IntSyntax.{IntSyntax}
@@ -14,7 +14,7 @@ use Rattle.policy_grammar.specs.Expressions.{IsInt, int_plain, int_signed, IsRan
 use Rattle.policy_grammar.specs.Policies.{IsLoad, load_count, load_weight, IsAttr, attr_of, IsAttrs, attrs_none, attrs_more, IsPlace, place_none, place_here, place_least, IsElect, elect_none, elect_some, IsSets, sets_none, sets_more, IsCase, case_of, IsCases, cases_none, cases_more, handler_of, IsHandlers, handlers_none, handlers_more, IsPolicy, policy_of}
 use Rattle.policy_grammar.specs.Terminals.{word_at}
 use Rattle.policy_types.specs.declared.fault.TypeFault.{TypeFault}
-use Rattle.policy_types.specs.declared.fault.TypeFault.TheVariants.{BadRange, NotHere, Twice, Unknown}
+use Rattle.policy_types.specs.declared.fault.TypeFault.TheVariants.{BadRange, Memory, NotHere, Twice, Unknown}
 use Rattle.policy_types.specs.declared.scope.Scope.{Scope}
 use Rattle.policy_types.specs.declared.sites.Feature.{Feature}
 use Rattle.policy_types.specs.declared.sites.Feature.TheVariants.{Nr, Load, Weight, Fresh, Attribute}
@@ -27,7 +27,7 @@ use Rattle.policy_types.specs.Faults.{IsFirst, behind, where_broken}
 use Rattle.policy_types.specs.Handlers.{case_faults, cases_faults, handlers_faults, is_among, sets_faults, target_faults}
 use Rattle.policy_types.specs.Policies.{place_faults, policy_faults}
 use Rattle.policy_types.specs.References.{allows_put, feature_among}
-use Rattle.policy_types.proofs.Spans.{Spans, behind_is, first_least, spans_append, spans_none, spans_one, spans_where, spans_wider}
+use Rattle.policy_types.proofs.Spans.{Spans, behind_is, first_least, first_real, spans_append, spans_none, spans_one, spans_where, spans_wider}
 use Rattle.policy_types.proofs.WalkConditions.{guard_spans}
 use Rattle.policy_types.proofs.WalkExpressions.{expr_spans, order_spans}
 
@@ -120,7 +120,7 @@ module _ (text : List ℕ) (ts : List Lexeme) where
         (spans_append (at + 3) (last + 1) to (cases_faults scope event (c ∷ cs)) (handlers_faults scope (event ∷ before) rest)
         (spans_wider (at + 3) (at + 3) last (last + 1) (cases_faults scope event (c ∷ cs)) (omega arith) (omega arith) cases) later)
 
-  policy_spans : {s : SyntaxTree} → IsPolicy text ts s → length ts < 2 ^ 32 → Spans 0 (length ts) (policy_faults s)
+  policy_spans : {s : SyntaxTree} → IsPolicy text ts s → length ts < 2 ^ 32 → Spans 1 (length ts) (policy_faults s)
   policy_spans (policy_of {at_attrs = at_attrs} {at_place = at_place} {at_elect = at_elect} {at_handlers = at_handlers} {at_filter = at_filter} {at_choose = at_choose} {at_steal = at_steal}
       {load = load} {attrs = attrs} {place = place} {elect = elect} {handlers = handlers} {filter = filter} {choose = choose} {steal = steal}
       word name l attributes placed elected handled fw f cw c sw st) room =
@@ -132,7 +132,7 @@ module _ (text : List ℕ) (ts : List Lexeme) where
       let places = place_spans scope placed (omega arith) in let s1 = places.ordered in
       let declares = attrs_spans nothing_declared attributes (omega arith) in let s0 = declares.ordered in
       let loads = load_spans l in let start = loads.ordered in
-      spans_wider 0 2 (length ts) (length ts) _ (omega arith) (omega arith)
+      spans_wider 1 2 (length ts) (length ts) _ (omega arith) (omega arith)
       (spans_append 2 at_attrs (length ts) (load_faults load) _ loads
       (spans_append at_attrs at_place (length ts) (attrs_faults nothing_declared attrs) _ declares
       (spans_append at_place at_elect (length ts) (place_faults scope place) _ places
@@ -150,4 +150,16 @@ module _ (text : List ℕ) (ts : List Lexeme) where
 -- the first fault has the least token
 pub answer_least : {X : Type 0} (r : Result X TypeFault) (s : SyntaxTree) → IfErr r (IsFirst (policy_faults s)) → IfErr r (λ fault. IsOfGrammar s → IsLeast (policy_faults s) fault)
 answer_least (Ok x) s first = tt
-answer_least (Err fault) s first = λ of. first_least 0 (length of.tokens) (policy_faults s) fault (policy_spans of.text of.tokens of.is.is of.few) first
+answer_least (Err fault) s first = λ of. first_least 1 (length of.tokens) (policy_faults s) fault (policy_spans of.text of.tokens of.is.is of.few) first
+
+-- a syntax of the grammar breaks no rule, or it has a first fault
+pub policy_answer : (s : SyntaxTree) → IsOfGrammar s
+    → (policy_faults s ≡ []) ⊎ ((fault : TypeFault) × IsFirst (policy_faults s) fault × IsLeast (policy_faults s) fault × (fault ≢ Memory))
+policy_answer s of = by (policy_faults s) (policy_spans of.text of.tokens of.is.is of.few)
+  where
+    by : (faults : List TypeFault) → Spans 1 (length of.tokens) faults
+        → (faults ≡ []) ⊎ ((fault : TypeFault) × IsFirst faults fault × IsLeast faults fault × (fault ≢ Memory))
+    by [] spans = inl refl
+    by (fault ∷ rest) spans =
+        let real = first_real (length of.tokens) fault rest spans in
+        inr (fault, real.0, first_least 1 (length of.tokens) (fault ∷ rest) fault spans real.0, real.1)

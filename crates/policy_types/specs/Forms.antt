@@ -1,6 +1,6 @@
 -- Which expressions have a linear form, and whether it is small.
 use Rattle.std.specs.Prelude.{ℕ, zero, suc, ℤ, neg_ℤ, int_le, Bool, true, not, ◌&&◌}
-use Rattle.sched_base.specs.declared.limits.TheConstants.{MAX_COEFFICIENT, VARIABLES}
+use Rattle.sched_base.specs.declared.limits.TheConstants.{MAX_COEFFICIENT, MAX_VARIABLES}
 use Rattle.policy_tree.specs.Trees.{ExprTree, number, variable, negation, plus, minus, times}
 use Rattle.policy_eval.specs.Forms.{coefficient_of, constant_of, has_reference}
 
@@ -24,4 +24,4 @@ all_below test (suc n) = test n && all_below test n
 
 -- whether the constant is small and the coefficient of each variable, what is unknown among them
 unfoldable pub has_small_form : ExprTree → Bool
-has_small_form e = is_small (constant_of e) && all_below (λ v. is_small (coefficient_of e v)) (suc VARIABLES)
+has_small_form e = is_small (constant_of e) && all_below (λ v. is_small (coefficient_of e v)) (suc MAX_VARIABLES)

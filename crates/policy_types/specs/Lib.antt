@@ -1,3 +1,4 @@
+pub mod Numbered
 pub mod References
 pub mod Faults
 pub mod Forms

@@ -1,7 +1,7 @@
 -- The linear forms that the code keeps: of a term, a number times at most one variable; of a sum, all coefficients.
 use Rattle.std.specs.Prelude.{◌≡◌, ℕ, ◌≤◌, ◌^◌, ◌*◌, not, ℤ, pos, neg_ℤ, ◌+ℤ◌, cond, ◌==◌, Bool, true, get_or, Option, Some, None, is_some}
 use Rattle.std.specs.Bool.{beq}
-use Rattle.sched_base.specs.declared.limits.TheConstants.{VARIABLES}
+use Rattle.sched_base.specs.declared.limits.TheConstants.{MAX_VARIABLES}
 use Rattle.policy_tree.specs.Trees.{ExprTree}
 use Rattle.policy_eval.specs.Forms.{coefficient_of, constant_of, has_reference}
 use Rattle.policy_types.specs.declared.products.Product.{Product}
@@ -49,14 +49,14 @@ pub record IsScaledBy (p q : Product) (at : Option ℕ) (product : Product) : Ty
 -- the variable is one that there is, or the one behind the last
 abbrev pub IsKnown : Option ℕ → Type 0
 IsKnown None = Unit {0}
-IsKnown (Some at) = at ≤ VARIABLES
+IsKnown (Some at) = at ≤ MAX_VARIABLES
 
 -- the form is the linear form of the expression, and it is small
 pub record IsForm (f : Form) (e : ExprTree) : Type 0 where
   pub form : has_form e ≡ true
   pub small : has_small_form e ≡ true
   pub constant : f.constant ≡ constant_of e
-  pub coefficients : (v : ℕ) → v ≤ VARIABLES → get_or f.coefficients v (pos 0) ≡ coefficient_of e v
+  pub coefficients : (v : ℕ) → v ≤ MAX_VARIABLES → get_or f.coefficients v (pos 0) ≡ coefficient_of e v
 
 -- x times the variable is added to the linear form of l, which gives that of e
 pub record IsMoved (at : Option ℕ) (x : ℤ) (l e : ExprTree) : Type 0 where

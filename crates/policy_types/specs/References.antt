@@ -1,7 +1,7 @@
 -- What the words behind a dot refer to, where they may stand, and the numbers of the variables.
 use Rattle.std.specs.Prelude.{ℕ, ◌+◌, nat_lt, Bool, true, false, if◌then◌else◌, List, [], ◌∷◌, Option, Some, None, codes}
 use Rattle.std.specs.Str.{bytes_eq}
-use Rattle.sched_base.specs.declared.limits.TheConstants.{MAX_ATTRIBUTES, VARIABLES}
+use Rattle.sched_base.specs.declared.limits.TheConstants.{MAX_ATTRIBUTES, MAX_VARIABLES}
 use Rattle.policy_tree.specs.declared.syntax.Owner.{Owner}
 use Rattle.policy_tree.specs.declared.syntax.Owner.TheVariants.{Itself, Victim, Core, Thread}
 use Rattle.policy_tree.specs.declared.typed.Attr.{Attr}
@@ -9,6 +9,7 @@ use Rattle.policy_tree.specs.declared.typed.Event.{Event}
 use Rattle.policy_tree.specs.declared.typed.Event.TheVariants as event
 use Rattle.policy_tree.specs.declared.typed.Put.{Put}
 use Rattle.policy_tree.specs.declared.typed.Put.TheVariants as put
+use Rattle.policy_tree.specs.declared.variables.TheConstants.{FRESH, OTHER_ATTRIBUTES, OTHER_LOAD, OTHER_NR, SELF_ATTRIBUTES, SELF_LOAD, SELF_NR, THREAD_ATTRIBUTES, WEIGHT}
 use Rattle.policy_types.specs.declared.scope.Scope.{Scope}
 use Rattle.policy_types.specs.declared.sites.Feature.{Feature}
 use Rattle.policy_types.specs.declared.sites.Feature.TheVariants.{Nr, Load, Weight, Fresh, Attribute}
@@ -56,12 +57,12 @@ is_of_thread Fresh = false
 is_of_thread (Attribute at) = true
 
 -- what may be asked of a thread that comes to a core
-abbrev pub is_of_comer : Feature → Bool
-is_of_comer Nr = false
-is_of_comer Load = false
-is_of_comer Weight = true
-is_of_comer Fresh = true
-is_of_comer (Attribute at) = true
+abbrev pub is_of_arriving_thread : Feature → Bool
+is_of_arriving_thread Nr = false
+is_of_arriving_thread Load = false
+is_of_arriving_thread Weight = true
+is_of_arriving_thread Fresh = true
+is_of_arriving_thread (Attribute at) = true
 
 -- what a handler may ask of the core that holds the thread
 abbrev pub is_attribute : Feature → Bool
@@ -80,7 +81,7 @@ allows Choose Victim feature = is_of_core feature
 allows Placement Core feature = is_of_core feature
 allows Elect Thread feature = is_of_thread feature
 allows Steal Thread feature = is_of_thread feature
-allows (Handler event.Enqueue) Thread feature = is_of_comer feature
+allows (Handler event.Enqueue) Thread feature = is_of_arriving_thread feature
 allows (Handler event.Tick) Thread feature = is_of_thread feature
 allows (Handler event.Yield) Thread feature = is_of_thread feature
 allows (Handler event.Block) Thread feature = is_of_thread feature
@@ -99,27 +100,27 @@ allows_put e place = false
 
 -- the number of that attribute, where those of its kind have the numbers from the first on: there are so many of them
 abbrev pub attribute_from : ℕ → ℕ → ℕ
-attribute_from first at = if nat_lt at MAX_ATTRIBUTES then first + at else VARIABLES
+attribute_from first at = if nat_lt at MAX_ATTRIBUTES then first + at else MAX_VARIABLES
 
 -- the number of the variable. What is no variable has the number behind the last
 abbrev pub variable_of : Owner → Feature → ℕ
-variable_of Itself Nr = 0
-variable_of Itself Load = 1
-variable_of Victim Nr = 2
-variable_of Core Nr = 2
-variable_of Victim Load = 3
-variable_of Core Load = 3
-variable_of Thread Weight = 4
-variable_of Thread Fresh = 5
-variable_of Itself (Attribute at) = attribute_from 6 at
-variable_of Victim (Attribute at) = attribute_from 14 at
-variable_of Core (Attribute at) = attribute_from 14 at
-variable_of Thread (Attribute at) = attribute_from 22 at
-variable_of owner feature = VARIABLES
+variable_of Itself Nr = SELF_NR
+variable_of Itself Load = SELF_LOAD
+variable_of Victim Nr = OTHER_NR
+variable_of Core Nr = OTHER_NR
+variable_of Victim Load = OTHER_LOAD
+variable_of Core Load = OTHER_LOAD
+variable_of Thread Weight = WEIGHT
+variable_of Thread Fresh = FRESH
+variable_of Itself (Attribute at) = attribute_from SELF_ATTRIBUTES at
+variable_of Victim (Attribute at) = attribute_from OTHER_ATTRIBUTES at
+variable_of Core (Attribute at) = attribute_from OTHER_ATTRIBUTES at
+variable_of Thread (Attribute at) = attribute_from THREAD_ATTRIBUTES at
+variable_of owner feature = MAX_VARIABLES
 
 -- the number of what may be unknown: something unknown is a variable of its own
 abbrev pub variable_or_none : Owner → Option Feature → ℕ
-variable_or_none owner None = VARIABLES
+variable_or_none owner None = MAX_VARIABLES
 variable_or_none owner (Some feature) = variable_of owner feature
 
 abbrev pub reference_of : Scope → Owner → List ℕ → ℕ

@@ -14,7 +14,7 @@ use lists::Items;
 use policy_tree::{Cond, ConditionSyntax, Key, Order, OrderSyntax};
 use std::alloc::{AllocError, Global};
 
-impl Scope {
+impl Scope<'_> {
     /// A condition. It goes along a chain by a loop, and calls itself for what stands within alone.
     #[cycle(conditions)]
     pub(crate) fn condition(

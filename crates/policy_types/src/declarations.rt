@@ -1,11 +1,12 @@
 //! What a syntax declares.
 
-ghost use Rattle.std.specs.Prelude.{◌≡◌, ◌<◌, ◌≤◌, ◌^◌, ◌++◌, [], ◌∷◌, IfOk, IfErr, length, unsigned_abs, vec_len};
+ghost use Rattle.std.specs.Prelude.{◌≡◌, ◌<◌, ◌≤◌, ◌^◌, ◌++◌, ◌+◌, ◌-◌, [], ◌∷◌, IfOk, IfErr, length, true, unsigned_abs};
 ghost use Rattle.policy_types.specs.Declarations.{attr_faults, attr_meaning, attrs_faults, int_meaning, is_attribute_range, load_faults, load_meaning, nothing_declared, scope_after};
 ghost use Rattle.policy_types.specs.Faults.{IsFirst};
 
+use crate::attributes::Attributes;
 use crate::fault::TypeFault;
-use crate::scope::{Scope, attribute_named};
+use crate::scope::Scope;
 use lists::Items;
 use policy_tree::{Attr, AttrSyntax, IntSyntax, Load, LoadSyntax, Name};
 use sched_base::{MAX_ATTRIBUTE, MAX_WEIGHT};
@@ -35,40 +36,49 @@ pub(crate) fn load(load: &LoadSyntax) -> Result<Load, TypeFault>
 }
 
 /// The attributes, by their kinds.
-pub(crate) fn attributes(alloc: Global, attrs: &[AttrSyntax]) -> Result<Scope, TypeFault>
+pub(crate) fn attributes(alloc: Global, attrs: &[AttrSyntax]) -> Result<Scope<'_>, TypeFault>
     requires { length attrs.now < 2 ^ 32 }
     ensures scope { IfOk result (λ s. s ≡ scope_after nothing_declared attrs.now) }
     ensures sound { IfOk result (λ s. attrs_faults nothing_declared attrs.now ≡ []) }
     ensures fault { IfErr result (IsFirst (attrs_faults nothing_declared attrs.now)) }
 {
-    let mut cores = Vec::new(alloc);
-    let mut threads = Vec::new(alloc);
+    let mut cores = Attributes::new(alloc);
+    let mut threads = Attributes::new(alloc);
     for attr in attrs {
         if attr.of_cores {
-            cores.push(attribute(alloc, cores.as_slice(), attr)?)?;
+            cores = with_attribute(alloc, cores, attr)?;
         } else {
-            threads.push(attribute(alloc, threads.as_slice(), attr)?)?;
+            threads = with_attribute(alloc, threads, attr)?;
         }
     }
-    Ok(Scope {
-        cores: Items::from_vec(cores),
-        threads: Items::from_vec(threads),
-    })
+    Ok(Scope { cores, threads })
 }
 
-/// An attribute behind those of its kind.
-fn attribute(alloc: Global, declared: &[Attr], attr: &AttrSyntax) -> Result<Attr, TypeFault>
-    requires { length declared.now < 2 ^ 32 }
-    ensures attr { IfOk result (λ a. a ≡ attr_meaning attr.now) }
-    ensures sound { IfOk result (λ a. attr_faults declared.now attr.now ≡ []) }
-    ensures fault { IfErr result (IsFirst (attr_faults declared.now attr.now)) }
+/// The attributes of a kind, and one more behind them.
+fn with_attribute<'a>(
+    alloc: Global,
+    declared: Attributes<'a>,
+    attr: &'a AttrSyntax,
+) -> Result<Attributes<'a>, TypeFault>
+    requires { length declared + 1 < 2 ^ 32 }
+    ensures more { IfOk result (λ more. more ≡ declared.entry ++ attr_meaning attr.now ∷ []) }
+    ensures sound { IfOk result (λ more. attr_faults declared.entry attr.now ≡ []) }
+    ensures fault { IfErr result (IsFirst (attr_faults declared.entry attr.now)) }
 {
-    if attribute_named(declared, attr.name.as_slice()).is_some() {
+    if declared.number_of(attr.name.as_slice()).is_some() {
         return Err(TypeFault::Twice(attr.at.saturating_add(1)));
     }
     if !is_attribute_range(attr) {
         return Err(TypeFault::BadRange(attr.range.at));
     }
+    Ok(declared.with(attr.name.as_slice(), attribute(alloc, attr)?)?)
+}
+
+/// The attribute that is declared, whose range is a right one.
+fn attribute(alloc: Global, attr: &AttrSyntax) -> Result<Attr, AllocError>
+    requires { is_attribute_range attr.now ≡ true }
+    ensures { IfOk result (λ a. a ≡ attr_meaning attr.now) }
+{
     Ok(Attr {
         name: copy_of_name(alloc, &attr.name)?,
         lo: int(&attr.range.low) as i32,

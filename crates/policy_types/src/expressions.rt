@@ -19,7 +19,7 @@ use policy_tree::{
 use sched_base::MAX_COEFFICIENT;
 use std::alloc::{AllocError, Global};
 
-impl Scope {
+impl Scope<'_> {
     /// The linear form of a factor, whatever rules it breaks.
     fn factor_product(&self, factor: &FactorSyntax) -> Product
         ensures is { IsProduct result (factor_meaning self.now factor.now) }

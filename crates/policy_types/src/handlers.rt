@@ -68,7 +68,7 @@ impl Given {
     }
 }
 
-impl Scope {
+impl Scope<'_> {
     /// The handlers.
     pub(crate) fn handlers(
         &self,

@@ -1,6 +1,7 @@
 //! Names, ranges and phases: which policy a syntax is, or the first rule of theirs that it breaks.
 #![tactic(auto)]
 
+mod attributes;
 mod conditions;
 mod declarations;
 mod expressions;

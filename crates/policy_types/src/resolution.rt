@@ -45,7 +45,7 @@ fn policy_of(alloc: Global, syntax: &Syntax) -> Result<Policy, TypeFault>
     scope.policy(alloc, name, load, syntax)
 }
 
-impl Scope {
+impl Scope<'_> {
     /// The policy of that name and load that declares this.
     fn policy(
         self,
@@ -55,9 +55,9 @@ impl Scope {
         syntax: &Syntax,
     ) -> Result<Policy, TypeFault>
         ensures policy { IfOk result (λ p. meaning_of p ≡
-            record (meaning_in self (syntax_tree syntax.now)) { name = name; load = load }) }
-        ensures sound { IfOk result (λ p. faults_in self (syntax_tree syntax.now) ≡ []) }
-        ensures fault { IfErr result (IsFirst (faults_in self (syntax_tree syntax.now))) }
+            record (meaning_in self.entry (syntax_tree syntax.now)) { name = name; load = load }) }
+        ensures sound { IfOk result (λ p. faults_in self.entry (syntax_tree syntax.now) ≡ []) }
+        ensures fault { IfErr result (IsFirst (faults_in self.entry (syntax_tree syntax.now))) }
     {
         let place = self.place(alloc, &syntax.place)?;
         let elect = self.elect(alloc, &syntax.elect)?;
@@ -69,8 +69,8 @@ impl Scope {
         Ok(Policy {
             name,
             load,
-            core_attrs: cores,
-            thread_attrs: threads,
+            core_attrs: cores.into_list(),
+            thread_attrs: threads.into_list(),
             place,
             elect,
             handlers,

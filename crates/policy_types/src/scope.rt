@@ -1,22 +1,23 @@
 //! What a policy declares, and what a word refers to there.
 
-ghost use Rattle.std.specs.Prelude.{◌≡◌, ◌<◌, ◌^◌, length};
-ghost use Rattle.policy_types.specs.References.{attribute_named, attributes_of, feature_among, feature_of, reference_of};
+ghost use Rattle.std.specs.Prelude.{◌≡◌};
+ghost use Rattle.policy_types.specs.References.{attributes_of, feature_among, feature_of, reference_of};
 
+use crate::attributes::Attributes;
 use crate::sites::{Feature, variable_of};
-use policy_tree::{Attr, AttrList, Name, Owner};
-use sched_base::VARIABLES;
+use policy_tree::{Name, Owner};
+use sched_base::MAX_VARIABLES;
 
 /// The attributes that a policy declares, of cores and of threads.
 #[derive(Drop)]
-pub struct Scope {
-    pub cores: AttrList,
-    pub threads: AttrList,
+pub struct Scope<'a> {
+    pub cores: Attributes<'a>,
+    pub threads: Attributes<'a>,
 }
 
-impl Scope {
+impl<'a> Scope<'a> {
     /// The attributes that the owner has.
-    fn attributes(&self, owner: Owner) -> &AttrList
+    fn attributes(&self, owner: Owner) -> &Attributes<'a>
         ensures { result.now ≡ attributes_of self.now owner }
     {
         match owner {
@@ -39,13 +40,13 @@ impl Scope {
     {
         match self.feature(owner, word) {
             Some(feature) => variable_of(owner, feature),
-            None => VARIABLES as u32,
+            None => MAX_VARIABLES as u32,
         }
     }
 }
 
 /// What the word says of an owner that has these attributes.
-pub(crate) fn feature_among(attrs: &AttrList, word: &Name) -> Option<Feature>
+pub(crate) fn feature_among(attrs: &Attributes, word: &Name) -> Option<Feature>
     ensures { result ≡ feature_among attrs.now word.now }
 {
     let bytes = word.as_slice();
@@ -58,19 +59,6 @@ pub(crate) fn feature_among(attrs: &AttrList, word: &Name) -> Option<Feature>
     } else if bytes == b"fresh".as_slice() {
         Some(Feature::Fresh)
     } else {
-        attribute_named(attrs.as_slice(), bytes)
+        attrs.number_of(bytes).map(Feature::Attribute)
     }
-}
-
-/// The first attribute of that name.
-pub(crate) fn attribute_named(attrs: &[Attr], word: &[u8]) -> Option<Feature>
-    requires { length attrs.now < 2 ^ 32 }
-    ensures { result ≡ attribute_named 0 attrs.now word.now }
-{
-    for at in 0..attrs.len() {
-        if attrs[at].name.as_slice() == word {
-            return Some(Feature::Attribute(at as u32));
-        }
-    }
-    None
 }

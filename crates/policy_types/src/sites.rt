@@ -3,8 +3,8 @@
 ghost use Rattle.std.specs.Prelude.{◌≡◌, ◌≤◌};
 ghost use Rattle.policy_types.specs.References.{allows, allows_put, attribute_from, variable_of};
 
-use policy_tree::{Event, Owner, Put};
-use sched_base::{MAX_ATTRIBUTES, VARIABLES};
+use policy_tree::{Event, Owner, Put, variables};
+use sched_base::{MAX_ATTRIBUTES, MAX_VARIABLES};
 
 /// Where an expression or a condition stands.
 #[derive(Clone, Copy)]
@@ -71,27 +71,30 @@ pub(crate) fn variable_of(owner: Owner, feature: Feature) -> u32
     ensures { result ≡ variable_of owner feature }
 {
     match (owner, feature) {
-        (Owner::Itself, Feature::Nr) => 0,
-        (Owner::Itself, Feature::Load) => 1,
-        (Owner::Victim | Owner::Core, Feature::Nr) => 2,
-        (Owner::Victim | Owner::Core, Feature::Load) => 3,
-        (Owner::Thread, Feature::Weight) => 4,
-        (Owner::Thread, Feature::Fresh) => 5,
-        (Owner::Itself, Feature::Attribute(at)) => attribute_from(6, at),
-        (Owner::Victim | Owner::Core, Feature::Attribute(at)) => attribute_from(14, at),
-        (Owner::Thread, Feature::Attribute(at)) => attribute_from(22, at),
-        _ => VARIABLES as u32,
+        (Owner::Itself, Feature::Nr) => variables::SELF_NR,
+        (Owner::Itself, Feature::Load) => variables::SELF_LOAD,
+        (Owner::Victim | Owner::Core, Feature::Nr) => variables::OTHER_NR,
+        (Owner::Victim | Owner::Core, Feature::Load) => variables::OTHER_LOAD,
+        (Owner::Thread, Feature::Weight) => variables::WEIGHT,
+        (Owner::Thread, Feature::Fresh) => variables::FRESH,
+        (Owner::Itself, Feature::Attribute(at)) => attribute_from(variables::SELF_ATTRIBUTES, at),
+        (Owner::Victim | Owner::Core, Feature::Attribute(at)) => attribute_from(
+            variables::OTHER_ATTRIBUTES,
+            at,
+        ),
+        (Owner::Thread, Feature::Attribute(at)) => attribute_from(variables::THREAD_ATTRIBUTES, at),
+        _ => MAX_VARIABLES as u32,
     }
 }
 
 /// The number of that attribute, where those of its kind have the numbers from the first on.
 fn attribute_from(first: u32, at: u32) -> u32
-    requires { first ≤ VARIABLES }
+    requires { first ≤ MAX_VARIABLES }
     ensures { result ≡ attribute_from first at }
 {
     if (at as usize) < MAX_ATTRIBUTES {
         first + at
     } else {
-        VARIABLES as u32
+        MAX_VARIABLES as u32
     }
 }

@@ -7,10 +7,10 @@ ghost use Rattle.policy_types.specs.Forms.{has_small_form, is_small};
 ghost use Rattle.policy_types.specs.Products.{IsForm, IsKnown, IsMoved, IsProduct, IsSize, with_sign};
 
 use crate::products::Product;
-use sched_base::{MAX_COEFFICIENT, VARIABLES};
+use sched_base::{MAX_COEFFICIENT, MAX_VARIABLES};
 
 /// The variables, and one behind them for what is none.
-pub(crate) const SLOTS: usize = VARIABLES + 1;
+pub(crate) const SLOTS: usize = MAX_VARIABLES + 1;
 
 /// The constant and the coefficient of each variable by its number. All of them are small.
 #[derive(Clone, Copy)]

@@ -1,5 +1,5 @@
--- Every thread that stands at a core has a burst to run next.
-use Rattle.std.proofs.Common.{◌≡◌, ℕ, zero, suc, ◌+◌, ◌==◌, ℤ, Bool, true, false, cond, List, [], ◌∷◌, map, fold, slice_get, All, IfSome, IsSome, is_some, Option, Some, None, option_and_then, refl, sym, ap, ap₂, subst, ◌∙◌, arith}
+-- Every thread that stands at a core has a burst to run next, and a unit of it is left.
+use Rattle.std.proofs.Common.{◌≡◌, ℕ, zero, suc, ◌+◌, ◌<◌, ◌==◌, nat_le, not, ◌&&◌, ℤ, Bool, true, false, cond, List, [], ◌∷◌, map, fold, slice_get, All, IfSome, IsSome, is_some, Option, Some, None, option_and_then, refl, sym, ap, ap₂, subst, ◌∙◌, arith}
 use Rattle.std.proofs.lemmas.Bool.Decides.{nat_tests}
 use Rattle.sched_base.specs.declared.task.Place.{Place}
 use Rattle.sched_base.specs.declared.task.Task.{Task}
@@ -22,7 +22,7 @@ use Rattle.round_model.specs.declared.plan.Planned.{Planned}
 use Rattle.round_model.specs.declared.state.Blocked.{Blocked}
 use Rattle.round_model.specs.declared.state.ModelCore.{ModelCore}
 use Rattle.round_model.specs.After.{after_from, effect, entered, moved, round_after, stolen, woken}
-use Rattle.round_model.specs.Bursts.{BurstsLaw, HasBurst, HaveBursts}
+use Rattle.round_model.specs.Bursts.{BurstsLaw, HasBurst, HaveBursts, LiesIn}
 use Rattle.round_model.specs.Cores.{Cores, opening_state}
 use Rattle.round_model.specs.Entries.{touches}
 use Rattle.round_model.specs.Fits.{Fits, IsLast, IsProgram, ThreadFits}
@@ -53,7 +53,8 @@ sets_keep p fresh consts (s ∷ sets) t =
 module _ (plan : Plan) where
   same_burst : (t u : Task) → IsSameButAttributes t u → HasBurst plan t → HasBurst plan u
   same_burst t u same has =
-      subst IsSome (sym (ap₂ (λ (id : ℕ) (place : Place). option_and_then (λ (q : Planned). slice_get q.bursts place.burst) (planned_of plan id)) same.id same.place)) has
+      let lies : ℕ → Place → Type 0 = λ id place. LiesIn place (option_and_then (λ (q : Planned). slice_get q.bursts place.burst) (planned_of plan id)) in
+      subst (λ id. lies id u.place) (sym same.id) (subst (lies t.id) (sym same.place) has)
 
   cases_keep : (p : Meaning) (fresh : Bool) (consts : List ℤ) (t : Task) (cases : List CaseTree) → HasBurst plan t
       → All (λ (o : Task × Put). HasBurst plan o.0) (map (outcome_of_case p fresh consts t) cases)
@@ -119,9 +120,14 @@ best_in P comes (x ∷ xs) each =
     let rest : All P xs = λ k d inside. each (suc k) d (omega arith) in
     best_of_all P comes x xs (best_and_rest comes xs) (each 0 x (omega arith)) rest (best_in P comes xs rest)
 
+-- a burst of a program has a unit
+some_unit : (b : Burst) (rest : List Burst) → IsProgram (b ∷ rest) → 0 < b.units
+some_unit b [] fits = let least = fits.0 in omega arith
+some_unit b (c ∷ rest) fits = let least = fits.0 in omega arith
+
 -- a burst that another follows, by what comes at its end
 follows : (bursts : List Burst) → IsProgram bursts → (at : ℕ) (b : Burst) → slice_get bursts at ≡ Some b → (rest : meeting_at_end b.ending ≡ ending_now → ⊥) → is_endless b.ending ≡ false
-    → IsSome (slice_get bursts (suc at))
+    → LiesIn (record { burst = suc at; done = 0 }) (slice_get bursts (suc at))
 follows [] fits at b is goes_on finite = absurd (cc)
 follows (c ∷ []) fits zero b is goes_on finite = let same : c ≡ b = cc in absurd (ends c.ending fits.2 (subst (λ (x : Burst). meeting_at_end x.ending ≡ ending_now → ⊥) (sym same) goes_on) (ap (λ (x : Burst). is_endless x.ending) same ∙ finite))
   where
@@ -131,28 +137,33 @@ follows (c ∷ []) fits zero b is goes_on finite = let same : c ≡ b = cc in ab
     ends ending.End last on fin = on refl
     ends ending.Forever last on fin = absurd (cc)
 follows (c ∷ []) fits (suc at) b is goes_on finite = absurd (cc)
-follows (c ∷ d ∷ rest) fits zero b is goes_on finite = refl
+follows (c ∷ d ∷ rest) fits zero b is goes_on finite = some_unit d rest fits.3
 follows (c ∷ d ∷ rest) fits (suc at) b is goes_on finite = follows (d ∷ rest) fits.3 at b is goes_on finite
 
 -- what a thread runs after a unit that doesn't end it
 burst_after : (p : Meaning) (cores : ℕ) (b : Burst) (place : Place) (found : Option Planned) → IfSome found (ThreadFits p cores)
-    → option_and_then (λ (q : Planned). slice_get q.bursts place.burst) found ≡ Some b → (meeting_of b place ≡ ending_now → ⊥)
-    → IsSome (option_and_then (λ (q : Planned). slice_get q.bursts (place_after b place).burst) found)
-burst_after p cores b place None fits is goes_on = absurd (cc)
-burst_after p cores b place (Some q) fits is goes_on = by_end (is_endless b.ending) refl
+    → option_and_then (λ (q : Planned). slice_get q.bursts place.burst) found ≡ Some b → place.done < b.units → (meeting_of b place ≡ ending_now → ⊥)
+    → LiesIn (place_after b place) (option_and_then (λ (q : Planned). slice_get q.bursts (place_after b place).burst) found)
+burst_after p cores b place None fits is left goes_on = absurd (cc)
+burst_after p cores b place (Some q) fits is left goes_on = by_end (is_endless b.ending) refl
   where
-    stays : IsSome (slice_get q.bursts place.burst)
-    stays = ap is_some is
+    lies : Place → Type 0
+    lies at = LiesIn at (slice_get q.bursts at.burst)
 
-    by_end : (endless : Bool) → is_endless b.ending ≡ endless → IsSome (slice_get q.bursts (cond endless place (cond (is_last_unit b place) (record { burst = place.burst + 1; done = 0 }) (record place { done = place.done + 1 }))).burst)
-    by_end true e = stays
+    stays : (done : ℕ) → done < b.units → lies (record place { done = done })
+    stays done within = subst (LiesIn (record place { done = done })) (sym is) within
+
+    by_end : (endless : Bool) → is_endless b.ending ≡ endless → lies (cond endless place (cond (is_last_unit b place) (record { burst = place.burst + 1; done = 0 }) (record place { done = place.done + 1 })))
+    by_end true e = stays place.done left
     by_end false e = by_last (is_last_unit b place) refl
       where
-        by_last : (last : Bool) → is_last_unit b place ≡ last → IsSome (slice_get q.bursts (cond last (record { burst = place.burst + 1; done = 0 }) (record place { done = place.done + 1 })).burst)
+        by_last : (last : Bool) → is_last_unit b place ≡ last → lies (cond last (record { burst = place.burst + 1; done = 0 }) (record place { done = place.done + 1 }))
         by_last true last =
-            subst (λ (n : ℕ). IsSome (slice_get q.bursts n)) (omega arith)
+            subst (λ (n : ℕ). lies (record { burst = n; done = 0 })) (omega arith)
             (follows q.bursts fits.program place.burst b is (λ ends. goes_on (ap (λ x. cond x (meeting_at_end b.ending) tick) last ∙ ends)) e)
-        by_last false last = stays
+        by_last false last =
+            let more : nat_le b.units (place.done + 1) ≡ false = sym (ap (λ (x : Bool). not x && nat_le b.units (place.done + 1)) e) ∙ last in
+            stays (place.done + 1) (grind (arith, nat_tests))
 
 -- the core after it elected
 elected_keeps : (p : Meaning) (plan : Plan) (core : ModelCore) (current : Option Task) → HaveBursts plan core → HaveBursts plan (elected_over p core current)
@@ -164,8 +175,8 @@ elected_keeps p plan core None have = with_best (best_and_rest (before p.elect) 
 elected_keeps p plan core (Some t) have = have
 
 module _ (p : Meaning) (plan : Plan) (fits : Fits p plan) where
-  ran_keeps : (t : Task) (b : Burst) → burst_of plan t ≡ Some b → (meeting_of b t.place ≡ ending_now → ⊥) → HasBurst plan (record t { place = place_after b t.place })
-  ran_keeps t b is goes_on = burst_after p plan.cores b t.place (planned_of plan t.id) (find-All (is_thread t.id) (ThreadFits p plan.cores) plan.threads fits.threads) is goes_on
+  ran_keeps : (t : Task) (b : Burst) → burst_of plan t ≡ Some b → t.place.done < b.units → (meeting_of b t.place ≡ ending_now → ⊥) → HasBurst plan (record t { place = place_after b t.place })
+  ran_keeps t b is left goes_on = burst_after p plan.cores b t.place (planned_of plan t.id) (find-All (is_thread t.id) (ThreadFits p plan.cores) plan.threads fits.threads) is left goes_on
 
   meeting_keeps : (round : ℕ) (m : Meeting) (t : Task) (core : ModelCore) → HaveBursts plan core → ((m ≡ ending_now → ⊥) → HasBurst plan t) → HaveBursts plan (after_meeting p round m t core).core
   meeting_keeps round tick t core have has = event_keeps plan p event.Tick false 0 t core have (has (λ e. absurd (cc)))
@@ -173,29 +184,34 @@ module _ (p : Meaning) (plan : Plan) (fits : Fits p plan) where
   meeting_keeps round (blocking rounds) t core have has = event_keeps plan p event.Block false (round + rounds) t core have (has (λ e. absurd (cc)))
   meeting_keeps round ending_now t core have has = have
 
-  unit_keeps : (round : ℕ) (core : ModelCore) (t : Task) (found : Option Burst) → burst_of plan t ≡ found → HaveBursts plan core → HaveBursts plan (after_unit p round core t found).core
-  unit_keeps round core t None is have = have
-  unit_keeps round core t (Some b) is have =
-      meeting_keeps round (meeting_of b t.place) (record t { place = place_after b t.place }) (record core { current = None }) (record { current = tt; queue = have.queue; blocked = have.blocked }) (ran_keeps t b is)
+  unit_keeps : (round : ℕ) (core : ModelCore) (t : Task) (found : Option Burst) → burst_of plan t ≡ found → LiesIn t.place found → HaveBursts plan core → HaveBursts plan (after_unit p round core t found).core
+  unit_keeps round core t None is left have = have
+  unit_keeps round core t (Some b) is left have =
+      meeting_keeps round (meeting_of b t.place) (record t { place = place_after b t.place }) (record core { current = None }) (record { current = tt; queue = have.queue; blocked = have.blocked }) (ran_keeps t b is left)
 
-  run_keeps : (round : ℕ) (core : ModelCore) (current : Option Task) → HaveBursts plan core → HaveBursts plan (run_over p plan round core current).core
-  run_keeps round core None have = have
-  run_keeps round core (Some t) have = unit_keeps round core t (burst_of plan t) refl have
+  run_keeps : (round : ℕ) (core : ModelCore) (current : Option Task) → IfSome current (HasBurst plan) → HaveBursts plan core → HaveBursts plan (run_over p plan round core current).core
+  run_keeps round core None has have = have
+  run_keeps round core (Some t) has have = unit_keeps round core t (burst_of plan t) refl has have
 
   work_keeps : (round : ℕ) (core : ModelCore) → HaveBursts plan core → HaveBursts plan (core_after_work p plan round core)
   unfolding worked
-  work_keeps round core have = run_keeps round (elected p core) (elected p core).current (elected_keeps p plan core core.current have)
+  work_keeps round core have =
+      let chosen = elected_keeps p plan core core.current have in
+      run_keeps round (elected p core) (elected p core).current chosen.current chosen
 
   enters_with : (t : Planned) (thread : ℕ) → planned_of plan thread ≡ Some t → HasBurst plan (entering_task p t)
   enters_with t thread is =
       let passes = find-passes (is_thread thread) plan.threads t is in
       let same : t.id ≡ thread = grind (arith, nat_tests) in
       let thread_fits = subst (λ (found : Option Planned). IfSome found (ThreadFits p plan.cores)) is (find-All (is_thread thread) (ThreadFits p plan.cores) plan.threads fits.threads) in
-      subst (λ (found : Option Planned). IsSome (option_and_then (λ (q : Planned). slice_get q.bursts 0) found)) (sym (ap (planned_of plan) same ∙ is)) (first_of t.bursts thread_fits.program)
+      subst (λ (found : Option Planned). LiesIn begins (option_and_then (λ (q : Planned). slice_get q.bursts 0) found)) (sym (ap (planned_of plan) same ∙ is)) (first_of t.bursts thread_fits.program)
     where
-      first_of : (bursts : List Burst) → IsProgram bursts → IsSome (slice_get bursts 0)
+      begins : Place
+      begins = record { burst = 0; done = 0 }
+
+      first_of : (bursts : List Burst) → IsProgram bursts → LiesIn begins (slice_get bursts 0)
       first_of [] program = absurd program
-      first_of (b ∷ bursts) program = refl
+      first_of (b ∷ bursts) program = some_unit b bursts program
 
   moved_keeps : (round : ℕ) (e : Entry) (m : Cores) → ((c : ℕ) → HaveBursts plan (m c)) → (c : ℕ) → HaveBursts plan (moved p plan round e m c)
   unfolding effect

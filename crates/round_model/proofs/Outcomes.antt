@@ -14,22 +14,22 @@ use Rattle.round_model.specs.declared.plan.Plan.{Plan}
 use Rattle.round_model.specs.Attempts.{attempt_on, present_values, steal_or_fail}
 use Rattle.round_model.specs.Choices.{candidates_of, choice_of, is_candidate, is_less, no_values, prefers, target_by, target_of, values_in}
 use Rattle.round_model.specs.Cores.{Cores}
-use Rattle.round_model.specs.Outcomes.{loot_of}
+use Rattle.round_model.specs.Outcomes.{entry_with}
 use Rattle.round_model.specs.Work.{before}
 
-steal-loot : (by from : ℕ) (reads : List ℕ) (best : Option Task) → steal_or_fail by from reads best ≡ loot_of by from reads (option_map (λ t. t.id) best)
-steal-loot by from reads None = refl
-steal-loot by from reads (Some t) = refl
+steal-entry : (by from : ℕ) (reads : List ℕ) (best : Option Task) → steal_or_fail by from reads best ≡ entry_with by from reads (option_map (λ t. t.id) best)
+steal-entry by from reads None = refl
+steal-entry by from reads (Some t) = refl
 
 -- an attempt where the filter holds takes the best of the queue
 pub attempt_taken : (p : Meaning) (plan : Plan) (m : Cores) (a : ℕ) (reads : List ℕ) (v : ℕ) (taken : Option ℕ)
     → holds (pair_values (present_values plan m a) (present_values plan m v)) p.filter ≡ true
     → taken ≡ option_map (λ t. t.id) (best_of (before p.steal) (m v).queue)
-    → attempt_on p plan m a reads v ≡ loot_of a v reads taken
+    → attempt_on p plan m a reads v ≡ entry_with a v reads taken
 attempt_taken p plan m a reads v taken passes is =
     let best = best_of (before p.steal) (m v).queue in
     ap (λ b. cond b (steal_or_fail a v reads best) (entry.Fail a v reads)) passes
-    ∙ (steal-loot a v reads best ∙ ap (loot_of a v reads) (sym is))
+    ∙ (steal-entry a v reads best ∙ ap (entry_with a v reads) (sym is))
 
 -- by two orders that agree on these items the best is the same, and one of them
 best_same : {X : Type 0} (first second : X → X → Bool) (P : X → Type 0) → ((x y : X) → P x → P y → first x y ≡ second x y)

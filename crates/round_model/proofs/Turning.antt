@@ -30,7 +30,7 @@ use Rattle.round_model.specs.Rows.{PlacementReads}
 use Rattle.round_model.specs.Scenes.{Scene, entering_next, has_attempted, has_worked, own_entries, scene_of, waking_next}
 use Rattle.round_model.specs.Serial.{attempt_step, enter_step, late_step, step_of, wake_step, with_entry, with_placed, with_work}
 use Rattle.round_model.specs.Turns.{IsLateStepOf, IsStepOf, MayAdd, placement_by, step_of_dids, with_step}
-use Rattle.round_model.specs.Bursts.{HasBurst, HaveBursts}
+use Rattle.round_model.specs.Bursts.{HasBurst, HaveBursts, LiesIn}
 use Rattle.round_model.specs.Fits.{Fits}
 use Rattle.round_model.specs.Units.{IsUnit, dids_of_unit}
 use Rattle.round_model.specs.Work.{worked}
@@ -220,6 +220,6 @@ never_stuck p plan round h a core unit.Idle told fits same is tells none = let n
 never_stuck p plan round h a core unit.Stuck told fits same is tells none =
     let have = subst (HaveBursts plan) (sym same) (have_bursts p plan h a fits) in
     let has = subst (λ (t : Option Task). IfSome t (HasBurst plan)) is.runs (elects_burst p plan core have) in
-    let lacks = ap is_some is.lacks in absurd (cc)
+    subst (LiesIn is.task.place) is.lacks has
 never_stuck p plan round h a core (unit.Met place t put wake) told fits same is tells none = let no_words = ap option_to_list none in absurd (cc)
 never_stuck p plan round h a core (unit.Over place id) told fits same is tells none = let no_words = ap option_to_list none in absurd (cc)

@@ -1,8 +1,10 @@
--- Every thread that stands at a core has a burst to run next.
-use Rattle.std.specs.Prelude.{ℕ, List, All, IfSome, IsSome}
+-- Every thread that stands at a core has a burst to run next, and a unit of it is left.
+use Rattle.std.specs.Prelude.{ℕ, ◌<◌, List, All, IfSome, Option, Some, None}
+use Rattle.sched_base.specs.declared.task.Place.{Place}
 use Rattle.sched_base.specs.declared.task.Task.{Task}
 use Rattle.policy_tree.specs.Meaning.{Meaning}
 use Rattle.round_model.specs.declared.entry.Entry.{Entry}
+use Rattle.round_model.specs.declared.plan.Burst.{Burst}
 use Rattle.round_model.specs.declared.plan.Plan.{Plan}
 use Rattle.round_model.specs.declared.state.Blocked.{Blocked}
 use Rattle.round_model.specs.declared.state.ModelCore.{ModelCore}
@@ -10,9 +12,14 @@ use Rattle.round_model.specs.After.{after}
 use Rattle.round_model.specs.Fits.{Fits}
 use Rattle.round_model.specs.Programs.{burst_of}
 
--- the plan has the burst that the thread runs next
+-- the place lies in the burst: a unit is left
+abbrev pub LiesIn : Place → Option Burst → Type 0
+LiesIn place None = ⊥
+LiesIn place (Some b) = place.done < b.units
+
+-- the plan has the burst that the thread runs next, and the thread's place lies in it
 abbrev pub HasBurst : Plan → Task → Type 0
-HasBurst plan t = IsSome (burst_of plan t)
+HasBurst plan t = LiesIn t.place (burst_of plan t)
 
 -- each thread of the core has one
 pub record HaveBursts (plan : Plan) (core : ModelCore) : Type 0 where

@@ -25,9 +25,9 @@ entry_of_attempt a reads (attempt.Fail from) = entry.Fail a from reads
 entry_of_attempt a reads (attempt.Steal from thread) = entry.Steal a from thread reads
 
 -- the entry of an attempt on that core, with the thread that may be taken
-abbrev pub loot_of : (a from : ℕ) → List ℕ → Option ℕ → Entry
-loot_of a from reads None = entry.Fail a from reads
-loot_of a from reads (Some thread) = entry.Steal a from thread reads
+abbrev pub entry_with : (a from : ℕ) → List ℕ → Option ℕ → Entry
+entry_with a from reads None = entry.Fail a from reads
+entry_with a from reads (Some thread) = entry.Steal a from thread reads
 
 -- the core's threads can be counted
 abbrev pub IsCountable : ModelCore → Type 0

@@ -12,7 +12,7 @@ ghost use Rattle.round_model.specs.Attempts.{attempt_on, attempt_with, present_v
 ghost use Rattle.round_model.specs.Bounds.{CoreInBounds};
 ghost use Rattle.round_model.specs.Cores.{Cores, listed};
 ghost use Rattle.round_model.specs.Fits.{Fits};
-ghost use Rattle.round_model.specs.Outcomes.{IsCountable, entry_of_attempt, loot_of};
+ghost use Rattle.round_model.specs.Outcomes.{IsCountable, entry_of_attempt, entry_with};
 ghost use Rattle.round_model.specs.Work.{before};
 ghost use Rattle.round_model.specs.declared.state.ModelCore.{ModelCore};
 
@@ -61,7 +61,7 @@ pub(crate) fn outcome(
 {
     match chosen {
         None => Attempt::Pass,
-        Some(victim) => match loot(policy, plan, state, core, victim) {
+        Some(victim) => match stealable(policy, plan, state, core, victim) {
             None => Attempt::Fail(victim),
             Some(thread) => Attempt::Steal(victim, thread),
         },
@@ -69,7 +69,7 @@ pub(crate) fn outcome(
 }
 
 /// The thread that the core may take of the victim: the best of its queue, where the filter holds of both.
-fn loot(
+fn stealable(
     policy: &Policy,
     plan: &Plan,
     state: &State,
@@ -82,7 +82,7 @@ fn loot(
     requires core { core < plan.now.cores }
     requires victim { victim < plan.now.cores }
     ensures { (m : Cores) (reads : List ℕ) → state.now ≡ listed plan.now.cores m →
-        attempt_on (meaning_of policy.now) plan.now m core reads victim ≡ loot_of core victim reads result }
+        attempt_on (meaning_of policy.now) plan.now m core reads victim ≡ entry_with core victim reads result }
 {
     if filter_holds(policy, plan, state, core, victim) {
         best_queued(policy, state, victim)

@@ -1,6 +1,7 @@
 //! Whether an entry is legal next.
 
 ghost use Rattle.std.specs.Prelude.{◌≡◌, ◌↔◌, ◌-◌, ◌<◌, ◌^◌, IsTrue};
+ghost use Rattle.sched_base.specs.declared.limits.TheConstants.{MAX_ENTRIES};
 ghost use Rattle.policy_tree.specs.Meaning.{Meaning, meaning_of};
 ghost use Rattle.policy_eval.specs.Obligations.{MeetsHandlerObligations};
 ghost use Rattle.round_model.specs.declared.entry.Entry.TheVariants as entry;
@@ -8,6 +9,7 @@ ghost use Rattle.round_model.specs.Fits.{Fits};
 ghost use Rattle.round_model.specs.Legal.{LegalInRound, LegalNext, LegalRound};
 ghost use Rattle.round_model.specs.Outcomes.{entry_of_attempt};
 ghost use Rattle.round_model.specs.Past.{IsPastOf, OfEach};
+ghost use Rattle.round_model.specs.Steps.{IsNextAfter};
 
 use crate::attempts::Attempt;
 use crate::entry::{Did, Entry};
@@ -21,6 +23,19 @@ use sched_base::{CoreId, Reads, ThreadId};
 
 /// Whether the entry is legal after each history that the past stands for. It takes no memory.
 pub fn step_ok(policy: &Policy, plan: &Plan, past: &Past, entry: &Entry) -> bool
+    requires fits { Fits (meaning_of policy.now) plan.now }
+    requires handlers { MeetsHandlerObligations (meaning_of policy.now) }
+    requires past { IsPastOf (meaning_of policy.now) plan.now past.now }
+    ensures legal { OfEach (meaning_of policy.now) plan.now past.now
+        (λ history. IsTrue result ↔ LegalNext (meaning_of policy.now) plan.now history entry.now) }
+    // So where it says yes, and the past stands for a history with room for an entry more, `step` may be called.
+    ensures next { IsTrue result → past.now.entries < MAX_ENTRIES → OfEach (meaning_of policy.now) plan.now past.now
+        (λ history. IsNextAfter (meaning_of policy.now) plan.now past.now entry.now) }
+{
+    is_legal(policy, plan, past, entry)
+}
+
+fn is_legal(policy: &Policy, plan: &Plan, past: &Past, entry: &Entry) -> bool
     requires fits { Fits (meaning_of policy.now) plan.now }
     requires handlers { MeetsHandlerObligations (meaning_of policy.now) }
     requires past { IsPastOf (meaning_of policy.now) plan.now past.now }

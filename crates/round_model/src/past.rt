@@ -89,6 +89,15 @@ impl Past {
         &self.state
     }
 
+    /// The number of entries so far.
+    pub fn entries(&self) -> u32
+        ensures entries { result ≡ self.now.entries }
+        ensures length { (p : Meaning) (plan : Plan) (history : List Entry) → StandsFor p plan self.now history →
+            result ≡ length history }
+    {
+        self.entries
+    }
+
     /// The position just after the last Round.
     pub(crate) fn start(&self) -> Pos
         requires { IsWindow self.now }

@@ -61,8 +61,8 @@ pub const MAX_NESTING: usize = 32;
 /// The greatest magnitude of a coefficient or a constant in an expression's linear form.
 pub const MAX_COEFFICIENT: i64 = 1_099_511_627_776;
 
-/// The variables of an expression are numbered from 0 and below this.
-pub const VARIABLES: usize = 30;
+/// The variables of an expression are numbered from 0 and below this; a system has at most as many.
+pub const MAX_VARIABLES: usize = 30;
 
 /// The most conjunctive cases of an obligation.
 pub const MAX_SYSTEM_CASES: u32 = 256;
@@ -70,8 +70,23 @@ pub const MAX_SYSTEM_CASES: u32 = 256;
 /// The most rows of a system.
 pub const MAX_ROWS: usize = 256;
 
+/// The greatest magnitude of an end of a variable's range in a system.
+pub const MAX_END: u64 = 2_199_023_255_552;
+
+/// The greatest magnitude of a coefficient in a row of a system.
+pub const MAX_ROW_COEFFICIENT: u64 = 4_398_046_511_104;
+
+/// The greatest magnitude of the right side of a row of a system.
+pub const MAX_ROW_BOUND: u64 = 4_611_686_018_427_387_904;
+
 /// The most points of a system that the checker promises to decide.
 pub const CHECK_BUDGET: u64 = 65_536;
+
+/// The most bytes of a word in a policy's text, and so of a name.
+pub const MAX_NAME_BYTES: u32 = 32;
+
+/// The most digits of a number in a line of a trace, leading zeros counted.
+pub const MAX_DIGITS: usize = 19;
 
 /// The most bytes of a policy's text.
 pub const MAX_POLICY_BYTES: u64 = 65_536;

@@ -26,7 +26,7 @@ use Rattle.round_model.specs.declared.state.Blocked.{Blocked}
 use Rattle.round_model.specs.declared.state.ModelCore.{ModelCore}
 use Rattle.round_model.specs.After.{after, round_of}
 use Rattle.round_model.specs.Attempts.{attempt_of, attempt_with, present_values, steal_or_fail}
-use Rattle.round_model.specs.Bursts.{HasBurst, HaveBursts}
+use Rattle.round_model.specs.Bursts.{HasBurst, HaveBursts, LiesIn}
 use Rattle.round_model.specs.Choices.{choice_of}
 use Rattle.round_model.specs.Cores.{Cores}
 use Rattle.round_model.specs.Fits.{Fits, ThreadFits}
@@ -59,8 +59,8 @@ module _ (p : Meaning) (plan : Plan) (fits : Fits p plan) where
   numbered : (t : Task) → HasBurst plan t → IsThreadNumber t.id
   numbered t has = by_found (planned_of plan t.id) refl has
     where
-      by_found : (found : Option Planned) → planned_of plan t.id ≡ found → IsSome (option_and_then (λ (q : Planned). slice_get q.bursts t.place.burst) found) → IsThreadNumber t.id
-      by_found None is has_one = absurd (cc)
+      by_found : (found : Option Planned) → planned_of plan t.id ≡ found → LiesIn t.place (option_and_then (λ (q : Planned). slice_get q.bursts t.place.burst) found) → IsThreadNumber t.id
+      by_found None is has_one = absurd has_one
       by_found (Some q) is has_one =
           let passes = find-passes (is_thread t.id) plan.threads q is in
           let same : q.id ≡ t.id = grind (arith, nat_tests) in

@@ -1,5 +1,5 @@
 -- The text of a history: a line for each entry, in the order of the entries.
-use Rattle.std.specs.Prelude.{ℕ, List, [], ◌∷◌, ◌++◌, codes, decimal}
+use Rattle.std.specs.Prelude.{ℕ, List, [], ◌∷◌, ◌++◌, codes, decimal, map}
 use Rattle.std.specs.List.{flat_map}
 use Rattle.round_model.specs.declared.entry.Did.{Did}
 use Rattle.round_model.specs.declared.entry.Did.TheVariants as did
@@ -35,6 +35,10 @@ words_of_entry (entry.Pass by reads) = codes "pass" ++ spaced (by ∷ []) ++ cod
 -- the line of an entry, with its line feed
 abbrev pub line_of_entry : Entry → List ℕ
 line_of_entry e = words_of_entry e ++ codes "\n"
+
+-- the lines of a history's text
+abbrev pub lines_of_history : List Entry → List (List ℕ)
+lines_of_history entries = map line_of_entry entries
 
 -- the text of a history
 abbrev pub text_of_history : List Entry → List ℕ

@@ -1,10 +1,9 @@
 //! How an entry is written.
 
-ghost use Rattle.std.specs.Prelude.{◌≡◌, ◌+◌, ◌≤◌, ℕ, List, [], ◌++◌, All, OnOk, OnErr, codes, length};
-ghost use Rattle.sched_io.specs.Faults.{Rose};
-ghost use Rattle.sched_io.specs.Written.{Adds, AddsPart};
+ghost use Rattle.std.specs.Prelude.{◌≡◌, ◌+◌, ◌≤◌, ℕ, List, [], ◌++◌, All, codes, length};
+ghost use Rattle.sched_io.specs.Puts.{Puts};
 ghost use Rattle.sched_history.specs.Ranges.{IsPrintable};
-ghost use Rattle.sched_history.specs.Spelling.{line_of_entry, spaced, spaced_number, text_of_history, words_of_entry, words_of_work};
+ghost use Rattle.sched_history.specs.Spelling.{line_of_entry, lines_of_history, spaced, spaced_number, words_of_entry, words_of_work};
 
 use round_model::{Did, Entry};
 use sched_base::{CoreId, Reads};
@@ -13,10 +12,7 @@ use sched_io::{LINE_ROOM, Line, NUMBER_ROOM, PutFault, Sink, put_all};
 /// Writes the text of the history, a line at a time.
 pub fn put_history<S: Sink>(out: &mut S, entries: &[Entry]) -> Result<(), PutFault>
     requires { All IsPrintable entries.now }
-    ensures whole { OnOk result (Adds (text_of_history entries.now) (S.written out.old) (S.written out.new)) }
-    ensures part { OnErr result (AddsPart (text_of_history entries.now) (S.written out.old) (S.written out.new)) }
-    ensures failed { OnErr result (Rose (S.faults out.old) (S.faults out.new)) }
-    ensures steady { OnOk result (S.faults out.new ≡ S.faults out.old) }
+    ensures { Puts (lines_of_history entries.now) result (S.shown out.old) (S.shown out.new) }
 {
     for entry in entries {
         let mut line = Line::new();

@@ -1,2 +1,3 @@
-pub mod LoadsLemmas
+pub mod PieceLemmas
+pub mod PutsLemmas
 pub mod WrittenLemmas

@@ -3,6 +3,8 @@ pub mod Faults
 pub mod InMemory
 pub mod Loads
 pub mod MemoryFiles
+pub mod Puts
+pub mod Shown
 pub mod Sinks
 pub mod Told
 pub mod Written

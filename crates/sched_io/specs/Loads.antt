@@ -1,5 +1,6 @@
 -- What a source of files was asked for.
-use Rattle.std.specs.Prelude.{◌≡◌, ℕ, List, ◌++◌, Option, Some, None}
+use Rattle.std.specs.Prelude.{ℕ, List, Option}
+use Rattle.sched_io.specs.Written.{Grows}
 
 -- a load of the file of that name, with room for so many bytes
 pub record Request : Type 0 where
@@ -9,9 +10,6 @@ pub record Request : Type 0 where
 abbrev pub request : List ℕ → ℕ → Request
 request name limit = record { name = name; limit = limit }
 
--- These loads were made after those that the source told of: where it tells of its loads now it did so before, and these
--- came behind them.
+-- these loads were made after those that the source told of
 abbrev pub Asks : List Request → Option (List Request) → Option (List Request) → Type 0
-Asks requests before None = Unit {0}
-Asks requests None (Some after) = ⊥
-Asks requests (Some before) (Some after) = after ≡ before ++ requests
+Asks requests before after = Grows requests before after

@@ -1,8 +1,9 @@
 -- The sinks in memory, as contracts see them.
-use Rattle.std.specs.Prelude.{◌≢◌, ℕ, List, [], Option, ◌+◌, ◌<◌, ◌⊎◌, Contains, length}
+use Rattle.std.specs.Prelude.{◌≢◌, ℕ, List, [], None, Option, Some, ◌+◌, ◌<◌, ◌⊎◌, Contains, length}
 use Rattle.sched_io.specs.declared.memory_sink.MemorySink.{MemorySink}
 use Rattle.sched_io.specs.declared.steady_sink.SteadySink.{SteadySink}
-use Rattle.sched_io.specs.InMemory.{told_unless}
+use Rattle.sched_io.specs.InMemory.{pieces_in, told_unless}
+use Rattle.sched_io.specs.Shown.{Shown}
 
 -- the bytes that the sink was given
 abbrev pub bytes_of : MemorySink → List ℕ
@@ -23,6 +24,13 @@ puts_of s = s.puts
 abbrev pub put_faults_of : MemorySink → ℕ
 put_faults_of s = s.faults
 
+-- the pieces that the sink was offered, as long as there was memory to keep them
+abbrev pub offered_to : MemorySink → Option (List (List ℕ))
+offered_to s = pieces_in s.offered
+
+abbrev pub shown_by_memory : MemorySink → Shown
+shown_by_memory s = record { written = Some (bytes_of s); offered = offered_to s; faults = put_faults_of s }
+
 -- the next put of this piece fails: it isn't empty, and its number was chosen or there is no room for it
 abbrev pub FailsNext : MemorySink → List ℕ → Type 0
 FailsNext s piece =
@@ -42,3 +50,7 @@ steady_faults_of s = 0
 -- what it tells: its bytes, unless some were dropped
 abbrev pub told_by_steady : SteadySink → Option (List ℕ)
 told_by_steady s = told_unless s.overflowed s.bytes.items
+
+-- it doesn't tell the pieces that it was offered
+abbrev pub shown_by_steady : SteadySink → Shown
+shown_by_steady s = record { written = told_by_steady s; offered = None; faults = steady_faults_of s }

@@ -1,7 +1,7 @@
 //! The edge to the outside world: where files come from, where output goes, and where workers meet.
 #![tactic(auto)]
 
-mod adapters;
+mod disk_files;
 mod faults;
 mod gates;
 mod lines;
@@ -10,8 +10,9 @@ mod memory_sink;
 mod sinks;
 mod sources;
 mod steady_sink;
+mod writer_sink;
 
-pub use adapters::{DiskFiles, StdoutSink};
+pub use disk_files::{DiskFiles, load_from};
 pub use faults::{IoMemory, LoadFault, MOST_FAULTS, PutFault};
 pub use gates::{Gate, OpenGate};
 pub use lines::{LINE_ROOM, Line, NUMBER_ROOM};
@@ -20,3 +21,4 @@ pub use memory_sink::MemorySink;
 pub use sinks::{Sink, put_all};
 pub use sources::Files;
 pub use steady_sink::SteadySink;
+pub use writer_sink::{StdoutSink, WriterSink};

@@ -1,6 +1,6 @@
 //! Files in memory.
 
-ghost use Rattle.std.specs.Prelude.{◌≡◌, ◌≢◌, ℕ, ◌<◌, ◌≤◌, ◌⊎◌, List, [], ◌∷◌, Contains, IfOk, IsErrOf, MatchOption, None, Some, length, map, string_bytes, vec_len};
+ghost use Rattle.std.specs.Prelude.{◌≡◌, ◌≢◌, ℕ, ◌<◌, ◌≤◌, ◌⊎◌, List, [], ◌∷◌, Contains, IfOk, IsErrOf, MatchOption, None, Some, length, map, min, ◌+◌, string_bytes, vec_len};
 ghost use Rattle.sched_io.specs.Faults.{Rose};
 ghost use Rattle.sched_io.specs.InMemory.{told_among};
 ghost use Rattle.sched_io.specs.Loads.{Asks, request};
@@ -109,6 +109,7 @@ impl Files for MemoryFiles {
         ensures only_chosen { IsErrOf result LoadFault.Failed →
             Contains (failing_of self.old) (loads_of self.old) ⊎ (told_by self.old name.now ≡ missing) }
         ensures failing { failing_of self.new ≡ failing_of self.old }
+        ensures counted { loads_of self.new ≡ min (loads_of self.old + 1) u64.MAX }
     {
         let fails = self.failing.contains(&self.loads);
         self.loads = self.loads.saturating_add(1);

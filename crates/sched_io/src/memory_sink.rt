@@ -1,19 +1,23 @@
 //! A sink in memory, of which chosen puts fail.
 
-ghost use Rattle.std.specs.Prelude.{◌≡◌, ◌≢◌, ◌+◌, ◌<◌, ◌≤◌, ◌↔◌, [], Some, IfOk, IsErr, OnErr, OnOk, length, min, take, vec_len, vec_capacity};
-ghost use Rattle.sched_io.specs.Faults.{Rose};
-ghost use Rattle.sched_io.specs.Written.{Adds};
+ghost use Rattle.std.specs.Prelude.{◌≡◌, ◌≢◌, ◌+◌, ◌<◌, ◌≤◌, ◌↔◌, [], ◌∷◌, None, Some, IfOk, MatchOption, map, vec_len, vec_capacity};
+ghost use Rattle.sched_io.specs.InMemory.{pieces_in};
+ghost use Rattle.sched_io.specs.Written.{Grows};
 
 use crate::faults::{IoMemory, PutFault};
 use crate::sinks::Sink;
 use std::alloc::Global;
+use std::mem;
 
-/// A sink in memory with a room that it took when it was made. It tells its bytes and takes whole pieces.
+/// A sink in memory with a room that it took when it was made. It tells its bytes and takes whole pieces, and it tells
+/// these as long as there is memory to keep them.
 #[derive(Drop)]
 pub struct MemorySink {
+    alloc: Global,
     bytes: Vec<u8>,
     room: usize,
     failing: Vec<u64>,
+    offered: Option<Vec<Vec<u8>>>,
     puts: u64,
     faults: u64,
     ghost within: { vec_len bytes ≤ room },
@@ -21,21 +25,23 @@ pub struct MemorySink {
 }
 
 impl MemorySink {
-    ghost use Rattle.sched_io.specs.Sinks.{bytes_of, failing_puts_of, put_faults_of, puts_of, room_of};
+    ghost use Rattle.sched_io.specs.Sinks.{bytes_of, failing_puts_of, offered_to, put_faults_of, puts_of, room_of};
 
     /// An empty sink with room for so many bytes, of which the puts with the numbers in `failing` fail. Puts of pieces
     /// that aren't empty have numbers, from 0.
     pub fn new(alloc: Global, room: u64, failing: Vec<u64>) -> Result<MemorySink, IoMemory>
-        ensures empty { IfOk result (λ sink. bytes_of sink ≡ []) }
+        ensures empty { IfOk result (λ sink. (bytes_of sink ≡ []) × (offered_to sink ≡ Some [])) }
         ensures room { IfOk result (λ sink. room_of sink ≡ room) }
         ensures failing { IfOk result (λ sink. failing_puts_of sink ≡ failing.items) }
         ensures counts { IfOk result (λ sink. (puts_of sink ≡ 0) × (put_faults_of sink ≡ 0)) }
     {
         let bytes = Vec::with_capacity(alloc, room as usize)?;
         Ok(MemorySink {
+            alloc,
             bytes,
             room: room as usize,
             failing,
+            offered: Some(Vec::new(alloc)),
             puts: 0,
             faults: 0,
         })
@@ -47,27 +53,38 @@ impl MemorySink {
     {
         self.bytes.as_slice()
     }
+
+    /// The pieces that it was offered, as long as there was memory to keep them.
+    pub fn offered(&self) -> Option<&[Vec<u8>]>
+        ensures { MatchOption result (offered_to self.now ≡ None) (λ kept. offered_to self.now ≡ Some (map (λ piece. piece.items) kept.now)) }
+    {
+        match &self.offered {
+            Some(kept) => Some(kept.as_slice()),
+            None => None,
+        }
+    }
+}
+
+/// The pieces that were kept, with one more. Nothing, where there is no memory for it.
+fn with_piece(alloc: Global, kept: Option<Vec<Vec<u8>>>, piece: &[u8]) -> Option<Vec<Vec<u8>>>
+    ensures { Grows (piece.now ∷ []) (pieces_in kept) (pieces_in result) }
+{
+    let mut kept = kept?;
+    let piece = Vec::from_slice(alloc, piece).ok()?;
+    kept.push(piece).ok()?;
+    Some(kept)
 }
 
 impl Sink for MemorySink {
-    ghost use Rattle.std.specs.Prelude.{◌≡◌, ◌≢◌, ◌+◌, ◌<◌, ◌≤◌, ◌↔◌, [], Some, IfOk, IsErr, IsOk, OnErr, OnOk, length, min, take};
-    ghost use Rattle.sched_io.specs.Faults.{Rose};
-    ghost use Rattle.sched_io.specs.Sinks.{FailsNext, bytes_of, failing_puts_of, put_faults_of, puts_of, room_of};
-    ghost use Rattle.sched_io.specs.Written.{Adds};
+    ghost use Rattle.std.specs.Prelude.{◌≡◌, ◌≢◌, ◌+◌, ◌↔◌, [], IfOk, IsErr, OnErr, length, min};
+    ghost use Rattle.sched_io.specs.Shown.{Refuses, Takes};
+    ghost use Rattle.sched_io.specs.Sinks.{FailsNext, failing_puts_of, puts_of, room_of, shown_by_memory};
 
-    ghost written = { λ sink. Some (bytes_of sink) };
-
-    ghost faults = { put_faults_of };
+    ghost shown = { shown_by_memory };
 
     fn put(&mut self, piece: &[u8]) -> Result<u64, PutFault>
-        ensures within { IfOk result (λ count. count ≤ length piece.now) }
-        ensures taken { IfOk result (λ count. Adds (take count piece.now) (Some (bytes_of self.old)) (Some (bytes_of self.new))) }
-        ensures some { IfOk result (λ count. piece.now ≢ [] → 0 < count) }
-        ensures empty { piece.now ≡ [] → IsOk result }
-        ensures failed { OnErr result (Rose (put_faults_of self.old) (put_faults_of self.new)) }
-        ensures steady { OnOk result (put_faults_of self.new ≡ put_faults_of self.old) }
-        ensures nothing { OnErr result (Adds [] (Some (bytes_of self.old)) (Some (bytes_of self.new))) }
-        ensures later { put_faults_of self.old ≤ put_faults_of self.new }
+        ensures takes { IfOk result (λ count. Takes piece.now count (shown_by_memory self.old) (shown_by_memory self.new)) }
+        ensures refuses { OnErr result (Refuses piece.now (shown_by_memory self.old) (shown_by_memory self.new)) }
 
         ensures whole { IfOk result (λ count. count ≡ length piece.now) }
         ensures chosen { IsErr result ↔ FailsNext self.old piece.now }
@@ -75,6 +92,7 @@ impl Sink for MemorySink {
         ensures puts { piece.now ≢ [] → puts_of self.new ≡ min (puts_of self.old + 1) u64.MAX }
         ensures no_put { piece.now ≡ [] → puts_of self.new ≡ puts_of self.old }
     {
+        self.offered = with_piece(self.alloc, mem::take(&mut self.offered), piece);
         if piece.is_empty() {
             return Ok(0);
         }

@@ -1,47 +1,48 @@
 //! Where output goes.
 
-ghost use Rattle.std.specs.Prelude.{◌≡◌, ◌≢◌, ℕ, ◌<◌, ◌≤◌, List, [], Option, IfOk, IsOk, OnOk, OnErr, length, take};
+ghost use Rattle.std.specs.Prelude.{◌≡◌, ◌≢◌, ℕ, ◌<◌, ◌≤◌, List, [], ◌∷◌, IfOk, None, OnErr, OnOk, Option};
 ghost use Rattle.sched_io.specs.Faults.{Rose};
+ghost use Rattle.sched_io.specs.Puts.{Puts};
+ghost use Rattle.sched_io.specs.Shown.{Refuses, Shown, Takes};
 ghost use Rattle.sched_io.specs.Written.{Adds, AddsPart};
 
 use crate::faults::PutFault;
 
-/// A sink of bytes: what was written so far, where it tells that, and a count of its faults.
+/// A sink of bytes. It counts its faults; it may tell the bytes that were written and the pieces that it was offered.
 pub trait Sink {
-    /// The bytes written so far, where it tells them.
-    ghost written: { Self → Option (List ℕ) };
-
-    /// How often the outside has failed.
-    ghost faults: { Self → ℕ };
+    /// What it shows of itself.
+    ghost shown: { Self → Shown };
 
     /// Offers a piece, of which the sink takes a front, and answers how many bytes it took.
     fn put(&mut self, piece: &[u8]) -> Result<u64, PutFault>
-        ensures within { IfOk result (λ count. count ≤ length piece.now) }
-        ensures taken { IfOk result (λ count. Adds (take count piece.now) (written self.old) (written self.new)) }
-        // Of a piece that isn't empty something is taken, or it is a fault.
-        ensures some { IfOk result (λ count. piece.now ≢ [] → 0 < count) }
-        // Of an empty piece the nothing that it holds is taken.
-        ensures empty { piece.now ≡ [] → IsOk result }
-
-        // A put that fails counts one fault more, and no other counts any.
-        ensures failed { OnErr result (Rose (faults self.old) (faults self.new)) }
-        ensures steady { OnOk result (faults self.new ≡ faults self.old) }
-        ensures nothing { OnErr result (Adds [] (written self.old) (written self.new)) }
-        ensures later { faults self.old ≤ faults self.new };
+        ensures takes { IfOk result (λ count. Takes piece.now count (shown self.old) (shown self.new)) }
+        ensures refuses { OnErr result (Refuses piece.now (shown self.old) (shown self.new)) };
 }
 
-/// Puts until the whole piece is written, or a put fails.
+/// Puts until the whole piece is written, or a put fails. An empty piece is offered once.
 pub fn put_all<S: Sink>(out: &mut S, piece: &[u8]) -> Result<(), PutFault>
-    ensures whole { OnOk result (Adds piece.now (S.written out.old) (S.written out.new)) }
-    ensures failed { OnErr result (Rose (S.faults out.old) (S.faults out.new)) }
-    ensures part { OnErr result (AddsPart piece.now (S.written out.old) (S.written out.new)) }
-    ensures steady { OnOk result (S.faults out.new ≡ S.faults out.old) }
+    ensures { Puts (piece.now ∷ []) result (S.shown out.old) (S.shown out.new) }
 {
-    let mut rest = piece;
-    while !rest.is_empty() {
-        let count = out.put(rest)?;
-        let (_, left) = rest.split_at(count as usize);
-        rest = left;
+    let count = out.put(piece)?;
+    let (_taken, rest) = piece.split_at(count as usize);
+    put_rest(out, rest)
+}
+
+/// Puts what is left of a piece, if anything is.
+fn put_rest<S: Sink>(out: &mut S, rest: &[u8]) -> Result<(), PutFault>
+    ensures whole { OnOk result (Adds rest.now (S.shown out.old).written (S.shown out.new).written) }
+    ensures steady { OnOk result ((S.shown out.new).faults ≡ (S.shown out.old).faults) }
+    ensures part { OnErr result (AddsPart rest.now (S.shown out.old).written (S.shown out.new).written) }
+    ensures fault { OnErr result (Rose (S.shown out.old).faults (S.shown out.new).faults) }
+    ensures some { OnErr result (rest.now ≢ []) }
+    ensures silent { (S.shown out.old).offered ≡ None → (S.shown out.new).offered ≡ None }
+    ensures idle { rest.now ≡ [] → (S.shown out.new).offered ≡ (S.shown out.old).offered }
+{
+    let mut left = rest;
+    while !left.is_empty() {
+        let count = out.put(left)?;
+        let (_taken, behind) = left.split_at(count as usize);
+        left = behind;
     }
     Ok(())
 }

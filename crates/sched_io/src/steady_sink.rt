@@ -44,24 +44,15 @@ impl SteadySink {
 }
 
 impl Sink for SteadySink {
-    ghost use Rattle.std.specs.Prelude.{◌≡◌, ◌≢◌, ◌+◌, ◌++◌, ◌<◌, ◌≤◌, [], Some, IfOk, IsOk, OnErr, OnOk, length, take};
-    ghost use Rattle.sched_io.specs.Faults.{Rose};
-    ghost use Rattle.sched_io.specs.Sinks.{kept_by, steady_faults_of, steady_room_of, told_by_steady};
-    ghost use Rattle.sched_io.specs.Written.{Adds};
+    ghost use Rattle.std.specs.Prelude.{◌≡◌, ◌+◌, ◌++◌, ◌≤◌, Some, IfOk, IsOk, OnErr, length, take};
+    ghost use Rattle.sched_io.specs.Shown.{Refuses, Takes};
+    ghost use Rattle.sched_io.specs.Sinks.{kept_by, shown_by_steady, steady_room_of, told_by_steady};
 
-    ghost written = { told_by_steady };
-
-    ghost faults = { steady_faults_of };
+    ghost shown = { shown_by_steady };
 
     fn put(&mut self, piece: &[u8]) -> Result<u64, PutFault>
-        ensures within { IfOk result (λ count. count ≤ length piece.now) }
-        ensures taken { IfOk result (λ count. Adds (take count piece.now) (told_by_steady self.old) (told_by_steady self.new)) }
-        ensures some { IfOk result (λ count. piece.now ≢ [] → 0 < count) }
-        ensures empty { piece.now ≡ [] → IsOk result }
-        ensures failed { OnErr result (Rose (steady_faults_of self.old) (steady_faults_of self.new)) }
-        ensures steady { OnOk result (steady_faults_of self.new ≡ steady_faults_of self.old) }
-        ensures nothing { OnErr result (Adds [] (told_by_steady self.old) (told_by_steady self.new)) }
-        ensures later { steady_faults_of self.old ≤ steady_faults_of self.new }
+        ensures takes { IfOk result (λ count. Takes piece.now count (shown_by_steady self.old) (shown_by_steady self.new)) }
+        ensures refuses { OnErr result (Refuses piece.now (shown_by_steady self.old) (shown_by_steady self.new)) }
 
         ensures never { IsOk result }
         ensures tells { length (kept_by self.old) + length piece.now ≤ steady_room_of self.old →

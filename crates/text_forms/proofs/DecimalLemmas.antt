@@ -6,7 +6,7 @@ use Rattle.std.specs.Char.{is_ascii_digit}
 use Rattle.std.proofs.lemmas.Bool.{cases_lt, eqb-false, eqb-true, lt-ltb, le-leb, ltb-true, leb-true}
 use Rattle.std.proofs.lemmas.Fmt.{decimal-digits_value, decimal_nonempty, digits_decimal, digits_value-decimal, first_decimal, length-decimal-le}
 use Rattle.std.proofs.lemmas.Str.Parse.{IsNumeralModel, numerals_by_fold, digits_value_short}
-use Rattle.text_forms.specs.declared.numbers.TheConstants.{MAX_DIGITS}
+use Rattle.sched_base.specs.declared.limits.TheConstants.{MAX_DIGITS}
 use Rattle.text_forms.specs.Numbers.{is_decimal, is_padded, number_in, number_of}
 
 number_behind : ℕ → List ℕ → ℕ

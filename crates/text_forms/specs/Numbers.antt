@@ -2,7 +2,7 @@
 use Rattle.std.specs.Prelude.{ℕ, ◌+◌, ◌*◌, ◌-◌, ◌==◌, Bool, false, ◌&&◌, List, [], ◌∷◌, length, fold, Option, Some, None, nat_lt, nat_le, if◌then◌else◌}
 use Rattle.std.specs.Char.{is_ascii_digit}
 use Rattle.std.specs.List.{list_all}
-use Rattle.text_forms.specs.declared.numbers.TheConstants.{MAX_DIGITS}
+use Rattle.sched_base.specs.declared.limits.TheConstants.{MAX_DIGITS}
 
 -- the number that decimal digits stand for
 abbrev pub number_of : List ℕ → ℕ

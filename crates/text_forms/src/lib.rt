@@ -8,5 +8,5 @@ mod numbers;
 mod words;
 
 pub use lines::first_line;
-pub use numbers::{MAX_DIGITS, exact_number_in, number_in};
+pub use numbers::{exact_number_in, number_in};
 pub use words::first_word;

@@ -5,8 +5,7 @@ ghost use Rattle.std.specs.Char.{is_ascii_digit};
 ghost use Rattle.std.specs.List.{list_all};
 ghost use Rattle.text_forms.specs.Numbers.{is_decimal, is_padded, number_in, number_of};
 
-/// The most digits of a number, leading zeros counted.
-pub const MAX_DIGITS: usize = 19;
+use sched_base::MAX_DIGITS;
 
 /// The number that the word spells. Zeros may lead, and there is no sign.
 pub fn number_in(word: &[u8]) -> Option<u64>

@@ -1,5 +1,5 @@
 -- What serial play of a trace's text comes to.
-use Rattle.std.specs.Prelude.{◌≡◌, ℕ, List, All, Option, Some}
+use Rattle.std.specs.Prelude.{◌≡◌, ℕ, List, [], ◌∷◌, All, Option, Some}
 use Rattle.policy_tree.specs.Meaning.{Meaning}
 use Rattle.round_model.specs.declared.entry.Entry.{Entry}
 use Rattle.round_model.specs.declared.plan.Plan.{Plan}
@@ -14,7 +14,7 @@ use Rattle.serial_play.specs.declared.rounds.Played.{Played}
 use Rattle.serial_play.specs.declared.rounds.Played.TheVariants as played
 use Rattle.serial_play.specs.Rounds.{IsPlayed}
 use Rattle.sched_history.specs.Ranges.{IsPrintable}
-use Rattle.sched_history.specs.Spelling.{text_of_history}
+use Rattle.sched_history.specs.Spelling.{lines_of_history, text_of_history}
 use Rattle.trace_play.specs.declared.answer.PlayAnswer.{PlayAnswer}
 use Rattle.trace_play.specs.declared.answer.PlayAnswer.TheVariants as answer
 use Rattle.trace_play.specs.declared.fault.LineFault.{LineFault}
@@ -29,6 +29,11 @@ history_of (played.Full history) = history
 abbrev pub output_of : PlayAnswer → List ℕ
 output_of (answer.Broken fault) = fault_line fault
 output_of (answer.Played play) = text_of_history (history_of play)
+
+-- the lines of an answer
+abbrev pub lines_of : PlayAnswer → List (List ℕ)
+lines_of (answer.Broken fault) = fault_line fault ∷ []
+lines_of (answer.Played play) = lines_of_history (history_of play)
 
 -- the answer can be written
 abbrev pub IsShown : PlayAnswer → Type 0

@@ -1,10 +1,9 @@
 //! What a trace comes to, and how it is written.
 
-ghost use Rattle.std.specs.Prelude.{◌≡◌, ◌≤◌, IfOk, OnErr, OnOk, Some};
-ghost use Rattle.sched_io.specs.Faults.{Rose};
-ghost use Rattle.sched_io.specs.Written.{Adds, AddsPart};
+ghost use Rattle.std.specs.Prelude.{◌≡◌, ◌≤◌, IfOk, Some};
+ghost use Rattle.sched_io.specs.Puts.{Puts};
 ghost use Rattle.trace_play.specs.declared.answer.PlayAnswer.TheVariants as answer;
-ghost use Rattle.trace_play.specs.Plays.{IsBrokenBy, IsShown, history_of, output_of};
+ghost use Rattle.trace_play.specs.Plays.{IsBrokenBy, IsShown, history_of, lines_of};
 ghost use Rattle.trace_play.specs.Told.{fault_line};
 
 use crate::fault::LineFault;
@@ -37,10 +36,7 @@ impl PlayAnswer {
     /// Writes the answer, a line at a time.
     pub fn put<S: Sink>(&self, out: &mut S) -> Result<(), PutFault>
         requires { IsShown self.now }
-        ensures whole { OnOk result (Adds (output_of self.now) (S.written out.old) (S.written out.new)) }
-        ensures part { OnErr result (AddsPart (output_of self.now) (S.written out.old) (S.written out.new)) }
-        ensures failed { OnErr result (Rose (S.faults out.old) (S.faults out.new)) }
-        ensures steady { OnOk result (S.faults out.new ≡ S.faults out.old) }
+        ensures { Puts (lines_of self.now) result (S.shown out.old) (S.shown out.new) }
     {
         match self {
             PlayAnswer::Broken(fault) => put_all(out, line_of_fault(fault).as_bytes()),

@@ -7,7 +7,7 @@ pub returns-clause-ends : goal.returns-clause-ends
 returns-clause-ends g c = rw (← c.as_slice.ensures.value) c.carry_out.ensures.ends
 
 pub returns-clause-causes : goal.returns-clause-causes
-returns-clause-causes g c = causes _ _ _ _ _ _ _ (rw (← c.as_slice.ensures.value) c.carry_out.ensures.ends)
+returns-clause-causes g c = causes _ _ _ _ _ _ (rw (← c.as_slice.ensures.value) c.carry_out.ensures.ends)
 
 pub returns-clause-truthful : goal.returns-clause-truthful
-returns-clause-truthful g c = truths _ _ _ _ _ _ _ (rw c.as_slice.ensures.value at c.carry_out.ensures.ends)
+returns-clause-truthful g c = truths _ _ _ _ _ _ (rw c.as_slice.ensures.value at c.carry_out.ensures.ends)

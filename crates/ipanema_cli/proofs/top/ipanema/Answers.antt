@@ -10,14 +10,14 @@ use Rattle.ipanema_cli.proofs.top.ipanema.Goals as goal
 pub returns-in-Some-clause-ends : goal.returns-in-Some-clause-ends
 returns-in-Some-clause-ends g c =
     let none : asked_by (words_of c.args.words.now.items) ≡ None = grind (arith, common_steps) in
-    no_command_ends _ _ _ _ _ _ _ none c.give.ensures.writes
+    no_command_ends _ _ _ _ _ _ none c.give.ensures.writes
 
 pub returns-in-Some-clause-causes : goal.returns-in-Some-clause-causes
 returns-in-Some-clause-causes g c =
     let none : asked_by (words_of c.args.words.now.items) ≡ None = grind (arith, common_steps) in
-    causes _ _ _ _ _ _ _ (no_command_ends _ _ _ _ _ _ _ none c.give.ensures.writes)
+    causes _ _ _ _ _ _ (no_command_ends _ _ _ _ _ _ none c.give.ensures.writes)
 
 pub returns-in-Some-clause-truthful : goal.returns-in-Some-clause-truthful
 returns-in-Some-clause-truthful g c =
     let none : asked_by (words_of c.args.words.now.items) ≡ None = grind (arith, common_steps) in
-    truths _ _ _ _ _ _ _ (no_command_ends _ _ (Unit {0}) _ _ _ _ none c.give.ensures.writes)
+    truths _ _ _ _ _ _ (no_command_ends _ _ (Unit {0}) _ _ _ none c.give.ensures.writes)

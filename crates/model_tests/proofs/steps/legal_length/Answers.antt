@@ -14,7 +14,7 @@ pub returns-then-not-step_ok : goal.returns-then-not-step_ok
 returns-then-not-step_ok c =
     let p = meaning_of c.args.policy.now in let plan = c.args.plan.now in let entries = c.args.entries.now in let at = c.loop-entry.entry-index in
     let stands = c.loop-entry.invariant.stands in
-    let asked = c.step_ok.ensures (take at entries) stands in
+    let asked = c.step_ok.ensures.legal (take at entries) stands in
     subst (IsLegalLength p plan entries) (sym c.loop-entry.invariant.count)
     (stops_at p plan entries at c.entry-item.result (some_at entries at c.entry-item.result (omega arith) ∙ ap Some (sym c.entry-item.is)) stands.legal (λ next. false≢true (sym c.if-not-step_ok.true ∙ asked.1 next)))
 
@@ -22,7 +22,7 @@ pub loop-entry-preserved : goal.loop-entry-preserved
 loop-entry-preserved c =
     let p = meaning_of c.args.policy.now in let plan = c.args.plan.now in let entries = c.args.entries.now in let at = c.loop-entry.entry-index in
     let stands = c.loop-entry.invariant.stands in
-    let asked = c.step_ok.ensures (take at entries) stands in
+    let asked = c.step_ok.ensures.legal (take at entries) stands in
     record {
       count = ap (λ n. n + 1) c.loop-entry.invariant.count;
       belongs = c.in_ok-step.ensures.belongs;

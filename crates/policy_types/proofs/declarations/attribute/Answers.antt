@@ -9,9 +9,9 @@ use Rattle.policy_types.proofs.declarations.attribute.Goals as goal
 stored : (x y : ℤ) → y ≡ x → FitsSigned w128 y → FitsSigned w32 x → to_z w32 (of_z w32 (to_z w128 (of_z w128 y))) ≡ x
 stored x y same wide fits = ap (λ z. to_z w32 (of_z w32 z)) (to_z-of_z w128 y wide ∙ same) ∙ to_z-of_z w32 x fits
 
-pub returns-clause-attr : goal.returns-clause-attr
-returns-clause-attr c =
-    let fits = attribute_fits c.args.attr.now (sym c.if-not-is_attribute_range.ensures) in
+pub returns : goal.returns
+returns c =
+    let fits = attribute_fits c.args.attr.now c.requires in
     rw (
       c.in_ok-copy_of_name.ensures,
       stored (int_meaning c.args.attr.now.range.low) c.int.result c.int.ensures.value (fits_signed_from_abs w128 c.int.result (omega (arith, c.int.ensures.bound))) fits.low,

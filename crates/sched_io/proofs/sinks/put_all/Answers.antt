@@ -1,22 +1,9 @@
--- A put takes one more front of what is left.
-use Rattle.std.proofs.Common.{List, ℕ, ◌++◌, take, drop, sym, ◌∙◌, ap, append_assoc}
-use Rattle.std.proofs.lemmas.List.{take-append-drop}
-use Rattle.sched_io.proofs.WrittenLemmas.{Adds-append}
+-- The first put and those of what it left put the piece.
+use Rattle.sched_io.proofs.PieceLemmas.{puts_piece}
 use Rattle.sched_io.proofs.sinks.put_all.Goals as goal
 
-pub loop-rest-preserved : goal.loop-rest-preserved
-loop-rest-preserved g c =
-    let before = c.loop-rest.invariant.written in
-    let rest : List ℕ = c.loop-rest.rest.now in
-    let count : ℕ = c.in_ok-count.count in
-    record {
-      written = (
-        before.0 ++ take count rest,
-        before.1
-            ∙ ap (λ (x : List ℕ). before.0 ++ x) (sym (take-append-drop count rest))
-            ∙ sym (append_assoc before.0 (take count rest) (drop count rest))
-            ∙ ap (λ (x : List ℕ). (before.0 ++ take count rest) ++ x) (sym c.split_at.ensures.back),
-        Adds-append before.0 (take count rest) _ _ _ before.2 c.in_ok-count.ensures.taken,
-      );
-      steady = c.in_ok-count.ensures.steady ∙ c.loop-rest.invariant.steady;
-    }
+pub returns : goal.returns
+returns g c =
+    let rest = c.put_rest.ensures in
+    puts_piece c.args.piece.now c.split_at.result.1.now c.in_ok-count.count _ _ _ c.in_ok-count.ensures.takes c.split_at.ensures.back
+    rest.silent rest.idle c.put_rest.result rest.whole rest.steady rest.part rest.fault rest.some

@@ -40,14 +40,14 @@ pub attrs-preserved : goal.attrs-preserved
 attrs-preserved c = record {
   later = omega (arith, c.in_ok-attr.ensures.later, c.attrs.invariant.later);
   within = c.in_ok-attr.ensures.later.1;
-  few_cores = let most = at-most-one c.in-Some.of_cores c.one_more-cores.ensures.yes c.one_more-cores.ensures.nay in omega (arith, most, c.in_ok-attr.ensures.later, c.attrs.invariant.few_cores);
-  few_threads = let most = at-most-one (not c.in-Some.of_cores) c.one_more-threads.ensures.yes c.one_more-threads.ensures.nay in omega (arith, most, c.in_ok-attr.ensures.later, c.attrs.invariant.few_threads);
+  few_cores = let most = at-most-one c.in-Some.of_cores c.one_more-cores.ensures.yes c.one_more-cores.ensures.no in omega (arith, most, c.in_ok-attr.ensures.later, c.attrs.invariant.few_cores);
+  few_threads = let most = at-most-one (not c.in-Some.of_cores) c.one_more-threads.ensures.yes c.one_more-threads.ensures.no in omega (arith, most, c.in_ok-attr.ensures.later, c.attrs.invariant.few_threads);
   short = omega (arith, c.in_ok-push.ensures.len, c.in_ok-attr.ensures.later, c.attrs.invariant.short);
   are = subst (λ x. IsAttrs c.args.self.now.text.now c.args.self.now.lexemes.now c.args.at x c.in_ok-attr.after) (sym c.in_ok-push.ensures.items) (attrs-snoc c.attrs.invariant.are c.in_ok-attr.ensures.is);
   reads = λ below.
       c.attrs.invariant.reads below
       ∙ attr-goes _ _ c.attrs.next c.attrs.cores c.attrs.threads _ below c.in-Some.of_cores c.in-Some.ensures.some c.count_of_kind-count.ensures (omega (arith, c.if-count-self.false))
       ∙ c.in_ok-attr.ensures.reads (attrs (of_cores_more c.in-Some.of_cores c.attrs.cores) (of_threads_more c.in-Some.of_cores c.attrs.threads) ∷ below)
-      ∙ ap (λ x. go c.args.self.now.limits c.args.self.now.lexemes.now c.in_ok-attr.after 0 (attrs x (of_threads_more c.in-Some.of_cores c.attrs.threads) ∷ below)) (sym (cores-more c.in-Some.of_cores c.one_more-cores.ensures.yes c.one_more-cores.ensures.nay))
-      ∙ ap (λ x. go c.args.self.now.limits c.args.self.now.lexemes.now c.in_ok-attr.after 0 (attrs c.one_more-cores.result x ∷ below)) (sym (threads-more c.in-Some.of_cores c.one_more-threads.ensures.yes c.one_more-threads.ensures.nay));
+      ∙ ap (λ x. go c.args.self.now.limits c.args.self.now.lexemes.now c.in_ok-attr.after 0 (attrs x (of_threads_more c.in-Some.of_cores c.attrs.threads) ∷ below)) (sym (cores-more c.in-Some.of_cores c.one_more-cores.ensures.yes c.one_more-cores.ensures.no))
+      ∙ ap (λ x. go c.args.self.now.limits c.args.self.now.lexemes.now c.in_ok-attr.after 0 (attrs c.one_more-cores.result x ∷ below)) (sym (threads-more c.in-Some.of_cores c.one_more-threads.ensures.yes c.one_more-threads.ensures.no));
 }

@@ -1,0 +1,7 @@
+pub mod BadLines
+pub mod Cuts
+pub mod Digits
+pub mod ManyMults
+pub mod Mults
+pub mod OneReading
+pub mod Words

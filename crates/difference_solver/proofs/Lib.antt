@@ -1,0 +1,11 @@
+pub mod Places
+pub mod Steps
+pub mod Loops
+pub mod Sums
+pub mod Shorter
+pub mod State
+pub mod Closed
+pub mod Edges
+pub mod Leaf
+pub mod Start
+pub mod Solution

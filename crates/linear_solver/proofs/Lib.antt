@@ -1,0 +1,17 @@
+pub mod Divisors
+pub mod Additions
+pub mod KeptSums
+pub mod Magnitudes
+pub mod FirstRows
+pub mod Extensions
+pub mod Follows
+pub mod RightLeaves
+pub mod Refutation
+pub mod RowLeaves
+pub mod Corners
+pub mod Heights
+pub mod Spreads
+pub mod Joining
+pub mod Whole
+pub mod SumRows
+pub mod Inner

@@ -1,0 +1,12 @@
+use Rattle.std.proofs.Common.{ℕ, ◌<◌}
+use Rattle.std.specs.Int.{IsGcd}
+use Rattle.linear_solver.proofs.factors.gcd.Given as goal
+
+abbrev pub invariant-loop-less : goal.invariant-loop-less
+invariant-loop-less l = record {
+  positive : 0 < l.greater;
+  divisors : (g : ℕ) → IsGcd l.greater l.less g → IsGcd l.fn.a l.fn.b g;
+}
+
+abbrev pub decreases-loop-less : goal.decreases-loop-less
+decreases-loop-less l = l.less

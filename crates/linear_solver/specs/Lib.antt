@@ -1,0 +1,12 @@
+pub mod Sums
+pub mod Elimination
+pub mod Decides
+pub mod Leaves
+pub mod Shapes
+pub mod Boxes
+pub mod Steps
+pub mod Found
+pub mod Follows
+pub mod Probes
+pub mod Insides
+pub mod Laws

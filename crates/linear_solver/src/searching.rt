@@ -1,0 +1,225 @@
+//! The search for a solution or a certificate, over boxes that are cut ever smaller.
+
+ghost use Rattle.std.specs.Prelude.{◌≡◌, ◌≤◌, List, false, IfOk, IsTrue};
+ghost use Rattle.linear_form.specs.declared.form.Bound.{Bound};
+ghost use Rattle.linear_form.specs.System.{IsSystem};
+ghost use Rattle.linear_cert.specs.Right.{cert_tree, split};
+ghost use Rattle.linear_solver.specs.Boxes.{IsWide, height};
+ghost use Rattle.linear_solver.specs.Found.{GoesOn, IsDecided, IsFound, IsStep, height_of};
+ghost use Rattle.linear_solver.specs.Insides.{IsProbe};
+ghost use Rattle.linear_solver.specs.Steps.{IsPart, IsSystemPart};
+
+use crate::answer::SolveMemory;
+use crate::choice::{Choice, Look, look_over};
+use crate::ends::low_ends;
+use crate::leaf::row_leaf;
+use crate::parts::{Part, Partition, cut_off, halved};
+use crate::probing::{Probe, probe_box};
+use linear_cert::{Cert, MAX_SPLITS};
+use linear_form::{Bound, Point, Row};
+use std::alloc::{AllocError, Global};
+
+/// The values that the walk back may try at the whole system, and at a part of it. 20 to 200 at the parts found the
+/// same points of some thousand systems.
+const MAX_FIRST_PICKS: u32 = 2_000;
+
+const MAX_PICKS: u32 = 64;
+
+/// What a search found.
+#[derive(Drop)]
+pub enum Found {
+    /// A certificate that no solution lies in the box.
+    Refuted(Cert),
+    /// A solution.
+    Solved(Point),
+    /// Nothing, with the effort that was allowed.
+    Stopped,
+}
+
+/// How much a search may do.
+#[derive(Clone, Copy)]
+pub struct Effort {
+    /// Whether it may stop with nothing found.
+    pub limited: bool,
+    /// The number of terms that it may look at, if so.
+    pub terms: u64,
+    /// The number of sums that its probes may make.
+    pub sums: u32,
+}
+
+/// What one look at a box gives.
+#[derive(Drop)]
+pub enum Step {
+    /// The answer.
+    Done(Found),
+    /// The box cut in two.
+    Cut(Partition),
+}
+
+/// Looks for a solution in a part of a box, or for a certificate that there is none. At most `room`
+/// splits stand one within another.
+pub fn search(
+    alloc: Global,
+    rows: &[Row],
+    part: Part,
+    room: u32,
+    effort: &mut Effort,
+) -> Result<Found, SolveMemory>
+    requires { IsSystemPart rows.now part }
+    ensures found { (whole ranges : List Bound) → IsPart whole rows.now ranges part
+        → IfOk result (IsFound room ranges rows.now) }
+    ensures decides { effort.old.limited ≡ false → height_of part ≤ room → IfOk result IsDecided }
+    ensures limited { effort.new.limited ≡ effort.old.limited }
+{
+    let bounds = match part {
+        Part::Closed(leaf) => return Ok(Found::Refuted(Cert::Leaf(leaf))),
+        Part::Open(bounds) => bounds,
+    };
+    let Partition {
+        variable,
+        at,
+        low,
+        high,
+    } = match look_at(alloc, bounds.as_slice(), rows, room, effort)? {
+        Step::Done(found) => return Ok(found),
+        Step::Cut(partition) => partition,
+    };
+    let low = match search(alloc, rows, low, room - 1, effort)? {
+        Found::Refuted(cert) => cert,
+        Found::Solved(point) => return Ok(Found::Solved(point)),
+        Found::Stopped => return Ok(Found::Stopped),
+    };
+    let high = match search(alloc, rows, high, room - 1, effort)? {
+        Found::Refuted(cert) => cert,
+        Found::Solved(point) => return Ok(Found::Solved(point)),
+        Found::Stopped => return Ok(Found::Stopped),
+    };
+    Ok(Found::Refuted(joined(alloc, variable, at, low, high)?))
+}
+
+fn joined(alloc: Global, variable: u32, at: i64, low: Cert, high: Cert) -> Result<Cert, SolveMemory>
+    ensures { IfOk result (λ cert.
+        cert_tree cert ≡ split variable at (cert_tree low) (cert_tree high)) }
+{
+    Ok(Cert::Split {
+        var: variable,
+        at,
+        left: Box::new(alloc, low)?,
+        right: Box::new(alloc, high)?,
+    })
+}
+
+fn look_at(
+    alloc: Global,
+    bounds: &[Bound],
+    rows: &[Row],
+    room: u32,
+    effort: &mut Effort,
+) -> Result<Step, SolveMemory>
+    requires { IsSystem (record { bounds = bounds.now; rows = rows.now }) }
+    ensures step { IfOk result (IsStep room bounds.now rows.now) }
+    ensures decides { effort.old.limited ≡ false → height bounds.now ≤ room → IfOk result GoesOn }
+    ensures limited { effort.new.limited ≡ effort.old.limited }
+{
+    if !spends(effort, cost_of(bounds, rows)) {
+        return Ok(Step::Done(Found::Stopped));
+    }
+    match look_over(bounds, rows) {
+        Look::Refuted(row) => Ok(Step::Done(Found::Refuted(Cert::Leaf(row_leaf(
+            alloc, rows, row,
+        )?)))),
+        Look::Implied => Ok(Step::Done(Found::Solved(Point {
+            vals: low_ends(alloc, bounds)?,
+        }))),
+        Look::Open(choice) => Ok(open_step(alloc, bounds, rows, room, effort, choice)?),
+    }
+}
+
+// A probe of an open box, where it is the whole or no row cuts it, and else a cut.
+fn open_step(
+    alloc: Global,
+    bounds: &[Bound],
+    rows: &[Row],
+    room: u32,
+    effort: &mut Effort,
+    choice: Choice,
+) -> Result<Step, SolveMemory>
+    requires system { IsSystem (record { bounds = bounds.now; rows = rows.now }) }
+    requires wide { IsWide bounds.now choice.wide }
+    ensures step { IfOk result (IsStep room bounds.now rows.now) }
+    ensures decides { height bounds.now ≤ room → IfOk result GoesOn }
+    ensures limited { effort.new.limited ≡ effort.old.limited }
+{
+    match probed(alloc, bounds, rows, room, effort, choice.cut.is_some())? {
+        Probe::Leaf(leaf) => Ok(Step::Done(Found::Refuted(Cert::Leaf(leaf)))),
+        Probe::Point(point) => Ok(Step::Done(Found::Solved(point))),
+        Probe::Nothing => Ok(cut_in_two(alloc, bounds, rows, room, choice)?),
+    }
+}
+
+fn probed(
+    alloc: Global,
+    bounds: &[Bound],
+    rows: &[Row],
+    room: u32,
+    effort: &mut Effort,
+    can_be_cut: bool,
+) -> Result<Probe, SolveMemory>
+    requires { IsSystem (record { bounds = bounds.now; rows = rows.now }) }
+    ensures probe { IfOk result (IsProbe bounds.now rows.now) }
+    ensures limited { effort.new.limited ≡ effort.old.limited }
+{
+    let is_whole = room == MAX_SPLITS;
+    if effort.sums == 0 || (can_be_cut && !is_whole) {
+        return Ok(Probe::Nothing);
+    }
+    let picks = if is_whole { MAX_FIRST_PICKS } else { MAX_PICKS };
+    let mut sums = effort.sums;
+    let found = probe_box(alloc, bounds, rows, &mut sums, picks);
+    effort.sums = sums;
+    found
+}
+
+fn cut_in_two(
+    alloc: Global,
+    bounds: &[Bound],
+    rows: &[Row],
+    room: u32,
+    choice: Choice,
+) -> Result<Step, AllocError>
+    requires system { IsSystem (record { bounds = bounds.now; rows = rows.now }) }
+    requires wide { IsWide bounds.now choice.wide }
+    ensures step { IfOk result (IsStep room bounds.now rows.now) }
+    ensures decides { height bounds.now ≤ room → IfOk result GoesOn }
+{
+    if room == 0 {
+        return Ok(Step::Done(Found::Stopped));
+    }
+    if let Some(cut) = choice.cut {
+        if let Some(partition) = cut_off(alloc, bounds, rows, cut)? {
+            return Ok(Step::Cut(partition));
+        }
+    }
+    Ok(Step::Cut(halved(alloc, bounds, choice.wide)?))
+}
+
+// Whether the effort reaches for so many terms more. They are taken from it.
+fn spends(effort: &mut Effort, terms: u64) -> bool
+    ensures decides { effort.old.limited ≡ false → IsTrue result }
+    ensures limited { effort.new.limited ≡ effort.old.limited }
+{
+    if effort.limited && effort.terms < terms {
+        return false;
+    }
+    effort.terms = effort.terms.saturating_sub(terms);
+    true
+}
+
+// How many terms a look at a box looks at.
+fn cost_of(bounds: &[Bound], rows: &[Row]) -> u64 {
+    let mut cost = bounds.len() as u64;
+    for row in rows {
+        cost = cost.saturating_add(u64::from(row.terms.len()));
+    }
+    cost
+}
