@@ -15,7 +15,7 @@ use Rattle.policy_eval.specs.Resolved.{IsResolved, IsResolvedExpr}
 use Rattle.policy_eval.specs.Sights.{assigned, no_attributes, pair_values}
 use Rattle.policy_eval.specs.Sites.{allows, filtering}
 use Rattle.policy_eval.specs.Values.{Assignment, holds}
-use Rattle.policy_eval.proofs.Evaluable.{EachSide-mono}
+use Rattle.obligations.proofs.Expressions.{EachSide-mono}
 use Rattle.obligations.specs.Laws.{NoneRefutes}
 use Rattle.obligations.specs.Refutations.{cores_fit, gap_is_small, has_thread, idle_and_overloaded, refutation, victim_has_one}
 use Rattle.obligations.specs.Systems.{variable_ranges}

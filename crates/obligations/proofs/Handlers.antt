@@ -15,7 +15,7 @@ use Rattle.policy_eval.specs.Resolved.{IsResolved, IsResolvedCase, IsResolvedExp
 use Rattle.policy_eval.specs.Sights.{assigned, event_values, no_attributes}
 use Rattle.policy_eval.specs.Sites.{allows, handling}
 use Rattle.policy_eval.specs.Values.{Assignment, holds}
-use Rattle.policy_eval.proofs.Evaluable.{EachSide-mono}
+use Rattle.obligations.proofs.Expressions.{EachSide-mono}
 use Rattle.obligations.specs.Laws.{NoneRefutes}
 use Rattle.obligations.specs.Refutations.{all_of, any_of, both_of, guards_on, pairs_of, refutation}
 use Rattle.obligations.specs.Systems.{variable_ranges}

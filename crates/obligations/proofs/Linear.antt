@@ -11,7 +11,7 @@ use Rattle.policy_eval.specs.Obligations.{Statement, idle_sees_overloaded, victi
 use Rattle.policy_eval.specs.Ranges.{greatest_weight, least_weight}
 use Rattle.policy_eval.specs.Resolved.{IsResolved, IsResolvedCase, IsResolvedExpr}
 use Rattle.policy_eval.specs.Sites.{filtering, handling}
-use Rattle.policy_eval.proofs.Evaluable.{EachSide-mono}
+use Rattle.obligations.proofs.Expressions.{EachSide-mono}
 use Rattle.obligations.specs.Refutations.{all_of, any_of, both_of, guards_on, load_fits, pairs_of, refutation, whole}
 use Rattle.obligations.proofs.Kept.{AllByRecursion-append}
 

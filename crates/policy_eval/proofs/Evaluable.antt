@@ -22,7 +22,7 @@ known p (handling event.Tick) at cores threads e = grind (arith, nat_tests)
 known p (handling event.Yield) at cores threads e = grind (arith, nat_tests)
 known p (handling event.Block) at cores threads e = grind (arith, nat_tests)
 
-pub RefersTo-mono : (p q : ℕ → Bool) → ((at : ℕ) → p at ≡ true → q at ≡ true) → (e : ExprTree) → RefersTo p e → RefersTo q e
+RefersTo-mono : (p q : ℕ → Bool) → ((at : ℕ) → p at ≡ true → q at ≡ true) → (e : ExprTree) → RefersTo p e → RefersTo q e
 RefersTo-mono p q more (number n) refers = refers
 RefersTo-mono p q more (variable at) refers = more at refers
 RefersTo-mono p q more (negation e) refers = RefersTo-mono p q more e refers
@@ -30,7 +30,7 @@ RefersTo-mono p q more (plus l r) refers = (RefersTo-mono p q more l refers.0, R
 RefersTo-mono p q more (minus l r) refers = (RefersTo-mono p q more l refers.0, RefersTo-mono p q more r refers.1)
 RefersTo-mono p q more (times l r) refers = (RefersTo-mono p q more l refers.0, RefersTo-mono p q more r refers.1)
 
-pub EachSide-mono : (P Q : ExprTree → Type 0) → ((e : ExprTree) → P e → Q e) → (c : CondTree) → EachSide P c → EachSide Q c
+EachSide-mono : (P Q : ExprTree → Type 0) → ((e : ExprTree) → P e → Q e) → (c : CondTree) → EachSide P c → EachSide Q c
 EachSide-mono P Q more always sides = sides
 EachSide-mono P Q more (negated c) sides = EachSide-mono P Q more c sides
 EachSide-mono P Q more (both l r) sides = (EachSide-mono P Q more l sides.0, EachSide-mono P Q more r sides.1)
