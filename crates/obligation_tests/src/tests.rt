@@ -1,5 +1,9 @@
 //! Tables of policies with their systems, or with the obligation that has too many cases.
 
+ghost use Rattle.std.specs.Prelude.{IfOk};
+ghost use Rattle.policy_tree.specs.Meaning.{meaning_of};
+ghost use Rattle.policy_eval.specs.Resolved.{IsResolved};
+
 use linear_form::{Row, System};
 use obligations::{ObName, Obligation, Obligations, ObligeFault, ob_name, ob_names, oblige};
 use policy_reader::read_policy;
@@ -7,7 +11,10 @@ use policy_tree::Policy;
 use std::alloc::Global;
 use std::test::Fail;
 
-fn policy_of(alloc: Global, text: &str) -> Result<Policy, Fail> {
+// A policy that is read is a resolved one.
+fn policy_of(alloc: Global, text: &str) -> Result<Policy, Fail>
+    ensures { IfOk result (λ p. IsResolved (meaning_of p)) }
+{
     if text.len() > 65_536 {
         return Err("a long text")?;
     }
