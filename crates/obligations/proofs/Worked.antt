@@ -1,0 +1,90 @@
+-- The definitions computed on policies that are written out.
+use Rattle.std.proofs.Common.{◌≡◌, ℕ, ℤ, pos, negsuc, List, [], ◌∷◌, length, refl}
+use Rattle.policy_tree.specs.declared.trees.Cmp.TheVariants as cmp
+use Rattle.policy_tree.specs.declared.typed.Load.TheVariants as load
+use Rattle.policy_tree.specs.declared.typed.Put.TheVariants as put
+use Rattle.policy_tree.specs.Trees.{CondTree, number, variable, minus, always, both, test}
+use Rattle.policy_tree.specs.Meaning.{CaseTree, HandlerTrees, Meaning, here}
+use Rattle.policy_eval.specs.Obligations.{idle_sees_overloaded, victim_is_overloaded, move_narrows_gap}
+use Rattle.linear_form.specs.declared.form.Term.{Term}
+use Rattle.linear_form.specs.declared.form.Row.{Row}
+use Rattle.linear_form.specs.declared.form.Bound.{Bound}
+use Rattle.linear_form.specs.System.{LinearSystem}
+use Rattle.obligations.specs.Forms.{at_most}
+use Rattle.obligations.specs.Counts.{case_count}
+use Rattle.obligations.specs.Systems.{systems_of}
+
+abbrev handler : CondTree → List CaseTree
+handler guard = record { guard = guard; sets = []; put = put.Queue } ∷ []
+
+abbrev handlers : HandlerTrees
+handlers = record { on_enqueue = handler always; on_tick = handler always; on_yield = handler always; on_block = handler always }
+
+abbrev policy : CondTree → Meaning
+policy filter = record {
+  name = [];
+  load = load.Count;
+  core_attrs = [];
+  thread_attrs = [];
+  place = here;
+  elect = [];
+  handlers = handlers;
+  filter = filter;
+  choose = [];
+  steal = [];
+}
+
+abbrev basic : Meaning
+basic = policy (test cmp.Ge (minus (variable 2) (variable 0)) (number (pos 2)))
+
+abbrev plus_one : ℕ → Term
+plus_one v = record { var = v; coef = pos 1 }
+
+abbrev minus_one : ℕ → Term
+minus_one v = record { var = v; coef = negsuc 0 }
+
+abbrev row : List Term → ℤ → Row
+row terms bound = record { terms = terms; bound = bound }
+
+abbrev count : Bound
+count = record { lo = pos 0; hi = pos 1023 }
+
+abbrev pair : List Row → LinearSystem
+pair rows = record {
+  bounds = count ∷ count ∷ count ∷ count ∷ [];
+  rows = row (plus_one 0 ∷ minus_one 1 ∷ []) (pos 0) ∷ row (minus_one 0 ∷ plus_one 1 ∷ []) (pos 0)
+      ∷ row (plus_one 2 ∷ minus_one 3 ∷ []) (pos 0) ∷ row (minus_one 2 ∷ plus_one 3 ∷ []) (pos 0) ∷ rows;
+}
+
+basic_sees : systems_of basic idle_sees_overloaded ≡
+    pair (row (plus_one 0 ∷ []) (pos 0) ∷ row (minus_one 2 ∷ []) (negsuc 1) ∷ row (minus_one 0 ∷ plus_one 2 ∷ []) (pos 1) ∷ []) ∷ []
+unfolding at_most
+basic_sees = refl
+
+basic_spares : systems_of basic victim_is_overloaded ≡
+    pair (row (plus_one 2 ∷ []) (pos 1) ∷ row (plus_one 0 ∷ minus_one 2 ∷ []) (negsuc 1) ∷ []) ∷ []
+unfolding at_most
+basic_spares = refl
+
+basic_narrows : systems_of basic move_narrows_gap ≡
+    pair (row (plus_one 2 ∷ minus_one 3 ∷ []) (pos 0) ∷ row (minus_one 1 ∷ plus_one 3 ∷ []) (pos 1) ∷ row (plus_one 0 ∷ minus_one 2 ∷ []) (negsuc 1) ∷ []) ∷ []
+unfolding at_most
+basic_narrows = refl
+
+abbrev differs : CondTree
+differs = test cmp.Ne (variable 0) (number (pos 0))
+
+abbrev eight : CondTree
+eight = both (both (both (both (both (both (both differs differs) differs) differs) differs) differs) differs) differs
+
+eight_sees : case_count (policy eight) idle_sees_overloaded ≡ 8
+eight_sees = refl
+
+eight_spares : case_count (policy eight) victim_is_overloaded ≡ 256
+eight_spares = refl
+
+nine_spares : case_count (policy (both eight differs)) victim_is_overloaded ≡ 512
+nine_spares = refl
+
+eight_cases : length (systems_of (policy eight) victim_is_overloaded) ≡ 256
+eight_cases = refl

@@ -1,0 +1,28 @@
+use Rattle.std.proofs.Common.{ap, sym, subst, ◌∙◌, List, map}
+use Rattle.std.specs.List.{AllByRecursion}
+use Rattle.policy_tree.specs.Meaning.{CaseTree, case_tree, cases_on, meaning_of}
+use Rattle.policy_eval.specs.Forms.{EachSide, IsLinear}
+use Rattle.obligations.specs.Tallies.{guards_of}
+use Rattle.obligations.proofs.Linear.{filter-linear, guards-linear}
+use Rattle.obligations.proofs.refuting.refuting_cases.Goals as goal
+
+pub with_filter-requires-clause-filter : goal.with_filter-requires-clause-filter
+with_filter-requires-clause-filter c = filter-linear (meaning_of c.args.policy.now) c.requires
+
+pub with_filter-requires-in-VictimIsOverloaded-clause-filter : goal.with_filter-requires-in-VictimIsOverloaded-clause-filter
+with_filter-requires-in-VictimIsOverloaded-clause-filter c = filter-linear (meaning_of c.args.policy.now) c.requires
+
+pub with_filter-requires-in-MoveNarrowsGap-clause-filter : goal.with_filter-requires-in-MoveNarrowsGap-clause-filter
+with_filter-requires-in-MoveNarrowsGap-clause-filter c = filter-linear (meaning_of c.args.policy.now) c.requires
+
+pub overlap_cases-requires-clause-linear : goal.overlap_cases-requires-clause-linear
+overlap_cases-requires-clause-linear c =
+    let p = meaning_of c.args.policy.now in let e = c.in-NoOverlap.event in
+    subst (λ (cases : List CaseTree). AllByRecursion (EachSide IsLinear) (guards_of cases)) (sym (ap (map case_tree) c.as_slice.ensures.items ∙ c.cases.ensures))
+    (guards-linear p c.requires e (cases_on p.handlers e) (c.requires.handlers e).cases)
+
+pub gap_cases-requires-clause-linear : goal.gap_cases-requires-clause-linear
+gap_cases-requires-clause-linear c =
+    let p = meaning_of c.args.policy.now in let e = c.in-NoGap.event in
+    subst (λ (cases : List CaseTree). AllByRecursion (EachSide IsLinear) (guards_of cases)) (sym (ap (map case_tree) c.as_slice-in-NoGap.ensures.items ∙ c.cases-in-NoGap.ensures))
+    (guards-linear p c.requires e (cases_on p.handlers e) (c.requires.handlers e).cases)

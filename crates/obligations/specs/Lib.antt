@@ -1,0 +1,12 @@
+pub mod Names
+pub mod Refutations
+pub mod Forms
+pub mod Cases
+pub mod Counts
+pub mod Systems
+pub mod Tallies
+pub mod Demands
+pub mod CodeForms
+pub mod ChainCases
+pub mod Marks
+pub mod Laws

@@ -1,0 +1,25 @@
+//! Every obligation of a policy as systems of linear rows: it holds exactly where none of them has a solution.
+#![tactic(auto)]
+
+mod assembling;
+mod building;
+mod comparisons;
+mod counts;
+mod crossing;
+mod crowding;
+mod forms;
+pub mod laws;
+mod making;
+mod marking;
+mod names;
+mod obligation;
+mod placing;
+mod premises;
+mod refuting;
+mod rows;
+mod statements;
+
+pub use counts::MAX_COUNT;
+pub use making::{ObligeFault, oblige};
+pub use names::{OB_NAME_ROOM, ObName, ob_name, ob_names};
+pub use obligation::{Obligation, Obligations, SystemList, VarList};

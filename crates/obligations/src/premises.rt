@@ -1,0 +1,114 @@
+//! What a statement on a pair of cores supposes, as a condition.
+
+ghost use Rattle.std.specs.Prelude.{◌≡◌, IfOk, pos};
+ghost use Rattle.policy_tree.specs.Trees.{both, cond_tree, expr_tree, plus, test, times, variable};
+ghost use Rattle.policy_eval.specs.Ranges.{greatest_weight, least_weight};
+ghost use Rattle.obligations.specs.Refutations.{cores_fit, gap_is_small, has_thread, idle_and_overloaded, load_fits, victim_has_one, whole};
+
+use policy_tree::variables::{OTHER_LOAD, OTHER_NR, SELF_LOAD, SELF_NR, WEIGHT};
+use policy_tree::{Cmp, Cond, Expr, Load};
+use std::alloc::{AllocError, Global};
+
+/// An idle core, and an overloaded one.
+pub fn idle_beside_overloaded(alloc: Global, load: Load) -> Result<Cond, AllocError>
+    ensures { IfOk result (λ c. cond_tree c ≡ both (cores_fit load) idle_and_overloaded) }
+{
+    let idle = Cond::Test(Cmp::Le, Expr::Var(SELF_NR), Expr::Num(0));
+    let overloaded = Cond::Test(Cmp::Ge, Expr::Var(OTHER_NR), Expr::Num(2));
+    let rest = both(alloc, idle, overloaded)?;
+    both(alloc, cores_fit(alloc, load)?, rest)
+}
+
+/// A core that isn't overloaded, as the victim.
+pub fn victim_of_one(alloc: Global, load: Load) -> Result<Cond, AllocError>
+    ensures { IfOk result (λ c. cond_tree c ≡ both (cores_fit load) victim_has_one) }
+{
+    let few = Cond::Test(Cmp::Le, Expr::Var(OTHER_NR), Expr::Num(1));
+    both(alloc, cores_fit(alloc, load)?, few)
+}
+
+/// A victim that can have the thread queued, and a gap that isn't greater than its weight.
+pub fn thread_and_small_gap(alloc: Global, load: Load) -> Result<Cond, AllocError>
+    ensures { IfOk result (λ c. cond_tree c ≡ both (cores_fit load) (both (has_thread load) gap_is_small)) }
+{
+    let gap = gap_is_small(alloc)?;
+    let rest = both(alloc, has_thread(alloc, load)?, gap)?;
+    both(alloc, cores_fit(alloc, load)?, rest)
+}
+
+fn has_thread(alloc: Global, load: Load) -> Result<Cond, AllocError>
+    ensures { IfOk result (λ c. cond_tree c ≡ has_thread load) }
+{
+    let others = scaled(alloc, least_weight(load), OTHER_NR)?;
+    let queued = sum(alloc, others, Expr::Var(WEIGHT))?;
+    let least = Expr::Num(i64::from(least_weight(load)));
+    let room = sum(alloc, Expr::Var(OTHER_LOAD), least)?;
+    Ok(Cond::Test(Cmp::Le, queued, room))
+}
+
+fn gap_is_small(alloc: Global) -> Result<Cond, AllocError>
+    ensures { IfOk result (λ c. cond_tree c ≡ gap_is_small) }
+{
+    let after = sum(alloc, Expr::Var(SELF_LOAD), Expr::Var(WEIGHT))?;
+    Ok(Cond::Test(Cmp::Le, Expr::Var(OTHER_LOAD), after))
+}
+
+fn cores_fit(alloc: Global, load: Load) -> Result<Cond, AllocError>
+    ensures { IfOk result (λ c. cond_tree c ≡ cores_fit load) }
+{
+    let own = load_fits(alloc, load, SELF_NR, SELF_LOAD)?;
+    both(alloc, own, load_fits(alloc, load, OTHER_NR, OTHER_LOAD)?)
+}
+
+fn load_fits(alloc: Global, load: Load, nr: u32, sum: u32) -> Result<Cond, AllocError>
+    ensures { IfOk result (λ c. cond_tree c ≡ load_fits load nr sum) }
+{
+    let least = scaled(alloc, least_weight(load), nr)?;
+    let greatest = scaled(alloc, greatest_weight(load), nr)?;
+    both(
+        alloc,
+        Cond::Test(Cmp::Le, least, Expr::Var(sum)),
+        Cond::Test(Cmp::Le, Expr::Var(sum), greatest),
+    )
+}
+
+/// The least weight of a thread.
+pub fn least_weight(load: Load) -> u32
+    ensures { result ≡ least_weight load }
+{
+    match load {
+        Load::Count => 1,
+        Load::Weight { lo, .. } => lo,
+    }
+}
+
+/// The greatest weight of a thread.
+pub fn greatest_weight(load: Load) -> u32
+    ensures { result ≡ greatest_weight load }
+{
+    match load {
+        Load::Count => 1,
+        Load::Weight { hi, .. } => hi,
+    }
+}
+
+fn both(alloc: Global, left: Cond, right: Cond) -> Result<Cond, AllocError>
+    ensures { IfOk result (λ c. cond_tree c ≡ both (cond_tree left) (cond_tree right)) }
+{
+    let left = Box::new(alloc, left)?;
+    Ok(Cond::And(left, Box::new(alloc, right)?))
+}
+
+fn sum(alloc: Global, left: Expr, right: Expr) -> Result<Expr, AllocError>
+    ensures { IfOk result (λ e. expr_tree e ≡ plus (expr_tree left) (expr_tree right)) }
+{
+    let left = Box::new(alloc, left)?;
+    Ok(Expr::Add(left, Box::new(alloc, right)?))
+}
+
+fn scaled(alloc: Global, by: u32, at: u32) -> Result<Expr, AllocError>
+    ensures { IfOk result (λ e. expr_tree e ≡ times (whole by) (variable at)) }
+{
+    let by = Box::new(alloc, Expr::Num(i64::from(by)))?;
+    Ok(Expr::Mul(by, Box::new(alloc, Expr::Var(at))?))
+}

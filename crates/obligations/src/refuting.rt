@@ -1,0 +1,143 @@
+//! The cases in which a statement fails.
+
+ghost use Rattle.std.specs.Prelude.{◌≡◌, ◌++◌, [], List, IfOk, All, map, true, false};
+ghost use Rattle.std.specs.List.{AllByRecursion};
+ghost use Rattle.policy_tree.specs.Meaning.{case_tree, meaning_of};
+ghost use Rattle.policy_tree.specs.Trees.{CondTree, both, cond_tree, negated};
+ghost use Rattle.policy_eval.specs.Forms.{EachSide, IsLinear};
+ghost use Rattle.policy_eval.specs.Resolved.{IsResolved, IsWeightRange};
+ghost use Rattle.obligations.specs.Cases.{cases_of, crossed};
+ghost use Rattle.obligations.specs.Demands.{statement_seen};
+ghost use Rattle.obligations.specs.Refutations.{all_of, any_of, both_of, pairs_of};
+ghost use Rattle.obligations.specs.Systems.{refuting_cases};
+ghost use Rattle.obligations.specs.Tallies.{guards_of};
+
+use crate::building::cases_of;
+use crate::counts::count;
+use crate::crossing::{cases_of_always, crossed, joined};
+use crate::crowding::gap_count;
+use crate::premises::{idle_beside_overloaded, thread_and_small_gap, victim_of_one};
+use crate::rows::Rows;
+use crate::statements::Statement;
+use policy_tree::{Case, Cond, Load, Policy};
+use std::alloc::{AllocError, Global};
+
+/// The cases in which the statement fails.
+pub fn refuting_cases(
+    alloc: Global,
+    policy: &Policy,
+    statement: Statement,
+) -> Result<Vec<Rows>, AllocError>
+    requires { IsResolved (meaning_of policy.now) }
+    ensures { IfOk result (λ cases. cases.items ≡ refuting_cases (meaning_of policy.now) (statement_seen statement)) }
+{
+    let load = policy.load;
+    match statement {
+        Statement::IdleSeesOverloaded => {
+            let premise = idle_beside_overloaded(alloc, load)?;
+            with_filter(alloc, load, &premise, &policy.filter, false)
+        }
+        Statement::VictimIsOverloaded => {
+            let premise = victim_of_one(alloc, load)?;
+            with_filter(alloc, load, &premise, &policy.filter, true)
+        }
+        Statement::MoveNarrowsGap => {
+            let premise = thread_and_small_gap(alloc, load)?;
+            with_filter(alloc, load, &premise, &policy.filter, true)
+        }
+        Statement::NoOverlap(event) => {
+            overlap_cases(alloc, load, policy.handlers.cases(event).as_slice())
+        }
+        Statement::NoGap(event) => gap_cases(alloc, load, policy.handlers.cases(event).as_slice()),
+    }
+}
+
+/// The cases in which the premise holds and the filter has the outcome.
+fn with_filter(
+    alloc: Global,
+    load: Load,
+    premise: &Cond,
+    filter: &Cond,
+    outcome: bool,
+) -> Result<Vec<Rows>, AllocError>
+    requires load { IsWeightRange load }
+    requires premise { EachSide IsLinear (cond_tree premise.now) }
+    requires filter { EachSide IsLinear (cond_tree filter.now) }
+    ensures { IfOk result (λ cases. cases.items ≡
+        crossed (cases_of load true (cond_tree premise.now)) (cases_of load outcome (cond_tree filter.now))) }
+{
+    let given = cases_of(alloc, load, premise, true)?;
+    crossed(
+        alloc,
+        given,
+        cases_of(alloc, load, filter, outcome)?.as_slice(),
+    )
+}
+
+/// The cases in which two guards hold together.
+fn overlap_cases(alloc: Global, load: Load, cases: &[Case]) -> Result<Vec<Rows>, AllocError>
+    requires load { IsWeightRange load }
+    requires linear { AllByRecursion (EachSide IsLinear) (guards_of (map case_tree cases.now)) }
+    ensures { IfOk result (λ all. all.items ≡
+        cases_of load true (any_of (map both_of (pairs_of (guards_of (map case_tree cases.now)))))) }
+{
+    let mut all = Vec::new(alloc);
+    let mut rest = cases;
+    while let Some((case, later)) = rest.split_first() {
+        all = with_later(alloc, load, all, &case.guard, later)?;
+        rest = later;
+    }
+    Ok(all)
+}
+
+/// Some cases, and those in which the guard holds together with one of the others.
+fn with_later(
+    alloc: Global,
+    load: Load,
+    mut all: Vec<Rows>,
+    guard: &Cond,
+    later: &[Case],
+) -> Result<Vec<Rows>, AllocError>
+    requires load { IsWeightRange load }
+    requires guard { EachSide IsLinear (cond_tree guard.now) }
+    requires linear { AllByRecursion (EachSide IsLinear) (guards_of (map case_tree later.now)) }
+    ensures { IfOk result (λ more. more.items ≡ all.items ++
+        cases_of load true (any_of (map both_of (map (λ h. (cond_tree guard.now, h)) (guards_of (map case_tree later.now)))))) }
+{
+    for case in later {
+        all = joined(all, pair_cases(alloc, load, guard, &case.guard)?)?;
+    }
+    Ok(all)
+}
+
+/// The cases in which both guards hold. Where one never does, none of the other is made.
+fn pair_cases(alloc: Global, load: Load, left: &Cond, right: &Cond) -> Result<Vec<Rows>, AllocError>
+    requires load { IsWeightRange load }
+    requires left { EachSide IsLinear (cond_tree left.now) }
+    requires right { EachSide IsLinear (cond_tree right.now) }
+    ensures { IfOk result (λ cases. cases.items ≡ cases_of load true (both (cond_tree left.now) (cond_tree right.now))) }
+{
+    if count(left, true) == 0 || count(right, true) == 0 {
+        return Ok(Vec::new(alloc));
+    }
+    let cases = cases_of(alloc, load, left, true)?;
+    crossed(alloc, cases, cases_of(alloc, load, right, true)?.as_slice())
+}
+
+/// The cases in which no guard holds.
+fn gap_cases(alloc: Global, load: Load, cases: &[Case]) -> Result<Vec<Rows>, AllocError>
+    requires load { IsWeightRange load }
+    requires linear { AllByRecursion (EachSide IsLinear) (guards_of (map case_tree cases.now)) }
+    ensures { IfOk result (λ all. all.items ≡
+        cases_of load true (all_of (map negated (guards_of (map case_tree cases.now))))) }
+{
+    if gap_count(cases) == 0 {
+        return Ok(Vec::new(alloc));
+    }
+    let mut all = cases_of_always(alloc, true)?;
+    for case in cases {
+        let fails = cases_of(alloc, load, &case.guard, false)?;
+        all = crossed(alloc, all, fails.as_slice())?;
+    }
+    Ok(all)
+}
