@@ -1,5 +1,5 @@
 -- Each sentence says of thread counts and loads what the policy's statement says of all that the policy may see.
-use Rattle.std.proofs.Common.{ℕ, List, [], pos, refl, arith}
+use Rattle.std.proofs.Common.{ℕ, List, [], pos, arith}
 use Rattle.std.specs.Prelude.{◌↔◌}
 use Rattle.std.proofs.lemmas.Int.{ints}
 use Rattle.policy_tree.specs.declared.typed.Event.{Event}
@@ -7,17 +7,11 @@ use Rattle.policy_tree.specs.declared.typed.Event.TheVariants as event
 use Rattle.policy_eval.specs.declared.env.CoreValues.{CoreValues}
 use Rattle.policy_eval.specs.Events.{holding_cases}
 use Rattle.policy_eval.specs.Fitting.{CoreFits}
-use Rattle.policy_eval.specs.Obligations.{IsMet, NoGap, NoOverlap, statements_of, idle_sees_overloaded, victim_is_overloaded, move_narrows_gap}
+use Rattle.policy_eval.specs.Obligations.{IsMet, NoGap, NoOverlap, idle_sees_overloaded, victim_is_overloaded, move_narrows_gap}
 use Rattle.policy_eval.specs.Ranges.{AreIn, IsIn, attribute_ranges, range}
 use Rattle.policy_eval.specs.Sights.{no_attributes, pair_values}
-use Rattle.count_filter.specs.Judged.{ob_names}
-use Rattle.count_filter.specs.Laws.{NamesAreStatements}
 use Rattle.count_filter.proofs.Sentences.{IdleSeesOverloaded, LoadsFit, MoveNarrowsGap, VictimIsOverloaded}
 use Rattle.count_filter.specs.Policies.{policy_with}
-
-pub names_are_statements : NamesAreStatements
-unfolding statements_of ob_names
-names_are_statements p = refl
 
 -- a core without attributes
 abbrev core_of : ℕ → ℕ → CoreValues

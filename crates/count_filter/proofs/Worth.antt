@@ -14,7 +14,7 @@ use Rattle.count_filter.specs.Laws.{CertifiedPoliciesMeetThem, ReasonsAreTrue, S
 use Rattle.count_filter.specs.Policies.{policy_with}
 use Rattle.count_filter.specs.Reasons.{AreReasons, HasCertificate, IsReason, is_certified}
 use Rattle.count_filter.specs.declared.balance.Balance.{Balance}
-use Rattle.count_filter.specs.declared.obligations.ObName.TheVariants as name
+use Rattle.obligations.specs.declared.names.ObName.TheVariants as name
 use Rattle.count_filter.specs.declared.reasons.Reason.{Reason}
 use Rattle.count_filter.specs.declared.reasons.Reason.TheVariants.{Certified, Refuted}
 use Rattle.count_filter.proofs.Meanings as meanings

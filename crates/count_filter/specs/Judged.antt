@@ -1,32 +1,12 @@
--- The names of the obligations, and what it is to say which of them hold.
-use Rattle.std.specs.Prelude.{ℕ, ◌&&◌, ◌↔◌, List, [], ◌∷◌, Bool, true, IsTrue, codes}
+-- What it is to say which of the obligations hold.
+use Rattle.std.specs.Prelude.{◌&&◌, ◌↔◌, Bool, true, IsTrue}
 use Rattle.policy_tree.specs.Meaning.{Meaning}
 use Rattle.policy_eval.specs.Obligations.{IsMet}
-use Rattle.count_filter.specs.Policies.{statement_of}
 use Rattle.count_filter.specs.Reasons.{is_certified}
 use Rattle.count_filter.specs.declared.balance.Balance.{Balance}
-use Rattle.count_filter.specs.declared.obligations.ObName.{ObName}
-use Rattle.count_filter.specs.declared.obligations.ObName.TheVariants as name
-
--- the name of an obligation as it is printed
-abbrev pub ob_text : ObName → List ℕ
-ob_text name.B1 = codes "B1"
-ob_text name.B2 = codes "B2"
-ob_text name.B3 = codes "B3"
-ob_text name.H1Enqueue = codes "H1.enqueue"
-ob_text name.H2Enqueue = codes "H2.enqueue"
-ob_text name.H1Tick = codes "H1.tick"
-ob_text name.H2Tick = codes "H2.tick"
-ob_text name.H1Yield = codes "H1.yield"
-ob_text name.H2Yield = codes "H2.yield"
-ob_text name.H1Block = codes "H1.block"
-ob_text name.H2Block = codes "H2.block"
-
--- the obligations in the order of the output
-unfoldable pub ob_names : List ObName
-ob_names =
-    name.B1 ∷ name.B2 ∷ name.B3 ∷ name.H1Enqueue ∷ name.H2Enqueue ∷ name.H1Tick ∷ name.H2Tick ∷ name.H1Yield
-    ∷ name.H2Yield ∷ name.H1Block ∷ name.H2Block ∷ []
+use Rattle.obligations.specs.Names.{statement_of}
+use Rattle.obligations.specs.declared.names.ObName.{ObName}
+use Rattle.obligations.specs.declared.names.ObName.TheVariants as name
 
 -- whether an obligation is said to hold
 abbrev pub holds_in : Balance → ObName → Bool

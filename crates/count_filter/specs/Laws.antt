@@ -1,18 +1,14 @@
--- Laws: what names and systems of the obligations say, and what reasons are worth.
-use Rattle.std.specs.Prelude.{◌≡◌, ℕ, ◌↔◌, List, map}
+-- Laws: what systems of the obligations say, and what reasons are worth.
+use Rattle.std.specs.Prelude.{ℕ, ◌↔◌, List}
 use Rattle.linear_form.specs.Solution.{HasNoSolution}
 use Rattle.linear_form.specs.System.{LinearSystem}
 use Rattle.policy_tree.specs.Meaning.{Meaning}
-use Rattle.policy_eval.specs.Obligations.{IsMet, MeetsObligations, Statement, statements_of, idle_sees_overloaded, move_narrows_gap, victim_is_overloaded}
-use Rattle.count_filter.specs.Judged.{Judges, ob_names}
-use Rattle.count_filter.specs.Policies.{policy_with, statement_of}
+use Rattle.policy_eval.specs.Obligations.{IsMet, MeetsObligations, Statement, idle_sees_overloaded, move_narrows_gap, victim_is_overloaded}
+use Rattle.count_filter.specs.Judged.{Judges}
+use Rattle.count_filter.specs.Policies.{policy_with}
 use Rattle.count_filter.specs.Reasons.{HasReasons, IsCertified}
 use Rattle.count_filter.specs.Systems.{narrows_system, sees_system, spares_system}
 use Rattle.count_filter.specs.declared.balance.Balance.{Balance}
-
--- The names of the output are those of a policy's statements, in their order.
-abbrev pub NamesAreStatements : Type 0
-NamesAreStatements = (p : Meaning) → statements_of p ≡ map statement_of ob_names
 
 -- The system has no solution just where the policy meets the statement, whatever its name and threshold.
 abbrev pub IsSystemOf : (ℕ → LinearSystem) → Statement → Type 0

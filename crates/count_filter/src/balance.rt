@@ -1,7 +1,7 @@
 //! Which obligations hold, and why.
 
-use crate::obligations::ObName;
 use crate::reasons::Reason;
+use obligations::ObName;
 
 /// Why each balance obligation holds or fails. Those of the handlers have no field, since they hold of the default
 /// handlers.

@@ -1,11 +1,6 @@
 //! Laws of the definitions, each a function without parameters whose contract is the law.
 
-ghost use Rattle.count_filter.specs.Laws.{CertifiedPoliciesMeetThem, NamesAreStatements, ReasonsAreTrue, SystemsAreTheirs};
-
-/// The names of the output stand for a policy's statements, all of them and in their order.
-pub fn law_names()
-    ensures { NamesAreStatements }
-{}
+ghost use Rattle.count_filter.specs.Laws.{CertifiedPoliciesMeetThem, ReasonsAreTrue, SystemsAreTheirs};
 
 /// Each system is that of its obligation: it has no solution just where the policy meets the obligation.
 pub fn law_systems()

@@ -12,7 +12,8 @@ use Rattle.policy_reader.specs.Lines as faults
 use Rattle.trace_play.specs.declared.answer.PlayAnswer.{PlayAnswer}
 use Rattle.trace_play.specs.Plays as plays
 use Rattle.trace_play.specs.Told as trace_faults
-use Rattle.count_filter.specs.Judged.{all_hold, ob_names}
+use Rattle.count_filter.specs.Judged.{all_hold}
+use Rattle.obligations.specs.Names.{ob_names}
 use Rattle.serial_play.specs.declared.rounds.Played.TheVariants as played
 use Rattle.trace_play.specs.declared.answer.PlayAnswer.TheVariants as play_answer
 use Rattle.ipanema_cli.specs.Answers.{IsAnswer, lines_of, output_of, status_of}

@@ -6,12 +6,13 @@ use Rattle.policy_reader.specs.Faults.{HasFault}
 use Rattle.policy_reader.specs.Lines.{fault_line}
 use Rattle.policy_reader.specs.Spelled.{SpellsPolicy}
 use Rattle.count_filter.specs.Form.{HasForm}
-use Rattle.count_filter.specs.Judged.{Judges, all_hold, holds_in, ob_names, ob_text}
+use Rattle.count_filter.specs.Judged.{Judges, all_hold, holds_in}
+use Rattle.obligations.specs.Names.{ob_names, ob_text}
 use Rattle.count_filter.specs.Reasons.{HasReasons}
 use Rattle.ipanema_cli.specs.declared.checking.CheckAnswer.{CheckAnswer}
 use Rattle.ipanema_cli.specs.declared.checking.CheckAnswer.TheVariants as check
 use Rattle.count_filter.specs.declared.balance.Balance.{Balance}
-use Rattle.count_filter.specs.declared.obligations.ObName.{ObName}
+use Rattle.obligations.specs.declared.names.ObName.{ObName}
 use Rattle.ipanema_cli.specs.declared.status.Status.{Status}
 use Rattle.ipanema_cli.specs.declared.status.Status.TheVariants as status
 

@@ -3,7 +3,7 @@
 ghost use Rattle.std.specs.Prelude.{◌≡◌, ◌≤◌, ◌++◌, ◌∷◌, [], ℕ, List, IfErr, IfOk, length, map};
 ghost use Rattle.sched_base.specs.declared.limits.TheConstants.{MAX_POLICY_BYTES};
 ghost use Rattle.sched_io.specs.Puts.{Puts};
-ghost use Rattle.count_filter.specs.Judged.{ob_names};
+ghost use Rattle.obligations.specs.Names.{ob_names};
 ghost use Rattle.policy_reader.specs.Lines.{fault_line};
 ghost use Rattle.policy_reader.specs.Spelled.{SpellsPolicy};
 ghost use Rattle.policy_tree.specs.Meaning.{meaning_of};
@@ -12,7 +12,8 @@ ghost use Rattle.ipanema_cli.specs.declared.stop.Stop.TheVariants as stop;
 
 use crate::status::Status;
 use crate::stop::Stop;
-use count_filter::{Balance, NAMES, ObName, judge, threshold_of};
+use count_filter::{Balance, judge, threshold_of};
+use obligations::{ObName, ob_names};
 use policy_reader::{PolicyFault, TextFault, read_policy};
 use policy_tree::Policy;
 use sched_io::{Line, PutFault, Sink, put_all};
@@ -84,7 +85,7 @@ impl CheckAnswer {
 fn put_judged<S: Sink>(out: &mut S, balance: &Balance) -> Result<(), PutFault>
     ensures { Puts (map (line_of balance.now) ob_names ++ verdict_line balance.now ∷ []) result (S.shown out.old) (S.shown out.new) }
 {
-    put_lines(out, balance, &NAMES)?;
+    put_lines(out, balance, ob_names())?;
     put_all(out, verdict(balance))?;
     Ok(())
 }

@@ -4,7 +4,7 @@ use Rattle.std.proofs.lemmas.List.{get_or-map, length-map}
 use Rattle.std.proofs.lemmas.Result.{err_from_is_err_and}
 use Rattle.sched_io.proofs.PutsLemmas.{puts_next, stops_here}
 use Rattle.ipanema_cli.specs.CheckAnswer.{line_of}
-use Rattle.count_filter.specs.declared.obligations.ObName.TheVariants.{B1}
+use Rattle.obligations.specs.declared.names.ObName.TheVariants.{B1}
 use Rattle.ipanema_cli.proofs.checking.put_lines.Goals as goal
 
 pub returns-in_err-put_all : goal.returns-in_err-put_all
