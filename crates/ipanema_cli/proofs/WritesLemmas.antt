@@ -4,7 +4,7 @@ use Rattle.std.specs.List.{flat_map}
 use Rattle.std.proofs.lemmas.Grind.{flat_map-append}
 use Rattle.std.proofs.lemmas.List.Folds.{flat_map-map}
 use Rattle.sched_io.specs.Told.{Told}
-use Rattle.sched_io.specs.Puts.{WritesAll, WritesPart, joined}
+use Rattle.sched_io.specs.Puts.{WritesPart, joined}
 use Rattle.sched_io.specs.Shown.{Shown}
 use Rattle.sched_io.specs.Written.{Adds}
 use Rattle.sched_history.specs.Spelling.{line_of_entry}
@@ -26,7 +26,6 @@ use Rattle.ipanema_cli.specs.declared.answers.Answer.{Answer}
 use Rattle.ipanema_cli.specs.declared.answers.Answer.TheVariants as answer
 use Rattle.ipanema_cli.specs.declared.checking.CheckAnswer.{CheckAnswer}
 use Rattle.ipanema_cli.specs.declared.checking.CheckAnswer.TheVariants as check
-use Rattle.ipanema_cli.specs.declared.status.Status.{Status}
 use Rattle.ipanema_cli.specs.declared.status.Status.TheVariants as status
 
 -- the number that an answer ends with

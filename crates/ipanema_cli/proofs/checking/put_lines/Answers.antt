@@ -1,5 +1,5 @@
 -- Line after line.
-use Rattle.std.proofs.Common.{◌≡◌, ◌<◌, ℕ, List, [], ◌∷◌, length, get_or, map, sym, ◌∙◌, arith}
+use Rattle.std.proofs.Common.{◌<◌, ℕ, [], length, map, sym, ◌∙◌, arith}
 use Rattle.std.proofs.lemmas.List.{get_or-map, length-map}
 use Rattle.std.proofs.lemmas.Result.{err_from_is_err_and}
 use Rattle.sched_io.proofs.PutsLemmas.{puts_next, stops_here}
