@@ -6,7 +6,7 @@ use Rattle.std.proofs.lemmas.Int.{ints}
 use Rattle.std.proofs.lemmas.List.Elements.{All-nil, All-cons, All-append, All-from_recursion}
 use Rattle.linear_cert.specs.declared.cert.Mult.{Mult}
 use Rattle.linear_cert.specs.Right.{CertTree, leaf, split, SplitsAtMost}
-use Rattle.linear_cert.specs.declared.cert.TheConstants.{MAX_SPLITS}
+use Rattle.sched_base.specs.declared.limits.TheConstants.{MAX_SPLITS}
 use Rattle.cert_text.specs.declared.fault.CertFault.{CertFault}
 use Rattle.cert_text.specs.declared.fault.CertFault.TheVariants.{BadText, Memory}
 use Rattle.cert_text.specs.declared.node.Node.{Node}

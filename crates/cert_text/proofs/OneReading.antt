@@ -6,7 +6,7 @@ use Rattle.std.proofs.lemmas.Fmt.{decimal_injective, signed_decimal_injective}
 use Rattle.std.proofs.lemmas.List.{append-nil}
 use Rattle.linear_cert.specs.declared.cert.Mult.{Mult}
 use Rattle.linear_cert.specs.declared.cert.Cert.{Cert}
-use Rattle.linear_cert.specs.declared.cert.TheConstants.{MAX_SPLITS}
+use Rattle.sched_base.specs.declared.limits.TheConstants.{MAX_SPLITS}
 use Rattle.linear_cert.specs.Right.{CertTree, leaf, split, SplitsAtMost, cert_tree}
 use Rattle.cert_text.specs.declared.fault.CertFault.{CertFault}
 use Rattle.cert_text.specs.declared.fault.CertFault.TheVariants.{BadText, Memory}

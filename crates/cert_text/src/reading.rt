@@ -9,7 +9,8 @@ ghost use Rattle.cert_text.specs.Text.{SpellsCertificate};
 use crate::fault::CertFault;
 use crate::lines::cut;
 use crate::node::{Node, node_in};
-use linear_cert::{Cert, MAX_SPLITS};
+use linear_cert::Cert;
+use sched_base::MAX_SPLITS;
 use std::alloc::Global;
 
 /// The certificate that the text spells, or the first bad line. It calls itself for the parts of a

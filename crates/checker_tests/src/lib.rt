@@ -1,4 +1,5 @@
-//! Tests of systems, of the certificate checker, of certificates' texts and of the deciders, through their public calls.
+//! Tests of systems, of the certificate checker, of certificates' texts and of the deciders,
+//! through their public calls.
 #![tactic(auto)]
 
 #[cfg(test)]

@@ -1,10 +1,11 @@
 //! Tables of texts of certificates, and certificates that split.
 
-ghost use Rattle.std.specs.Prelude.{◌<◌, IfOk, length};
+ghost use Rattle.std.specs.Prelude.{◌<◌};
 
 use crate::tests::{HALF, system_of};
 use cert_text::{CertFault, read_cert, write_cert};
-use linear_cert::{Cert, MAX_SPLITS, check};
+use linear_cert::{Cert, check};
+use sched_base::MAX_SPLITS;
 use std::alloc::Global;
 use std::test::Fail;
 

@@ -23,7 +23,8 @@ IsOnce mult = mult.by ≡ 1
 pub record IsDistance (bounds : List Bound) (rows : List Row) (from to : ℕ) (distance : Distance) : Type 0 where
   pub named : All (NamesRow bounds rows) distance.mults
   pub once : All IsOnce distance.mults
-  pub columns : (v : ℕ) → v < length bounds → column_sum (Variable v) bounds rows distance.mults +ℤ unit to v ≡ unit from v
+  pub columns : (v : ℕ) → v < length bounds → column_sum (Variable v) bounds rows distance.mults +ℤ unit to v
+      ≡ unit from v
   pub right : column_sum RightSide bounds rows distance.mults ≡ distance.bound
 
 -- terms over so many variables are the first node minus the second
@@ -31,7 +32,8 @@ pub record IsEdge (variables : ℕ) (terms : List Term) (from to : ℕ) : Type 0
   pub from_known : from ≤ variables
   pub to_known : to ≤ variables
   pub columns : (v : ℕ) → v < variables → coefficient v terms +ℤ unit to v ≡ unit from v
-  pub value : (point : List ℤ) → length point ≡ variables → left_side point terms +ℤ value_at point to ≡ value_at point from
+  pub value : (point : List ℤ) → length point ≡ variables →
+      left_side point terms +ℤ value_at point to ≡ value_at point from
 
 -- the table keeps the row: its nodes are no farther apart than the row says
 pub record Keeps (variables : ℕ) (table : Table) (row : Row) : Type 0 where

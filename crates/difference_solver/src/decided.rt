@@ -2,7 +2,6 @@
 
 use linear_cert::Cert;
 use linear_form::Point;
-use std::alloc::AllocError;
 
 /// What was found out about a system.
 #[derive(Drop)]
@@ -11,17 +10,4 @@ pub enum Decided {
     Holds(Cert),
     /// The point is a solution.
     Fails(Point),
-}
-
-/// Why a system wasn't decided.
-#[derive(Clone, Copy, Debug, PartialEq, Eq)]
-pub enum SolveMemory {
-    /// There was no memory for it.
-    Memory,
-}
-
-impl From<AllocError> for SolveMemory {
-    fn from(_error: AllocError) -> Self {
-        SolveMemory::Memory
-    }
 }

@@ -13,5 +13,6 @@ mod ranges;
 mod rows;
 mod solver;
 
-pub use decided::{Decided, SolveMemory};
+pub use decided::Decided;
+pub use linear_cert::SolveMemory;
 pub use solver::decide_differences;

@@ -1,6 +1,6 @@
 //! What the rows of a system say of distances.
 
-ghost use Rattle.std.specs.Prelude.{◌≡◌, ◌↔◌, ◌+◌, ◌<◌, ◌<ℤ◌, IsTrue, length, Some, slice_get, All, IfOk, OnOk};
+ghost use Rattle.std.specs.Prelude.{◌≡◌, ◌↔◌, ◌+◌, ◌<◌, ◌<ℤ◌, IsTrue, length, Some, slice_get, All, OnOk};
 ghost use Rattle.linear_form.specs.Difference.{IsDifference, IsDifferenceRow};
 ghost use Rattle.linear_form.specs.System.{IsRow, IsSystem};
 ghost use Rattle.difference_solver.specs.Meaning.{IsEdge, Keeps};

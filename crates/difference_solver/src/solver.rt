@@ -9,12 +9,12 @@ ghost use Rattle.difference_solver.specs.Closing.{IsAnswer, IsClosed, IsShortBeh
 ghost use Rattle.difference_solver.specs.Decides.{Decides, HoldsShallowly};
 
 use crate::closing::pass;
-use crate::decided::{Decided, SolveMemory};
+use crate::decided::Decided;
 use crate::distance::Distance;
 use crate::distances::Distances;
 use crate::ranges::range_distances;
 use crate::rows::shorten_by_rows;
-use linear_cert::Cert;
+use linear_cert::{Cert, SolveMemory};
 use linear_form::{Point, System};
 use lists::Items;
 use std::alloc::{AllocError, Global};

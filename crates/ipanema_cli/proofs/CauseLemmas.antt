@@ -1,65 +1,71 @@
 -- From how a call ends to the cause of its status.
-use Rattle.std.proofs.Common.{◌≡◌, ◌≢◌, ℕ, ◌<◌, inl, inr, List, [], ◌∷◌, Option, Some, None, refl, sym, ◌∙◌, ap, arith, length, subst, Bool, true, false, if◌then◌else◌}
+use Rattle.std.proofs.Common.{◌≡◌, ◌≢◌, ℕ, ◌<◌, ◌⊎◌, inl, inr, List, [], ◌∷◌, Option, Some, None, codes, refl, sym, ◌∙◌, ap, arith, length, subst}
+use Rattle.sched_io.specs.Puts.{joined}
 use Rattle.sched_io.specs.Shown.{Shown}
 use Rattle.sched_io.specs.Told.{Told, holds}
 use Rattle.sched_io.specs.Written.{Adds}
-use Rattle.count_filter.specs.Judged.{all_hold}
+use Rattle.obligations.specs.declared.names.ObName.{ObName}
+use Rattle.policy_checker.specs.declared.answer.Outcome.{Outcome}
+use Rattle.policy_checker.specs.declared.answer.Outcome.TheVariants as outcome
+use Rattle.policy_checker.specs.declared.verdict.Verdict.TheVariants as verdict
+use Rattle.policy_check.specs.Checks.{IsRefusal}
+use Rattle.policy_check.specs.Lines.{refusal_line}
+use Rattle.policy_check.specs.declared.answer.CheckAnswer.TheVariants as checked
+use Rattle.policy_check.specs.declared.explaining.ExplainAnswer.TheVariants as explained
+use Rattle.policy_check.specs.declared.reading.Refusal.{Refusal}
+use Rattle.policy_check.specs.declared.reading.Refusal.TheVariants as refusal
 use Rattle.serial_play.specs.declared.rounds.Played.TheVariants as played
 use Rattle.trace_play.specs.declared.answer.PlayAnswer.TheVariants as play_answer
-use Rattle.ipanema_cli.specs.Answers.{AnswersCheck, AnswersPlay, IsAnswer, output_of, status_of}
-use Rattle.ipanema_cli.specs.Command.{Asked, IsFileOf, check, play}
+use Rattle.ipanema_cli.specs.Answers.{AnswersCheck, AnswersExplain, AnswersPlay, IsAnswer, output_of, status_of}
+use Rattle.ipanema_cli.specs.Command.{Asked, IsFileOf, check, explain, play}
 use Rattle.ipanema_cli.specs.Ends.{Ends, answered, unread, no_memory}
-use Rattle.ipanema_cli.specs.Causes.{HasCause, OneOf}
-use Rattle.ipanema_cli.specs.Status.{code_of}
+use Rattle.ipanema_cli.specs.Causes.{HasCause, OneOf, SaysCrowded, SaysTooLong}
+use Rattle.ipanema_cli.specs.Status.{code_of, outcome_status, refusal_status}
 use Rattle.ipanema_cli.specs.Stops.{IsUnread}
-use Rattle.ipanema_cli.specs.Texts.{MayRead, room_of}
+use Rattle.ipanema_cli.specs.Texts.{MayRead, room_of, too_long_line}
 use Rattle.ipanema_cli.specs.declared.answers.Answer.{Answer}
 use Rattle.ipanema_cli.specs.declared.answers.Answer.TheVariants as answer
-use Rattle.ipanema_cli.specs.declared.checking.CheckAnswer.TheVariants as checked
 use Rattle.ipanema_cli.specs.declared.status.Status.TheVariants as status
 use Rattle.ipanema_cli.specs.declared.texts.TextKind.{TextKind}
 use Rattle.ipanema_cli.specs.declared.texts.TextKind.TheVariants as kind
-use Rattle.ipanema_cli.proofs.WritesLemmas.{is_0, is_1, is_2, is_7, is_8, is_10, answer_code, code_among, cut, no_stop, whole}
+use Rattle.ipanema_cli.proofs.WritesLemmas.{is_0, is_1, is_2, is_3, is_7, is_8, is_10, answer_code, code_among, cut, no_stop, one_line, whole}
 
--- a verdict has none but the numbers 0 and 1
-pub verdict_low : (b : Bool) → code_of (if b then status.Done else status.Refused) < 2
-verdict_low true = omega arith
-verdict_low false = omega arith
+known_code : (a : Answer) → OneOf (0 ∷ 1 ∷ 2 ∷ 3 ∷ 4 ∷ 5 ∷ 6 ∷ 7 ∷ 8 ∷ 10 ∷ []) (code_of (status_of a))
+known_code a = elim (answer_code a) [ is_0 h ↦ rw h refl | is_1 h ↦ rw h refl | is_2 h ↦ rw h refl | is_3 h ↦ rw h refl | is_7 h ↦ rw h refl | is_8 h ↦ rw h refl | is_10 h ↦ rw h refl ]
 
-known_code : (a : Answer) → OneOf (0 ∷ 1 ∷ 2 ∷ 4 ∷ 5 ∷ 6 ∷ 7 ∷ 8 ∷ 10 ∷ []) (code_of (status_of a))
-known_code a = elim (answer_code a) [ is_0 h ↦ rw h refl | is_1 h ↦ rw h refl | is_2 h ↦ rw h refl | is_7 h ↦ rw h refl | is_8 h ↦ rw h refl | is_10 h ↦ rw h refl ]
+-- an answer to an obligation has none but the numbers 0, 1 and 3
+outcome_low : (told : Outcome) (n : ℕ) → n ≢ 0 → n ≢ 1 → n ≢ 3 → code_of (outcome_status told) ≡ n → ⊥
+outcome_low outcome.Holds n a b c e = a (sym e)
+outcome_low outcome.Fails n a b c e = b (sym e)
+outcome_low outcome.Undecided n a b c e = c (sym e)
 
 -- the number 7 is that of one answer
 seven : (a : Answer) → code_of (status_of a) ≡ 7 → a ≡ answer.BadWords
-seven (answer.Checked (checked.Judged policy balance)) e = absurd (omega (arith, verdict_low (all_hold balance)))
-seven (answer.Checked (checked.Faulty fault)) e = absurd (omega arith)
-seven (answer.Checked checked.NotBuilt) e = absurd (omega arith)
+seven (answer.Checked (checked.Judged (verdict.Accepted policy))) e = absurd (omega arith)
+seven (answer.Checked (checked.Judged (verdict.Refused answers policy))) e = absurd (omega arith)
+seven (answer.Checked (checked.Judged (verdict.Undecided answers policy))) e = absurd (omega arith)
+seven (answer.Checked (checked.Unjudged (refusal.Faulty fault))) e = absurd (omega arith)
+seven (answer.Checked (checked.Unjudged (refusal.Crowded name))) e = absurd (omega arith)
+seven (answer.Explained (explained.Explained told)) e = absurd (outcome_low told.outcome 7 (λ h. omega arith) (λ h. omega arith) (λ h. omega arith) e)
+seven (answer.Explained (explained.Unjudged (refusal.Faulty fault))) e = absurd (omega arith)
+seven (answer.Explained (explained.Unjudged (refusal.Crowded name))) e = absurd (omega arith)
 seven (answer.Played (play_answer.Broken fault)) e = absurd (omega arith)
 seven (answer.Played (play_answer.Played (played.Whole history))) e = absurd (omega arith)
 seven (answer.Played (play_answer.Played (played.Full history))) e = absurd (omega arith)
 seven (answer.TooLong which) e = absurd (omega arith)
 seven answer.BadWords e = refl
 
--- and so is 10, but for the text
-ten : (a : Answer) → code_of (status_of a) ≡ 10 → (which : TextKind) × (a ≡ answer.TooLong which)
-ten (answer.Checked (checked.Judged policy balance)) e = absurd (omega (arith, verdict_low (all_hold balance)))
-ten (answer.Checked (checked.Faulty fault)) e = absurd (omega arith)
-ten (answer.Checked checked.NotBuilt) e = absurd (omega arith)
-ten (answer.Played (play_answer.Broken fault)) e = absurd (omega arith)
-ten (answer.Played (play_answer.Played (played.Whole history))) e = absurd (omega arith)
-ten (answer.Played (play_answer.Played (played.Full history))) e = absurd (omega arith)
-ten (answer.TooLong which) e = (which, refl)
-ten answer.BadWords e = absurd (omega arith)
-
 -- no command has that answer
 for_no_command : (asked : Option Asked) (told : List ℕ → Told) → IsAnswer asked told answer.BadWords → asked ≡ None
 for_no_command None told is = refl
 for_no_command (Some (check policy)) told is = absurd is
+for_no_command (Some (explain policy name)) told is = absurd is
 for_no_command (Some (play policy trace)) told is = absurd is
 
 -- and words that are no command have no other
 no_command_code : (told : List ℕ → Told) (a : Answer) → IsAnswer None told a → code_of (status_of a) ≡ 7
-no_command_code told (answer.Checked checked) is = absurd is
+no_command_code told (answer.Checked c) is = absurd is
+no_command_code told (answer.Explained e) is = absurd is
 no_command_code told (answer.Played outcome) is = absurd is
 no_command_code told (answer.TooLong which) is = absurd is
 no_command_code told answer.BadWords is = refl
@@ -71,19 +77,29 @@ not_read which told text held read tells long =
 
 -- so where a file is too long, the answer says that one is
 long_for_check : (policy : Told) (a : Answer) (held : List ℕ) → AnswersCheck policy a → policy ≡ holds held → room_of kind.Policy < length held → code_of (status_of a) ≡ 10
-long_for_check policy (answer.Checked checked) held (text, read, is) tells long = absurd (not_read kind.Policy policy text held read tells long)
+long_for_check policy (answer.Checked c) held (text, read, is) tells long = absurd (not_read kind.Policy policy text held read tells long)
+long_for_check policy (answer.Explained e) held is tells long = absurd is
 long_for_check policy (answer.Played outcome) held is tells long = absurd is
 long_for_check policy (answer.TooLong which) held is tells long = refl
 long_for_check policy answer.BadWords held is tells long = absurd is
 
+long_for_explain : (policy : Told) (name : ObName) (a : Answer) (held : List ℕ) → AnswersExplain policy name a → policy ≡ holds held → room_of kind.Policy < length held → code_of (status_of a) ≡ 10
+long_for_explain policy name (answer.Checked c) held is tells long = absurd is
+long_for_explain policy name (answer.Explained e) held (text, read, is) tells long = absurd (not_read kind.Policy policy text held read tells long)
+long_for_explain policy name (answer.Played outcome) held is tells long = absurd is
+long_for_explain policy name (answer.TooLong which) held is tells long = refl
+long_for_explain policy name answer.BadWords held is tells long = absurd is
+
 long_for_play : (policy trace : Told) (a : Answer) (held : List ℕ) → AnswersPlay policy trace a → policy ≡ holds held → room_of kind.Policy < length held → code_of (status_of a) ≡ 10
-long_for_play policy trace (answer.Checked checked) held is tells long = absurd (not_read kind.Policy policy is.text held is.policy_read tells long)
+long_for_play policy trace (answer.Checked c) held is tells long = absurd (not_read kind.Policy policy is.text held is.policy_read tells long)
+long_for_play policy trace (answer.Explained e) held is tells long = absurd is
 long_for_play policy trace (answer.Played outcome) held is tells long = absurd (not_read kind.Policy policy is.text held is.policy_read tells long)
 long_for_play policy trace (answer.TooLong which) held is tells long = refl
 long_for_play policy trace answer.BadWords held is tells long = absurd is
 
 long_trace_for_play : (policy trace : Told) (a : Answer) (held : List ℕ) → AnswersPlay policy trace a → trace ≡ holds held → room_of kind.Trace < length held → code_of (status_of a) ≡ 10
-long_trace_for_play policy trace (answer.Checked checked) held is tells long = absurd (not_read kind.Trace trace is.jobs held is.trace_read tells long)
+long_trace_for_play policy trace (answer.Checked c) held is tells long = absurd (not_read kind.Trace trace is.jobs held is.trace_read tells long)
+long_trace_for_play policy trace (answer.Explained e) held is tells long = absurd is
 long_trace_for_play policy trace (answer.Played outcome) held is tells long = absurd (not_read kind.Trace trace is.jobs held is.trace_read tells long)
 long_trace_for_play policy trace (answer.TooLong which) held is tells long = refl
 long_trace_for_play policy trace answer.BadWords held is tells long = absurd is
@@ -92,8 +108,45 @@ long_file : (asked : Option Asked) (told : List ℕ → Told) (a : Answer) (whic
 long_file None told a which name held is file tells long = absurd file
 long_file (Some (check policy)) told a kind.Policy name held is file tells long = long_for_check (told policy) a held is (sym (ap told file) ∙ tells) long
 long_file (Some (check policy)) told a kind.Trace name held is file tells long = absurd file
+long_file (Some (explain policy ob)) told a kind.Policy name held is file tells long = long_for_explain (told policy) ob a held is (sym (ap told file) ∙ tells) long
+long_file (Some (explain policy ob)) told a kind.Trace name held is file tells long = absurd file
 long_file (Some (play policy trace)) told a kind.Policy name held is file tells long = long_for_play (told policy) (told trace) a held is (sym (ap told file) ∙ tells) long
 long_file (Some (play policy trace)) told a kind.Trace name held is file tells long = long_trace_for_play (told policy) (told trace) a held is (sym (ap told file) ∙ tells) long
+
+-- the number 10 is that of a text that is too long, or of a policy with an obligation that has too many cases
+module _ (told : List ℕ → Told) (before after : Option (List ℕ)) where
+  crowded_by : (asked : Option Asked) (policy text : List ℕ) (why : Refusal) → IsFileOf asked kind.Policy policy → MayRead kind.Policy (told policy) text → IsRefusal text why
+      → code_of (refusal_status why) ≡ 10 → Adds (joined (refusal_line why ∷ [])) before after → SaysCrowded asked told before after
+  crowded_by asked policy text (refusal.Faulty fault) file read is e added = absurd (omega arith)
+  crowded_by asked policy text (refusal.Crowded name) file read is e added =
+      (policy, text, name, file, read, is, one_line (refusal_line (refusal.Crowded name)) before after added)
+
+  ten : (asked : Option Asked) (a : Answer) → IsAnswer asked told a → code_of (status_of a) ≡ 10 → Adds (output_of a) before after
+      → SaysTooLong asked told before after ⊎ SaysCrowded asked told before after
+  ten asked (answer.TooLong which) is e added = inl (which, is, one_line (too_long_line which) before after added)
+  ten None (answer.Checked c) is e added = absurd is
+  ten (Some (check policy)) (answer.Checked (checked.Judged (verdict.Accepted kept))) is e added = absurd (omega arith)
+  ten (Some (check policy)) (answer.Checked (checked.Judged (verdict.Refused answers kept))) is e added = absurd (omega arith)
+  ten (Some (check policy)) (answer.Checked (checked.Judged (verdict.Undecided answers kept))) is e added = absurd (omega arith)
+  ten (Some (check policy)) (answer.Checked (checked.Unjudged why)) (text, read, is) e added =
+      inr (crowded_by (Some (check policy)) policy text why refl read is e added)
+  ten (Some (explain policy ob)) (answer.Checked c) is e added = absurd is
+  ten (Some (play policy trace)) (answer.Checked (checked.Judged (verdict.Accepted kept))) is e added = absurd (omega arith)
+  ten (Some (play policy trace)) (answer.Checked (checked.Judged (verdict.Refused answers kept))) is e added = absurd (omega arith)
+  ten (Some (play policy trace)) (answer.Checked (checked.Judged (verdict.Undecided answers kept))) is e added = absurd (omega arith)
+  ten (Some (play policy trace)) (answer.Checked (checked.Unjudged why)) is e added =
+      inr (crowded_by (Some (play policy trace)) policy is.text why refl is.policy_read is.answers.0 e added)
+  ten None (answer.Explained told) is e added = absurd is
+  ten (Some (check policy)) (answer.Explained told) is e added = absurd is
+  ten (Some (explain policy ob)) (answer.Explained (explained.Explained told)) is e added =
+      absurd (outcome_low told.outcome 10 (λ h. omega arith) (λ h. omega arith) (λ h. omega arith) e)
+  ten (Some (explain policy ob)) (answer.Explained (explained.Unjudged why)) (text, read, is) e added =
+      inr (crowded_by (Some (explain policy ob)) policy text why refl read is e added)
+  ten (Some (play policy trace)) (answer.Explained told) is e added = absurd is
+  ten asked (answer.Played (play_answer.Broken fault)) is e added = absurd (omega arith)
+  ten asked (answer.Played (play_answer.Played (played.Whole history))) is e added = absurd (omega arith)
+  ten asked (answer.Played (play_answer.Played (played.Full history))) is e added = absurd (omega arith)
+  ten asked answer.BadWords is e added = absurd (omega arith)
 
 pub causes : (asked : Option Asked) (told : List ℕ → Told) (read_fault : Type 0) (before after : Shown) (code : ℕ) → Ends asked told read_fault before after code → HasCause asked told read_fault before after code
 causes asked told read_fault before after code (answered a is writes) =
@@ -108,15 +161,12 @@ causes asked told read_fault before after code (answered a is writes) =
       bad_words = λ h.
           let same = seven a (own 7 (λ e. omega arith) h) in
           let added = whole a before after code writes (λ e. omega arith) in
-          (for_no_command asked told (subst (IsAnswer asked told) same is), subst (λ (x : Answer). Adds (output_of x) before.written after.written) same added);
+          (for_no_command asked told (subst (IsAnswer asked told) same is), one_line (codes "bad words\n") before.written after.written (subst (λ (x : Answer). Adds (output_of x) before.written after.written) same added));
       no_command = λ none. elim among [
         | inl e ↦ rw (e, no_command_code told a (subst (λ (x : Option Asked). IsAnswer x told a) none is)) refl
         | inr e ↦ rw e refl
       ];
-      too_long = λ h.
-          let found = ten a (own 10 (λ e. omega arith) h) in
-          let added = whole a before after code writes (λ e. omega arith) in
-          (found.0, subst (IsAnswer asked told) found.1 is, subst (λ (x : Answer). Adds (output_of x) before.written after.written) found.1 added);
+      too_much = λ h. ten told before.written after.written asked a is (own 10 (λ e. omega arith) h) (whole a before after code writes (λ e. omega arith));
       past_limit = λ which name held file tells long. elim among [
         | inl f ↦ rw (f, long_file asked told a which name held is file tells long) refl
         | inr f ↦ rw f refl
@@ -129,7 +179,7 @@ causes asked told read_fault before after code (unread e cause added) = record {
   no_memory = λ h. absurd (omega arith);
   bad_words = λ h. absurd (omega arith);
   no_command = λ none. absurd (subst (λ (x : Option Asked). IsUnread x told read_fault) none cause);
-  too_long = λ h. absurd (omega arith);
+  too_much = λ h. absurd (omega arith);
   past_limit = λ which name held file tells long. rw e refl;
 }
 causes asked told read_fault before after code (no_memory e added) = record {
@@ -139,6 +189,6 @@ causes asked told read_fault before after code (no_memory e added) = record {
   no_memory = λ h. added.bytes;
   bad_words = λ h. absurd (omega arith);
   no_command = λ none. rw e refl;
-  too_long = λ h. absurd (omega arith);
+  too_much = λ h. absurd (omega arith);
   past_limit = λ which name held file tells long. rw e refl;
 }

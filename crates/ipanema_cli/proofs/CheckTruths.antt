@@ -1,26 +1,34 @@
 -- From how `check` ends to the truth of what it says.
-use Rattle.std.proofs.Common.{◌≡◌, ℕ, inl, inr, List, [], ◌∷◌, Option, refl, sym, ◌∙◌, ap, arith, length, subst}
+use Rattle.std.proofs.Common.{◌≡◌, ◌≢◌, ℕ, inl, inr, List, [], ◌∷◌, Option, refl, sym, ◌∙◌, ap, arith, length, subst}
+use Rattle.sched_io.specs.Puts.{joined}
 use Rattle.sched_io.specs.Shown.{Shown}
 use Rattle.sched_io.specs.Told.{Told}
 use Rattle.sched_io.specs.Written.{Adds}
-use Rattle.policy_reader.specs.Faults.{HasFault}
-use Rattle.policy_reader.specs.Spelled.{SpellsPolicy}
-use Rattle.count_filter.specs.Policies.{policy_with}
+use Rattle.policy_reader.specs.Lines.{fault_line}
+use Rattle.policy_tree.specs.Meaning.{Meaning, meaning_of}
+use Rattle.policy_checker.specs.Verdicts.{policy_of}
+use Rattle.policy_checker.specs.declared.verdict.Verdict.{Verdict}
+use Rattle.policy_checker.specs.declared.verdict.Verdict.TheVariants as verdict
+use Rattle.policy_checker.proofs.True.{meets}
+use Rattle.policy_check.specs.Checks.{IsCheckOf, IsJudged, IsRefusal}
+use Rattle.policy_check.specs.Lines.{check_lines, refusal_line, verdict_lines}
+use Rattle.policy_check.specs.declared.answer.CheckAnswer.{CheckAnswer}
+use Rattle.policy_check.specs.declared.answer.CheckAnswer.TheVariants as checked
+use Rattle.policy_check.specs.declared.reading.Refusal.{Refusal}
+use Rattle.policy_check.specs.declared.reading.Refusal.TheVariants as refusal
 use Rattle.round_laws.proofs.MainTheorem.{main_theorem}
-use Rattle.ipanema_cli.specs.Answers.{AnswersCheck, output_of, status_of}
+use Rattle.ipanema_cli.specs.Answers.{AnswersCheck}
 use Rattle.ipanema_cli.specs.Causes.{OneOf}
-use Rattle.ipanema_cli.specs.CheckAnswer.{IsCheckOf, check_output, check_status}
 use Rattle.ipanema_cli.specs.Ends.{Writes}
-use Rattle.ipanema_cli.specs.Status.{code_of}
+use Rattle.ipanema_cli.specs.Status.{check_status, code_of, refusal_status, verdict_status}
 use Rattle.ipanema_cli.specs.Texts.{MayBeLong, MayRead}
-use Rattle.ipanema_cli.specs.Truths.{AnswersForOne, ChecksTruly, Holds}
+use Rattle.ipanema_cli.specs.Truths.{AcceptedPolicy, AnswersFor, ChecksTruly, Decides, Holds, Refuses, TellsFault}
 use Rattle.ipanema_cli.specs.declared.answers.Answer.{Answer}
 use Rattle.ipanema_cli.specs.declared.answers.Answer.TheVariants as answer
-use Rattle.ipanema_cli.specs.declared.checking.CheckAnswer.{CheckAnswer}
 use Rattle.ipanema_cli.specs.declared.texts.TextKind.{TextKind}
 use Rattle.ipanema_cli.specs.declared.texts.TextKind.TheVariants as kind
-use Rattle.ipanema_cli.proofs.PolicyFacts.{accepts_zero, facts, zero_accepts}
-use Rattle.ipanema_cli.proofs.WritesLemmas.{code_among, no_stop, whole}
+use Rattle.ipanema_cli.proofs.PolicyFacts.{read_decides, read_refuses, resolved, told_truly}
+use Rattle.ipanema_cli.proofs.WritesLemmas.{code_among, no_stop, one_line, whole}
 
 -- the number of a stop
 pub data Stopped (code : ℕ) : Type 0 where
@@ -28,88 +36,121 @@ pub data Stopped (code : ℕ) : Type 0 where
   at_5 : code ≡ 5 → Stopped code
   at_6 : code ≡ 6 → Stopped code
 
--- what a file holds is what was read
-pub text_read : (which : TextKind) (told : Told) (text held : List ℕ) → MayRead which told text → Holds which told held → text ≡ held
-text_read which told text held read holding = read.held.same held holding.is
-
 -- and it isn't too long
 pub not_long : (which : TextKind) (told : Told) (held : List ℕ) → MayBeLong which told → Holds which told held → ⊥
 not_long which told held (text, may, long) holding =
     let same = may.same held holding.is in omega (arith, long, holding.short, ap length same)
 
--- the lines answer for the policy that was judged
-pub lines_answer : (policy : Told) (text : List ℕ) (c : CheckAnswer) (before after : Option (List ℕ)) (code : ℕ) → MayRead kind.Policy policy text → IsCheckOf text c
-    → code ≡ code_of (check_status c) → Adds (check_output c) before after → OneOf (0 ∷ 1 ∷ []) code → AnswersForOne policy before after code
-lines_answer policy text c before after code read is own added low =
-    let found = (facts text c before after is).lines (subst (OneOf (0 ∷ 1 ∷ [])) own low) in
-    let judged = found.2 in (
-      found.0,
-      found.1,
-      record {
-        spelled = (text, read, judged.spells);
-        reasons = judged.reasons;
-        words = judged.judges;
-        written = subst (λ (bytes : List ℕ). Adds bytes before after) judged.lines added;
-        verdict = ((λ all. own ∙ accepts_zero c (judged.same ∙ all)), (λ zero. sym judged.same ∙ zero_accepts c (sym own ∙ zero)));
-      },
-    )
-
--- neither 0 nor 1 is the number of a stop
-pub low_or_stopped : (code : ℕ) → OneOf (0 ∷ 1 ∷ []) code → Stopped code → ⊥
+-- the numbers of answers to a policy are none of a stop
+pub low_or_stopped : (code : ℕ) → OneOf (0 ∷ 1 ∷ 3 ∷ []) code → Stopped code → ⊥
 low_or_stopped code low stop = elim stop [ at_4 e ↦ (let bad = rw e at low in cc) | at_5 e ↦ (let bad = rw e at low in cc) | at_6 e ↦ (let bad = rw e at low in cc) ]
+
+pub stopped_not : (code n : ℕ) → n ≢ 4 → n ≢ 5 → n ≢ 6 → Stopped code → code ≢ n
+stopped_not code n a b c stop e = elim stop [ at_4 f ↦ a (sym e ∙ f) | at_5 f ↦ b (sym e ∙ f) | at_6 f ↦ c (sym e ∙ f) ]
+
+pub stopped_decides : (policy : Told) (code : ℕ) → Stopped code → Decides policy code
+stopped_decides policy code stop = record {
+  accepts = λ p held met. elim stop [ at_4 e ↦ rw e refl | at_5 e ↦ rw e refl | at_6 e ↦ rw e refl ];
+  refuses = λ p held unmet. elim stop [ at_4 e ↦ rw e refl | at_5 e ↦ rw e refl | at_6 e ↦ rw e refl ];
+  decides = λ p held none. stopped_not code 3 (λ e. omega arith) (λ e. omega arith) (λ e. omega arith) stop;
+}
+
+pub stopped_refuses : (policy : Told) (code : ℕ) → Stopped code → Refuses policy code
+stopped_refuses policy code stop = record {
+  crowded = λ text p held spells many. elim stop [ at_4 e ↦ rw e refl | at_5 e ↦ rw e refl | at_6 e ↦ rw e refl ];
+  faulty = λ text fault held has. elim stop [ at_4 e ↦ rw e refl | at_5 e ↦ rw e refl | at_6 e ↦ rw e refl ];
+}
 
 pub stopped_check : (policy : Told) (before after : Option (List ℕ)) (code : ℕ) → Stopped code → ChecksTruly policy before after code
 stopped_check policy before after code stop = record {
-  accepted = λ h. absurd (elim stop [ at_4 e ↦ omega arith | at_5 e ↦ omega arith | at_6 e ↦ omega arith ]);
-  accepts = λ text name held spells. elim stop [ at_4 e ↦ rw e refl | at_5 e ↦ rw e refl | at_6 e ↦ rw e refl ];
+  accepted = λ h. absurd (stopped_not code 0 (λ e. omega arith) (λ e. omega arith) (λ e. omega arith) stop h);
   lines = λ low. absurd (low_or_stopped code low stop);
-  other_form = λ text p held spells none. elim stop [ at_4 e ↦ rw e refl | at_5 e ↦ rw e refl | at_6 e ↦ rw e refl ];
-  faulty = λ text fault held has. elim stop [ at_4 e ↦ rw e refl | at_5 e ↦ rw e refl | at_6 e ↦ rw e refl ];
-  refuses = λ text name k held spells small not_two. elim stop [ at_4 e ↦ rw e refl | at_5 e ↦ rw e refl | at_6 e ↦ rw e refl ];
-  bad_text = λ h. absurd (elim stop [ at_4 e ↦ omega arith | at_5 e ↦ omega arith | at_6 e ↦ omega arith ]);
+  decides = stopped_decides policy code stop;
+  refuses = stopped_refuses policy code stop;
+  bad_text = λ h. absurd (stopped_not code 2 (λ e. omega arith) (λ e. omega arith) (λ e. omega arith) stop h);
 }
+
+-- the lines answer for the policy that was judged
+pub verdict_answers : (policy : Told) (text : List ℕ) (v : Verdict) (before after : Option (List ℕ)) (code : ℕ) → MayRead kind.Policy policy text
+    → IsJudged text (meaning_of (policy_of v)) v → code ≡ code_of (verdict_status v) → Adds (joined (verdict_lines v)) before after → AnswersFor policy before after code
+verdict_answers policy text v before after code read is own added = record {
+  p = meaning_of (policy_of v);
+  verdict = v;
+  spelled = (text, read, is.spells);
+  reasons = is.is;
+  words = told_truly (meaning_of (policy_of v)) v (resolved policy text (meaning_of (policy_of v)) read is.spells) is.is;
+  written = added;
+  status = own;
+}
+
+-- a text that isn't judged has no line of an obligation
+pub refusal_high : (why : Refusal) (code : ℕ) → code ≡ code_of (refusal_status why) → OneOf (0 ∷ 1 ∷ 3 ∷ []) code → ⊥
+refusal_high (refusal.Faulty fault) code own low = let bad = rw own at low in cc
+refusal_high (refusal.Crowded name) code own low = let bad = rw own at low in cc
+
+pub refusal_not_0 : (why : Refusal) (code : ℕ) → code ≡ code_of (refusal_status why) → code ≢ 0
+refusal_not_0 (refusal.Faulty fault) code own e = omega arith
+refusal_not_0 (refusal.Crowded name) code own e = omega arith
+
+pub tells_fault : (policy : Told) (text : List ℕ) (why : Refusal) (before after : Option (List ℕ)) (code : ℕ) → MayRead kind.Policy policy text → IsRefusal text why
+    → code ≡ code_of (refusal_status why) → Adds (joined (refusal_line why ∷ [])) before after → code ≡ 2 → TellsFault policy before after
+tells_fault policy text (refusal.Faulty fault) before after code read has own added two =
+    record { text = text; read = read; fault = fault; has = has; written = one_line (fault_line fault) before after added }
+tells_fault policy text (refusal.Crowded name) before after code read has own added two = absurd (omega arith)
+
+verdict_not_2 : (v : Verdict) (code : ℕ) → code ≡ code_of (verdict_status v) → code ≢ 2
+verdict_not_2 (verdict.Accepted kept) code own e = omega arith
+verdict_not_2 (verdict.Refused answers kept) code own e = omega arith
+verdict_not_2 (verdict.Undecided answers kept) code own e = omega arith
+
+-- what an accepted policy has
+accepted_policy : (policy : Told) (text : List ℕ) (v : Verdict) (code : ℕ) → MayRead kind.Policy policy text → IsJudged text (meaning_of (policy_of v)) v
+    → code ≡ code_of (verdict_status v) → code ≡ 0 → (p : Meaning) × AcceptedPolicy policy p
+accepted_policy policy text (verdict.Accepted kept) code read is own zero =
+    let p = meaning_of kept in
+    let met = meets p (resolved policy text p read is.spells) is.is in
+    (p, record { spelled = (text, read, is.spells); certified = is.is; meets = met; wastes_no_core = main_theorem p met })
+accepted_policy policy text (verdict.Refused answers kept) code read is own zero = absurd (omega arith)
+accepted_policy policy text (verdict.Undecided answers kept) code read is own zero = absurd (omega arith)
 
 -- a file was read
 read_check : (policy : Told) (text : List ℕ) (c : CheckAnswer) (before after : Option (List ℕ)) (code : ℕ) → MayRead kind.Policy policy text → IsCheckOf text c
-    → code ≡ code_of (check_status c) → Adds (check_output c) before after → ChecksTruly policy before after code
-read_check policy text c before after code read is own added =
-    let f = facts text c before after is in
-    record {
-      accepted = λ h.
-          let found = f.accepted (zero_accepts c (sym own ∙ h)) in (
-            found.0,
-            record {
-              spelled = (text, read, found.1);
-              certified = found.2;
-              meets = found.3;
-              wastes_no_core = main_theorem (policy_with found.0 2) found.3;
-            },
-          );
-      accepts = λ held name holding spells.
-          let spelled = subst (λ (t : List ℕ). SpellsPolicy t (policy_with name 2)) (sym (text_read kind.Policy policy text held read holding)) spells in
-          rw (own, accepts_zero c (f.accepts_two name spelled)) refl;
-      lines = λ low. lines_answer policy text c before after code read is own added low;
-      other_form = λ held p holding spells none.
-          let spelled = subst (λ (t : List ℕ). SpellsPolicy t p) (sym (text_read kind.Policy policy text held read holding)) spells in
-          rw (own, f.other_form p spelled none) refl;
-      faulty = λ held fault holding has.
-          let broken = subst (λ (t : List ℕ). HasFault t fault) (sym (text_read kind.Policy policy text held read holding)) has in
-          rw (own, f.faulty fault broken) refl;
-      refuses = λ held name k holding spells small not_two.
-          let spelled = subst (λ (t : List ℕ). SpellsPolicy t (policy_with name k)) (sym (text_read kind.Policy policy text held read holding)) spells in
-          rw (own, f.refuses name k spelled small not_two) refl;
-      bad_text = λ h. (text, read, f.bad_text (sym own ∙ h) added);
-    }
+    → code ≡ code_of (check_status c) → Adds (joined (check_lines c)) before after → ChecksTruly policy before after code
+read_check policy text (checked.Judged v) before after code read is own added = record {
+  accepted = λ h. accepted_policy policy text v code read is own h;
+  lines = λ low. verdict_answers policy text v before after code read is own added;
+  decides = read_decides policy text (checked.Judged v) code read is own;
+  refuses = read_refuses policy text (checked.Judged v) code read is own;
+  bad_text = λ h. absurd (verdict_not_2 v code own h);
+}
+read_check policy text (checked.Unjudged why) before after code read is own added = record {
+  accepted = λ h. absurd (refusal_not_0 why code own h);
+  lines = λ low. absurd (refusal_high why code own low);
+  decides = read_decides policy text (checked.Unjudged why) code read is own;
+  refuses = read_refuses policy text (checked.Unjudged why) code read is own;
+  bad_text = λ h. tells_fault policy text why before after code read is own added h;
+}
 
--- a file is too long
+-- of a file that is too long nothing must come
+pub long_decides : (policy : Told) (code : ℕ) → MayBeLong kind.Policy policy → Decides policy code
+long_decides policy code long = record {
+  accepts = λ p held met. absurd (not_long kind.Policy policy held.text long held.held);
+  refuses = λ p held unmet. absurd (not_long kind.Policy policy held.text long held.held);
+  decides = λ p held none three. not_long kind.Policy policy held.text long held.held;
+}
+
+pub long_refuses : (policy : Told) (code : ℕ) → MayBeLong kind.Policy policy → Refuses policy code
+long_refuses policy code long = record {
+  crowded = λ text p held spells many. absurd (not_long kind.Policy policy text long held);
+  faulty = λ text fault held has. absurd (not_long kind.Policy policy text long held);
+}
+
 long_check : (policy : Told) (before after : Option (List ℕ)) (code : ℕ) → MayBeLong kind.Policy policy → code ≡ 10 → ChecksTruly policy before after code
 long_check policy before after code long own = record {
   accepted = λ h. absurd (omega arith);
-  accepts = λ held name holding spells. absurd (not_long kind.Policy policy held long holding);
   lines = λ low. absurd (let bad = rw own at low in cc);
-  other_form = λ held p holding spells none. absurd (not_long kind.Policy policy held long holding);
-  faulty = λ held fault holding has. absurd (not_long kind.Policy policy held long holding);
-  refuses = λ held name k holding spells small not_two. absurd (not_long kind.Policy policy held long holding);
+  decides = long_decides policy code long;
+  refuses = long_refuses policy code long;
   bad_text = λ h. absurd (omega arith);
 }
 
@@ -119,6 +160,7 @@ checks policy before after code (answer.Checked c) (text, read, is) writes = eli
   | inr e ↦ stopped_check policy before.written after.written code (at_5 e)
   | inl e ↦ read_check policy text c before.written after.written code read is e (whole _ _ _ _ writes (λ five. (no_stop (answer.Checked c)).1 (sym e ∙ five)))
 ]
+checks policy before after code (answer.Explained told) is writes = absurd is
 checks policy before after code (answer.Played outcome) is writes = absurd is
 checks policy before after code (answer.TooLong kind.Policy) long writes = elim (code_among _ _ _ _ writes) [
   | inr e ↦ stopped_check policy before.written after.written code (at_5 e)

@@ -1,6 +1,8 @@
 pub mod CauseLemmas
 pub mod CheckTruths
+pub mod ExplainTruths
 pub mod LongLemmas
+pub mod NamesFound
 pub mod PlayTruths
 pub mod PolicyFacts
 pub mod TruthLemmas

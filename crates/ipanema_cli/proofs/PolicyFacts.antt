@@ -1,118 +1,136 @@
--- What follows for a text from the answer that it gets.
-use Rattle.std.proofs.Common.{◌≡◌, ◌≢◌, ℕ, ◌≤◌, inl, inr, List, [], ◌∷◌, Option, Bool, true, false, refl, sym, arith, if◌then◌else◌, subst}
-use Rattle.sched_io.specs.Written.{Adds}
-use Rattle.count_filter.specs.Form.{HasForm}
-use Rattle.count_filter.specs.Judged.{Judges, all_hold}
-use Rattle.count_filter.specs.Policies.{policy_with}
-use Rattle.count_filter.specs.Reasons.{HasReasons, IsCertified}
-use Rattle.count_filter.specs.declared.balance.Balance.{Balance}
-use Rattle.count_filter.specs.declared.form.TheConstants.{MAX_THRESHOLD}
-use Rattle.count_filter.proofs.Acceptance.{all_at_two, all_certified, only_two}
-use Rattle.count_filter.proofs.Worth.{certified_policies_meet_them}
+-- What follows for a text from the answer that `check` gives.
+use Rattle.std.proofs.Common.{◌≡◌, ℕ, List, [], ◌∷◌, Option, Some, None, Bool, true, false, refl, sym, ◌∙◌, arith, subst}
+use Rattle.std.specs.List.{All, AllByRecursion}
+use Rattle.std.proofs.lemmas.List.Elements.{All-from_recursion}
+use Rattle.sched_base.specs.declared.limits.TheConstants.{CHECK_BUDGET}
+use Rattle.sched_io.specs.Told.{Told}
 use Rattle.policy_eval.specs.Obligations.{MeetsObligations}
+use Rattle.policy_eval.specs.Resolved.{IsResolved}
 use Rattle.policy_tree.specs.Meaning.{Meaning, meaning_of}
 use Rattle.policy_reader.specs.declared.fault.TextFault.{TextFault}
 use Rattle.policy_reader.specs.Faults.{HasFault}
 use Rattle.policy_reader.specs.Spelled.{SpellsPolicy}
 use Rattle.policy_reader.proofs.OneFault.{never_both, one_policy}
-use Rattle.ipanema_cli.specs.Causes.{OneOf}
-use Rattle.ipanema_cli.specs.CheckAnswer.{IsCheckOf, accepts, check_output, check_status, judged_lines}
-use Rattle.ipanema_cli.specs.Status.{code_of}
-use Rattle.ipanema_cli.specs.Truths.{TellsFault}
-use Rattle.ipanema_cli.specs.declared.checking.CheckAnswer.{CheckAnswer}
-use Rattle.ipanema_cli.specs.declared.checking.CheckAnswer.TheVariants as check
+use Rattle.policy_reader.proofs.Resolved.{spells_resolved}
+use Rattle.obligations.specs.declared.names.ObName.{ObName}
+use Rattle.obligations.specs.Counts.{first_crowded}
+use Rattle.obligations.specs.Names.{ob_names}
+use Rattle.policy_checker.specs.Verdicts.{Answers, AreAnswers, IsVerdict, policy_of}
+use Rattle.policy_checker.specs.declared.answer.Answered.{Answered}
+use Rattle.policy_checker.specs.declared.verdict.Verdict.{Verdict}
+use Rattle.policy_checker.specs.declared.verdict.Verdict.TheVariants as verdict
+use Rattle.policy_checker.proofs.True.{answers_are_true, meets}
+use Rattle.policy_checker.proofs.Worth.{open_one, unmet}
+use Rattle.policy_check.specs.Checks.{IsCheckOf, IsCrowded, IsJudged, IsRefusal}
+use Rattle.policy_check.specs.declared.answer.CheckAnswer.{CheckAnswer}
+use Rattle.policy_check.specs.declared.answer.CheckAnswer.TheVariants as checked
+use Rattle.policy_check.specs.declared.reading.Refusal.{Refusal}
+use Rattle.policy_check.specs.declared.reading.Refusal.TheVariants as refusal
+use Rattle.ipanema_cli.specs.Status.{check_status, code_of, refusal_status, verdict_status}
+use Rattle.ipanema_cli.specs.Texts.{MayBeLong, MayRead}
+use Rattle.ipanema_cli.specs.Truths.{AllToldTruly, Decides, Holds, IsToldTruly, Refuses, SomeIsOpen, Spells}
 use Rattle.ipanema_cli.specs.declared.status.Status.TheVariants as status
+use Rattle.ipanema_cli.specs.declared.texts.TextKind.{TextKind}
+use Rattle.ipanema_cli.specs.declared.texts.TextKind.TheVariants as kind
 
-verdict_0 : (b : Bool) → code_of (if b then status.Done else status.Refused) ≡ 0 → b ≡ true
-verdict_0 true e = refl
-verdict_0 false e = absurd (omega arith)
+-- what a file holds is what was read
+pub text_read : (which : TextKind) (told : Told) (text held : List ℕ) → MayRead which told text → Holds which told held → text ≡ held
+text_read which told text held read holding = read.held.same held holding.is
 
-verdict_1 : (b : Bool) → (b ≡ true → ⊥) → code_of (if b then status.Done else status.Refused) ≡ 1
-verdict_1 true never = absurd (never refl)
-verdict_1 false never = refl
+-- a policy that was read is resolved
+pub resolved : (policy : Told) (text : List ℕ) (p : Meaning) → MayRead kind.Policy policy text → SpellsPolicy text p → IsResolved p
+resolved policy text p read spells = spells_resolved text p read.short spells
 
-verdict_not_2 : (b : Bool) → code_of (if b then status.Done else status.Refused) ≡ 2 → ⊥
-verdict_not_2 true e = omega arith
-verdict_not_2 false e = omega arith
+-- the policy that a file holds is the one that was read
+pub same_policy : (policy : Told) (text : List ℕ) (p q : Meaning) → MayRead kind.Policy policy text → SpellsPolicy text p → Spells policy q → p ≡ q
+same_policy policy text p q read spells held =
+    one_policy text p q spells (subst (λ (t : List ℕ). SpellsPolicy t q) (sym (text_read kind.Policy policy text held.text read held.held)) held.spells)
 
--- the number 0 is that of an accepted policy, and of no other
-pub zero_accepts : (c : CheckAnswer) → code_of (check_status c) ≡ 0 → accepts c ≡ true
-zero_accepts (check.Judged policy balance) e = verdict_0 (all_hold balance) e
-zero_accepts (check.Faulty fault) e = absurd (omega arith)
-zero_accepts check.NotBuilt e = absurd (omega arith)
+all_truly : (p : Meaning) (answers : List Answered) → IsResolved p → AreAnswers p CHECK_BUDGET answers → All (IsToldTruly p) answers
+all_truly p answers is are = All-from_recursion (IsToldTruly p) answers (each answers are.each)
+  where
+    each : (xs : List Answered) → AllByRecursion (Answers p CHECK_BUDGET) xs → AllByRecursion (IsToldTruly p) xs
+    each [] all = tt
+    each (x ∷ xs) all = (record { reason = all.0; word = answers_are_true p is x.name x.answer all.0 }, each xs all.1)
 
-pub accepts_zero : (c : CheckAnswer) → accepts c ≡ true → code_of (check_status c) ≡ 0
-accepts_zero (check.Judged policy balance) e = rw e refl
-accepts_zero (check.Faulty fault) e = absurd (let clash : ⊥ = cc in clash)
-accepts_zero check.NotBuilt e = absurd (let clash : ⊥ = cc in clash)
+-- what a verdict tells is true
+pub told_truly : (p : Meaning) (v : Verdict) → IsResolved p → IsVerdict p CHECK_BUDGET v → AllToldTruly p v
+told_truly p (verdict.Accepted policy) is certified = meets p is certified
+told_truly p (verdict.Refused answers policy) is refused = all_truly p answers is refused.answers_are
+told_truly p (verdict.Undecided answers policy) is undecided = all_truly p answers is undecided.answers_are
 
--- a certified policy has the threshold 2, and meets its obligations
-pub at_two : (p : Meaning) → IsCertified p → (name : List ℕ) × (p ≡ policy_with name 2) × MeetsObligations p
-at_two p certified =
-    let name : List ℕ = certified.0 in
-    let k : ℕ = certified.1 in
-    let is_policy : p ≡ policy_with name k = certified.2 in
-    let met = certified_policies_meet_them p certified in
-    let two = only_two name k (subst MeetsObligations is_policy met) in
-    (name, subst (λ (n : ℕ). p ≡ policy_with name n) two is_policy, met)
-
--- a policy that was judged, for the lines that are written
-pub record JudgedAs (text : List ℕ) (c : CheckAnswer) (p : Meaning) (balance : Balance) : Type 0 where
-  pub spells : SpellsPolicy text p
-  pub reasons : HasReasons p balance
-  pub judges : Judges p balance
-  pub lines : check_output c ≡ judged_lines balance
-  pub same : accepts c ≡ all_hold balance
-
--- the facts of a text and its answer that the promises are made of
-pub record Facts (text : List ℕ) (c : CheckAnswer) (before after : Option (List ℕ)) : Type 0 where
-  pub accepted : accepts c ≡ true → (name : List ℕ) × SpellsPolicy text (policy_with name 2) × IsCertified (policy_with name 2) × MeetsObligations (policy_with name 2)
-  pub accepts_two : (name : List ℕ) → SpellsPolicy text (policy_with name 2) → accepts c ≡ true
-  pub refuses : (name : List ℕ) (k : ℕ) → SpellsPolicy text (policy_with name k) → k ≤ MAX_THRESHOLD → k ≢ 2 → code_of (check_status c) ≡ 1
-  pub lines : OneOf (0 ∷ 1 ∷ []) (code_of (check_status c)) → (p : Meaning) × (balance : Balance) × JudgedAs text c p balance
-  pub other_form : (p : Meaning) → SpellsPolicy text p → ((k : ℕ) → HasForm p k → ⊥) → code_of (check_status c) ≡ 2
-  pub faulty : (fault : TextFault) → HasFault text fault → code_of (check_status c) ≡ 2
-  pub bad_text : code_of (check_status c) ≡ 2 → Adds (check_output c) before after → TellsFault text before after
-
-pub facts : (text : List ℕ) (c : CheckAnswer) (before after : Option (List ℕ)) → IsCheckOf text c → Facts text c before after
-facts text (check.Judged policy balance) before after (spells, judged) =
-    let p : Meaning = meaning_of policy in
+-- what must come of a text that was judged
+judged_decides : (policy : Told) (text : List ℕ) (p : Meaning) (v : Verdict) (code : ℕ) → MayRead kind.Policy policy text → SpellsPolicy text p
+    → IsVerdict p CHECK_BUDGET v → code ≡ code_of (verdict_status v) → Decides policy code
+judged_decides policy text p (verdict.Accepted kept) code read spells certified own =
+    let is = resolved policy text p read spells in
     record {
-      accepted = λ all.
-          let certified = all_certified p balance judged.reasons all in
-          let found = at_two p certified in
-          let name : List ℕ = found.0 in
-          let is_policy : p ≡ policy_with name 2 = found.1 in
-          (name, subst (SpellsPolicy text) is_policy spells, subst IsCertified is_policy certified, subst MeetsObligations is_policy found.2);
-      accepts_two = λ other spells_two.
-          let same : p ≡ policy_with other 2 = one_policy text p (policy_with other 2) spells spells_two in
-          all_at_two other balance (subst (λ (q : Meaning). Judges q balance) same judged.judges);
-      refuses = λ other k spells_other small not_two. verdict_1 (all_hold balance) (λ all.
-          let same : p ≡ policy_with other k = one_policy text p (policy_with other k) spells spells_other in
-          let met = certified_policies_meet_them p (all_certified p balance judged.reasons all) in
-          not_two (only_two other k (subst MeetsObligations same met)));
-      lines = λ e. (p, balance, record { spells = spells; reasons = judged.reasons; judges = judged.judges; lines = refl; same = refl });
-      other_form = λ q spells_other none.
-          let same = one_policy text q p spells_other spells in
-          absurd (none judged.threshold (subst (λ (r : Meaning). HasForm r judged.threshold) (sym same) judged.form));
-      faulty = λ fault has. absurd (never_both text p fault spells has);
-      bad_text = λ e _. absurd (verdict_not_2 (all_hold balance) e);
+      accepts = λ q held met. rw own refl;
+      refuses = λ q held unmet_q. absurd (unmet_q (subst MeetsObligations (same_policy policy text p q read spells held) (meets p is certified)));
+      decides = λ q held none three. absurd (omega arith);
     }
-facts text (check.Faulty fault) before after has = record {
-  accepted = λ e. absurd (let clash : ⊥ = cc in clash);
-  accepts_two = λ name spells. absurd (never_both text (policy_with name 2) fault spells has);
-  refuses = λ name k spells small not_two. absurd (never_both text (policy_with name k) fault spells has);
-  lines = λ e. absurd (let clash : ⊥ = cc in clash);
-  other_form = λ p _ _. refl;
-  faulty = λ other _. refl;
-  bad_text = λ e added. inl (fault, has, added);
+judged_decides policy text p (verdict.Refused answers kept) code read spells refused own =
+    let is = resolved policy text p read spells in
+    record {
+      accepts = λ q held met. absurd (unmet p is answers refused (subst MeetsObligations (sym (same_policy policy text p q read spells held)) met));
+      refuses = λ q held unmet_q. rw own refl;
+      decides = λ q held none three. absurd (omega arith);
+    }
+judged_decides policy text p (verdict.Undecided answers kept) code read spells undecided own =
+    let is = resolved policy text p read spells in
+    record {
+      accepts = λ q held met. rw own refl;
+      refuses = λ q held unmet_q. rw own refl;
+      decides = λ q held none three. none (subst SomeIsOpen (same_policy policy text p q read spells held) (open_one p is answers undecided));
+    }
+
+-- no text that was judged is one that isn't
+pub judged_refuses : (policy : Told) (text : List ℕ) (p : Meaning) (code : ℕ) → MayRead kind.Policy policy text → SpellsPolicy text p → first_crowded p ob_names ≡ None
+    → Refuses policy code
+judged_refuses policy text p code read spells few = record {
+  crowded = λ held q holding spelled many.
+      let same = one_policy text p q spells (subst (λ (t : List ℕ). SpellsPolicy t q) (sym (text_read kind.Policy policy text held read holding)) spelled) in
+      absurd (many (subst (λ (m : Meaning). first_crowded m ob_names ≡ None) same few));
+  faulty = λ held fault holding has.
+      absurd (never_both text p fault spells (subst (λ (t : List ℕ). HasFault t fault) (sym (text_read kind.Policy policy text held read holding)) has));
 }
-facts text check.NotBuilt before after (p, spells, none) = record {
-  accepted = λ e. absurd (let clash : ⊥ = cc in clash);
-  accepts_two = λ name spells_two. absurd (none 2 (omega arith, (name, one_policy text p (policy_with name 2) spells spells_two)));
-  refuses = λ name k spells_other small not_two. absurd (none k (small, (name, one_policy text p (policy_with name k) spells spells_other)));
-  lines = λ e. absurd (let clash : ⊥ = cc in clash);
-  other_form = λ q _ _. refl;
-  faulty = λ other _. refl;
-  bad_text = λ e added. inr (p, spells, none, added);
+
+-- a text that isn't judged is none that a verdict must come of
+pub refused_text : (policy : Told) (text : List ℕ) (why : Refusal) (q : Meaning) → MayRead kind.Policy policy text → IsRefusal text why → Spells policy q → ⊥
+refused_text policy text (refusal.Faulty fault) q read has held =
+    never_both text q fault (subst (λ (t : List ℕ). SpellsPolicy t q) (sym (text_read kind.Policy policy text held.text read held.held)) held.spells) has
+refused_text policy text (refusal.Crowded name) q read crowded held =
+    let same = same_policy policy text crowded.p q read crowded.spells held in
+    let few = subst (λ (m : Meaning). first_crowded m ob_names ≡ None) (sym same) held.few in
+    let clash = sym few ∙ crowded.first in cc
+
+pub refused_decides : (policy : Told) (text : List ℕ) (why : Refusal) (code : ℕ) → MayRead kind.Policy policy text → IsRefusal text why → Decides policy code
+refused_decides policy text why code read is = record {
+  accepts = λ q held met. absurd (refused_text policy text why q read is held);
+  refuses = λ q held unmet_q. absurd (refused_text policy text why q read is held);
+  decides = λ q held none three. refused_text policy text why q read is held;
 }
+
+pub refused_refuses : (policy : Told) (text : List ℕ) (why : Refusal) (code : ℕ) → MayRead kind.Policy policy text → IsRefusal text why → code ≡ code_of (refusal_status why)
+    → Refuses policy code
+refused_refuses policy text (refusal.Faulty fault) code read has own = record {
+  crowded = λ held q holding spelled many.
+      absurd (never_both text q fault (subst (λ (t : List ℕ). SpellsPolicy t q) (sym (text_read kind.Policy policy text held read holding)) spelled) has);
+  faulty = λ held other holding has_it. rw own refl;
+}
+refused_refuses policy text (refusal.Crowded name) code read crowded own = record {
+  crowded = λ held q holding spelled many. rw own refl;
+  faulty = λ held fault holding has.
+      absurd (never_both text crowded.p fault crowded.spells (subst (λ (t : List ℕ). HasFault t fault) (sym (text_read kind.Policy policy text held read holding)) has));
+}
+
+-- what must come of a text that was read
+pub read_decides : (policy : Told) (text : List ℕ) (c : CheckAnswer) (code : ℕ) → MayRead kind.Policy policy text → IsCheckOf text c → code ≡ code_of (check_status c)
+    → Decides policy code
+read_decides policy text (checked.Judged v) code read is own = judged_decides policy text (meaning_of (policy_of v)) v code read is.spells is.is own
+read_decides policy text (checked.Unjudged why) code read is own = refused_decides policy text why code read is
+
+pub read_refuses : (policy : Told) (text : List ℕ) (c : CheckAnswer) (code : ℕ) → MayRead kind.Policy policy text → IsCheckOf text c → code ≡ code_of (check_status c)
+    → Refuses policy code
+read_refuses policy text (checked.Judged v) code read is own = judged_refuses policy text (meaning_of (policy_of v)) code read is.spells is.few
+read_refuses policy text (checked.Unjudged why) code read is own = refused_refuses policy text why code read is own

@@ -1,53 +1,67 @@
 -- What a status tells of what was written.
-use Rattle.std.proofs.Common.{◌≡◌, ◌≢◌, ℕ, ◌⊎◌, inl, inr, List, [], ◌∷◌, ◌++◌, Option, None, map, ap₂, append-nil, subst, Bool, true, false, refl, sym, ◌∙◌, arith, if◌then◌else◌}
-use Rattle.std.specs.List.{flat_map}
-use Rattle.std.proofs.lemmas.Grind.{flat_map-append}
-use Rattle.std.proofs.lemmas.List.Folds.{flat_map-map}
+use Rattle.std.proofs.Common.{◌≡◌, ◌≢◌, ℕ, ◌⊎◌, inl, inr, List, [], ◌∷◌, Option, None, append-nil, refl, sym, ◌∙◌, subst, arith}
 use Rattle.sched_io.specs.Told.{Told}
 use Rattle.sched_io.specs.Puts.{WritesPart, joined}
 use Rattle.sched_io.specs.Shown.{Shown}
 use Rattle.sched_io.specs.Written.{Adds}
-use Rattle.sched_history.specs.Spelling.{line_of_entry}
-use Rattle.policy_reader.specs.Lines as faults
-use Rattle.trace_play.specs.declared.answer.PlayAnswer.{PlayAnswer}
-use Rattle.trace_play.specs.Plays as plays
-use Rattle.trace_play.specs.Told as trace_faults
-use Rattle.count_filter.specs.Judged.{all_hold}
-use Rattle.obligations.specs.Names.{ob_names}
+use Rattle.policy_checker.specs.declared.answer.Outcome.{Outcome}
+use Rattle.policy_checker.specs.declared.answer.Outcome.TheVariants as outcome
+use Rattle.policy_checker.specs.declared.verdict.Verdict.{Verdict}
+use Rattle.policy_checker.specs.declared.verdict.Verdict.TheVariants as verdict
+use Rattle.policy_check.specs.declared.answer.CheckAnswer.{CheckAnswer}
+use Rattle.policy_check.specs.declared.answer.CheckAnswer.TheVariants as checked
+use Rattle.policy_check.specs.declared.explaining.ExplainAnswer.{ExplainAnswer}
+use Rattle.policy_check.specs.declared.explaining.ExplainAnswer.TheVariants as explained
+use Rattle.policy_check.specs.declared.reading.Refusal.{Refusal}
+use Rattle.policy_check.specs.declared.reading.Refusal.TheVariants as refusal
 use Rattle.serial_play.specs.declared.rounds.Played.TheVariants as played
+use Rattle.trace_play.specs.declared.answer.PlayAnswer.{PlayAnswer}
 use Rattle.trace_play.specs.declared.answer.PlayAnswer.TheVariants as play_answer
-use Rattle.ipanema_cli.specs.Answers.{IsAnswer, lines_of, output_of, status_of}
-use Rattle.ipanema_cli.specs.CheckAnswer.{check_lines, check_output, line_of, verdict_line}
+use Rattle.ipanema_cli.specs.Answers.{IsAnswer, lines_of, output_of, play_status, status_of}
 use Rattle.ipanema_cli.specs.Command.{Asked}
 use Rattle.ipanema_cli.specs.Ends.{Ends, Writes, answered, written, cut_off}
-use Rattle.ipanema_cli.specs.Status.{code_of}
-use Rattle.ipanema_cli.specs.Texts.{too_long_line}
+use Rattle.ipanema_cli.specs.Status.{check_status, code_of, explain_status, outcome_status, refusal_status, verdict_status}
 use Rattle.ipanema_cli.specs.declared.answers.Answer.{Answer}
 use Rattle.ipanema_cli.specs.declared.answers.Answer.TheVariants as answer
-use Rattle.ipanema_cli.specs.declared.checking.CheckAnswer.{CheckAnswer}
-use Rattle.ipanema_cli.specs.declared.checking.CheckAnswer.TheVariants as check
-use Rattle.ipanema_cli.specs.declared.status.Status.TheVariants as status
 
 -- the number that an answer ends with
 pub data AnswerCode (code : ℕ) : Type 0 where
   is_0 : code ≡ 0 → AnswerCode code
   is_1 : code ≡ 1 → AnswerCode code
   is_2 : code ≡ 2 → AnswerCode code
+  is_3 : code ≡ 3 → AnswerCode code
   is_7 : code ≡ 7 → AnswerCode code
   is_8 : code ≡ 8 → AnswerCode code
   is_10 : code ≡ 10 → AnswerCode code
 
-verdict_code : (b : Bool) → AnswerCode (code_of (if b then status.Done else status.Refused))
-verdict_code true = is_0 refl
-verdict_code false = is_1 refl
+refusal_code : (why : Refusal) → AnswerCode (code_of (refusal_status why))
+refusal_code (refusal.Faulty fault) = is_2 refl
+refusal_code (refusal.Crowded name) = is_10 refl
+
+check_code : (c : CheckAnswer) → AnswerCode (code_of (check_status c))
+check_code (checked.Judged (verdict.Accepted policy)) = is_0 refl
+check_code (checked.Judged (verdict.Refused answers policy)) = is_1 refl
+check_code (checked.Judged (verdict.Undecided answers policy)) = is_3 refl
+check_code (checked.Unjudged why) = refusal_code why
+
+outcome_code : (told : Outcome) → AnswerCode (code_of (outcome_status told))
+outcome_code outcome.Holds = is_0 refl
+outcome_code outcome.Fails = is_1 refl
+outcome_code outcome.Undecided = is_3 refl
+
+explain_code : (e : ExplainAnswer) → AnswerCode (code_of (explain_status e))
+explain_code (explained.Explained told) = outcome_code told.outcome
+explain_code (explained.Unjudged why) = refusal_code why
+
+play_code : (p : PlayAnswer) → AnswerCode (code_of (play_status p))
+play_code (play_answer.Broken fault) = is_2 refl
+play_code (play_answer.Played (played.Whole history)) = is_0 refl
+play_code (play_answer.Played (played.Full history)) = is_8 refl
 
 pub answer_code : (a : Answer) → AnswerCode (code_of (status_of a))
-answer_code (answer.Checked (check.Judged policy balance)) = verdict_code (all_hold balance)
-answer_code (answer.Checked (check.Faulty fault)) = is_2 refl
-answer_code (answer.Checked check.NotBuilt) = is_2 refl
-answer_code (answer.Played (play_answer.Broken fault)) = is_2 refl
-answer_code (answer.Played (play_answer.Played (played.Whole history))) = is_0 refl
-answer_code (answer.Played (play_answer.Played (played.Full history))) = is_8 refl
+answer_code (answer.Checked c) = check_code c
+answer_code (answer.Explained e) = explain_code e
+answer_code (answer.Played p) = play_code p
 answer_code (answer.TooLong which) = is_10 refl
 answer_code answer.BadWords = is_7 refl
 
@@ -57,36 +71,15 @@ no_stop a = elim (answer_code a) [
   | is_0 h ↦ ((λ e. omega arith), (λ e. omega arith), (λ e. omega arith))
   | is_1 h ↦ ((λ e. omega arith), (λ e. omega arith), (λ e. omega arith))
   | is_2 h ↦ ((λ e. omega arith), (λ e. omega arith), (λ e. omega arith))
+  | is_3 h ↦ ((λ e. omega arith), (λ e. omega arith), (λ e. omega arith))
   | is_7 h ↦ ((λ e. omega arith), (λ e. omega arith), (λ e. omega arith))
   | is_8 h ↦ ((λ e. omega arith), (λ e. omega arith), (λ e. omega arith))
   | is_10 h ↦ ((λ e. omega arith), (λ e. omega arith), (λ e. omega arith))
 ]
 
--- the bytes of one line
-one_line : (line : List ℕ) → joined (line ∷ []) ≡ line
-one_line line = append-nil line
-
--- the bytes of the lines of items
-of_items : {X : Type 0} → (line : X → List ℕ) (items : List X) → joined (map line items) ≡ flat_map line items
-of_items line items = flat_map-map (λ l. l) line items
-
-checked_lines : (c : CheckAnswer) → joined (check_lines c) ≡ check_output c
-checked_lines (check.Judged policy balance) =
-    flat_map-append (λ l. l) (map (line_of balance) ob_names) (verdict_line balance ∷ [])
-    ∙ ap₂ (λ (a b : List ℕ). a ++ b) (of_items (line_of balance) ob_names) (one_line (verdict_line balance))
-checked_lines (check.Faulty fault) = one_line (faults.fault_line fault)
-checked_lines check.NotBuilt = refl
-
-played_lines : (p : PlayAnswer) → joined (plays.lines_of p) ≡ plays.output_of p
-played_lines (play_answer.Broken fault) = one_line (trace_faults.fault_line fault)
-played_lines (play_answer.Played play) = of_items line_of_entry (plays.history_of play)
-
--- the bytes of an answer are those of its lines
-pub bytes_of_lines : (a : Answer) → joined (lines_of a) ≡ output_of a
-bytes_of_lines (answer.Checked c) = checked_lines c
-bytes_of_lines (answer.Played p) = played_lines p
-bytes_of_lines (answer.TooLong which) = one_line (too_long_line which)
-bytes_of_lines answer.BadWords = refl
+-- one line is its bytes
+pub one_line : (line : List ℕ) (before after : Option (List ℕ)) → Adds (joined (line ∷ [])) before after → Adds line before after
+one_line line before after added = subst (λ (bytes : List ℕ). Adds bytes before after) (append-nil line) added
 
 -- a status is the answer's, or that of a stop
 pub code_among : (a : Answer) (before after : Shown) (code : ℕ) → Writes a before after code → (code ≡ code_of (status_of a)) ⊎ (code ≡ 5)
@@ -95,8 +88,7 @@ code_among a before after code (cut_off e part) = inr e
 
 -- at the answer's own status all of it was written
 pub whole : (a : Answer) (before after : Shown) (code : ℕ) → Writes a before after code → code ≢ 5 → Adds (output_of a) before.written after.written
-whole a before after code (written e all) not_cut =
-    subst (λ (bytes : List ℕ). Adds bytes before.written after.written) (bytes_of_lines a) all.bytes
+whole a before after code (written e all) not_cut = all.bytes
 whole a before after code (cut_off e part) not_cut = absurd (not_cut e)
 
 pub cut : (a : Answer) (before after : Shown) (code : ℕ) → Writes a before after code → code_of (status_of a) ≢ 5 → code ≡ 5 → WritesPart (lines_of a) before after

@@ -1,15 +1,24 @@
 -- What a command answers, and when that is its answer.
-use Rattle.std.specs.Prelude.{ℕ, List, [], ◌∷◌, IsFalse, Option, Some, None, codes}
+use Rattle.std.specs.Prelude.{◌≡◌, ℕ, Bool, true, false, List, [], ◌∷◌, IsFalse, Option, Some, None, codes}
 use Rattle.policy_tree.specs.Meaning.{Meaning}
 use Rattle.policy_reader.specs.Spelled.{SpellsPolicy}
-use Rattle.count_filter.specs.Reasons.{IsCertified}
+use Rattle.obligations.specs.declared.names.ObName.{ObName}
+use Rattle.obligations.specs.Counts.{first_crowded}
+use Rattle.obligations.specs.Names.{ob_names}
+use Rattle.policy_checker.specs.Certified.{IsCertified}
+use Rattle.policy_checker.specs.declared.verdict.Verdict.TheVariants as verdict
+use Rattle.policy_check.specs.declared.answer.CheckAnswer.{CheckAnswer}
+use Rattle.policy_check.specs.declared.answer.CheckAnswer.TheVariants as checked
+use Rattle.policy_check.specs.Checks.{IsCheckOf, IsExplainOf}
+use Rattle.policy_check.specs.Lines.{check_lines, explain_lines}
+use Rattle.sched_io.specs.Puts.{joined}
 use Rattle.sched_io.specs.Told.{Told}
 use Rattle.serial_play.specs.declared.rounds.Played.TheVariants as played
 use Rattle.trace_play.specs.declared.answer.PlayAnswer.{PlayAnswer}
 use Rattle.trace_play.specs.declared.answer.PlayAnswer.TheVariants as play_answer
 use Rattle.trace_play.specs.Plays as plays
-use Rattle.ipanema_cli.specs.CheckAnswer.{IsCheckOf, accepts, check_lines, check_output, check_status}
-use Rattle.ipanema_cli.specs.Command.{Asked, check, play}
+use Rattle.ipanema_cli.specs.Command.{Asked, check, explain, play}
+use Rattle.ipanema_cli.specs.Status.{check_status, explain_status}
 use Rattle.ipanema_cli.specs.Texts.{MayBeLong, MayRead, too_long_line}
 use Rattle.ipanema_cli.specs.declared.answers.Answer.{Answer}
 use Rattle.ipanema_cli.specs.declared.answers.Answer.TheVariants as answer
@@ -17,19 +26,17 @@ use Rattle.ipanema_cli.specs.declared.status.Status.{Status}
 use Rattle.ipanema_cli.specs.declared.status.Status.TheVariants as status
 use Rattle.ipanema_cli.specs.declared.texts.TextKind.TheVariants as kind
 
--- the bytes of an answer
-abbrev pub output_of : Answer → List ℕ
-output_of (answer.Checked checked) = check_output checked
-output_of (answer.Played outcome) = plays.output_of outcome
-output_of (answer.TooLong which) = too_long_line which
-output_of answer.BadWords = codes "bad words\n"
-
 -- the lines of an answer
 abbrev pub lines_of : Answer → List (List ℕ)
-lines_of (answer.Checked checked) = check_lines checked
+lines_of (answer.Checked c) = check_lines c
+lines_of (answer.Explained e) = explain_lines e
 lines_of (answer.Played outcome) = plays.lines_of outcome
 lines_of (answer.TooLong which) = too_long_line which ∷ []
 lines_of answer.BadWords = codes "bad words\n" ∷ []
+
+-- the bytes of an answer
+abbrev pub output_of : Answer → List ℕ
+output_of a = joined (lines_of a)
 
 -- the status of a trace that was read, and played if it could be
 abbrev pub play_status : PlayAnswer → Status
@@ -39,42 +46,67 @@ play_status (play_answer.Played (played.Full history)) = status.HistoryFull
 
 -- the status of an answer
 abbrev pub status_of : Answer → Status
-status_of (answer.Checked checked) = check_status checked
+status_of (answer.Checked c) = check_status c
+status_of (answer.Explained e) = explain_status e
 status_of (answer.Played outcome) = play_status outcome
 status_of (answer.TooLong which) = status.TooMuch
 status_of answer.BadWords = status.BadWords
 
 -- the answer can be written: the numbers of a history are in the ranges of its text
 abbrev pub CanBePut : Answer → Type 0
-CanBePut (answer.Checked checked) = Unit {0}
+CanBePut (answer.Checked c) = Unit {0}
+CanBePut (answer.Explained e) = Unit {0}
 CanBePut (answer.Played outcome) = plays.IsShown outcome
 CanBePut (answer.TooLong which) = Unit {0}
 CanBePut answer.BadWords = Unit {0}
 
--- The text spells this policy, and each system of its balance obligations has a right certificate.
+-- The text spells this policy, no obligation has too many cases, and each system of each has a right certificate.
 pub record IsAccepted (text : List ℕ) (p : Meaning) : Type 0 where
   pub spells : SpellsPolicy text p
+  pub few : first_crowded p ob_names ≡ None
   pub certified : IsCertified p
+
+-- whether the policy is accepted
+abbrev pub accepts : CheckAnswer → Bool
+accepts (checked.Judged (verdict.Accepted policy)) = true
+accepts (checked.Judged (verdict.Refused answers policy)) = false
+accepts (checked.Judged (verdict.Undecided answers policy)) = false
+accepts (checked.Unjudged why) = false
 
 -- the answer to words that are no command
 abbrev pub AnswersWords : Answer → Type 0
-AnswersWords (answer.Checked checked) = ⊥
+AnswersWords (answer.Checked c) = ⊥
+AnswersWords (answer.Explained e) = ⊥
 AnswersWords (answer.Played outcome) = ⊥
 AnswersWords (answer.TooLong which) = ⊥
 AnswersWords answer.BadWords = Unit {0}
 
 -- the answer of `check` to a file of which this is told
 abbrev pub AnswersCheck : Told → Answer → Type 0
-AnswersCheck policy (answer.Checked checked) = (text : List ℕ) × MayRead kind.Policy policy text × IsCheckOf text checked
+AnswersCheck policy (answer.Checked c) = (text : List ℕ) × MayRead kind.Policy policy text
+    × IsCheckOf text c
+AnswersCheck policy (answer.Explained e) = ⊥
 AnswersCheck policy (answer.Played outcome) = ⊥
 AnswersCheck policy (answer.TooLong kind.Policy) = MayBeLong kind.Policy policy
 AnswersCheck policy (answer.TooLong kind.Trace) = ⊥
 AnswersCheck policy answer.BadWords = ⊥
 
+-- the answer of `explain` to a file of which this is told, for the obligation of that name
+abbrev pub AnswersExplain : Told → ObName → Answer → Type 0
+AnswersExplain policy name (answer.Checked c) = ⊥
+AnswersExplain policy name (answer.Explained e) = (text : List ℕ) × MayRead kind.Policy policy text
+    × IsExplainOf text name e
+AnswersExplain policy name (answer.Played outcome) = ⊥
+AnswersExplain policy name (answer.TooLong kind.Policy) = MayBeLong kind.Policy policy
+AnswersExplain policy name (answer.TooLong kind.Trace) = ⊥
+AnswersExplain policy name answer.BadWords = ⊥
+
 -- the answer of `play` to these texts of a policy and a trace: where the policy isn't accepted, that of `check`
 abbrev pub IsPlayOfTexts : (policy trace : List ℕ) → Answer → Type 0
-IsPlayOfTexts policy trace (answer.Checked checked) = IsCheckOf policy checked × IsFalse (accepts checked)
-IsPlayOfTexts policy trace (answer.Played outcome) = (p : Meaning) × IsAccepted policy p × plays.IsPlayOf p trace outcome
+IsPlayOfTexts policy trace (answer.Checked c) = IsCheckOf policy c × IsFalse (accepts c)
+IsPlayOfTexts policy trace (answer.Explained e) = ⊥
+IsPlayOfTexts policy trace (answer.Played outcome) = (p : Meaning) × IsAccepted policy p
+    × plays.IsPlayOf p trace outcome
 IsPlayOfTexts policy trace (answer.TooLong which) = ⊥
 IsPlayOfTexts policy trace answer.BadWords = ⊥
 
@@ -88,7 +120,8 @@ pub record PlaysTexts (policy trace : Told) (a : Answer) : Type 0 where
 
 -- the answer of `play` to files of which this is told
 abbrev pub AnswersPlay : (policy trace : Told) → Answer → Type 0
-AnswersPlay policy trace (answer.Checked checked) = PlaysTexts policy trace (answer.Checked checked)
+AnswersPlay policy trace (answer.Checked c) = PlaysTexts policy trace (answer.Checked c)
+AnswersPlay policy trace (answer.Explained e) = ⊥
 AnswersPlay policy trace (answer.Played outcome) = PlaysTexts policy trace (answer.Played outcome)
 AnswersPlay policy trace (answer.TooLong kind.Policy) = MayBeLong kind.Policy policy
 AnswersPlay policy trace (answer.TooLong kind.Trace) =
@@ -99,4 +132,5 @@ AnswersPlay policy trace answer.BadWords = ⊥
 abbrev pub IsAnswer : Option Asked → (List ℕ → Told) → Answer → Type 0
 IsAnswer None told a = AnswersWords a
 IsAnswer (Some (check policy)) told a = AnswersCheck (told policy) a
+IsAnswer (Some (explain policy name)) told a = AnswersExplain (told policy) name a
 IsAnswer (Some (play policy trace)) told a = AnswersPlay (told policy) (told trace) a

@@ -1,6 +1,9 @@
 -- What the words of a call ask for.
-use Rattle.std.specs.Prelude.{◌≡◌, ℕ, ◌&&◌, List, [], ◌∷◌, Bool, false, not, Option, Some, None, codes, eqb, if◌then◌else◌, String, map, string_bytes}
+use Rattle.std.specs.Prelude.{◌≡◌, ℕ, ◌&&◌, List, [], ◌∷◌, Bool, false, not, Option, Some, None, codes, eqb, if◌then◌else◌, String, map, option_map, string_bytes}
+use Rattle.std.specs.List.{find}
 use Rattle.std.specs.Str.{bytes_eq}
+use Rattle.obligations.specs.declared.names.ObName.{ObName}
+use Rattle.obligations.specs.Names.{ob_names, ob_text}
 use Rattle.ipanema_cli.specs.declared.texts.TextKind.{TextKind}
 use Rattle.ipanema_cli.specs.declared.texts.TextKind.TheVariants as kind
 
@@ -8,6 +11,8 @@ use Rattle.ipanema_cli.specs.declared.texts.TextKind.TheVariants as kind
 pub data Asked : Type 0 where
   -- to check the policy in this file
   check : (policy : List ℕ) → Asked
+  -- to explain the obligation of that name of the policy in this file
+  explain : (policy : List ℕ) (name : ObName) → Asked
   -- to play the trace in one file under the policy in the other
   play : (policy trace : List ℕ) → Asked
 
@@ -16,6 +21,8 @@ abbrev pub IsFileOf : Option Asked → TextKind → List ℕ → Type 0
 IsFileOf None which name = ⊥
 IsFileOf (Some (check policy)) kind.Policy name = name ≡ policy
 IsFileOf (Some (check policy)) kind.Trace name = ⊥
+IsFileOf (Some (explain policy ob)) kind.Policy name = name ≡ policy
+IsFileOf (Some (explain policy ob)) kind.Trace name = ⊥
 IsFileOf (Some (play policy trace)) kind.Policy name = name ≡ policy
 IsFileOf (Some (play policy trace)) kind.Trace name = name ≡ trace
 
@@ -24,14 +31,19 @@ abbrev pub is_plain : List ℕ → Bool
 is_plain [] = false
 is_plain (byte ∷ bytes) = not (eqb byte 45)
 
+-- the obligation that a word names
+abbrev pub name_of : List ℕ → Option ObName
+name_of word = find (λ name. bytes_eq (ob_text name) word) ob_names
+
 -- the command that the words are
 abbrev pub asked_by : List (List ℕ) → Option Asked
 asked_by [] = None
 asked_by (verb ∷ []) = None
 asked_by (verb ∷ policy ∷ []) = if bytes_eq verb (codes "check") && is_plain policy then Some (check policy) else None
-asked_by (verb ∷ policy ∷ trace ∷ []) =
-    if bytes_eq verb (codes "play") && is_plain policy && is_plain trace then Some (play policy trace) else None
-asked_by (verb ∷ policy ∷ trace ∷ more ∷ words) = None
+asked_by (verb ∷ policy ∷ other ∷ []) =
+    if bytes_eq verb (codes "play") && is_plain policy && is_plain other then Some (play policy other)
+    else if bytes_eq verb (codes "explain") && is_plain policy then option_map (explain policy) (name_of other) else None
+asked_by (verb ∷ policy ∷ other ∷ more ∷ words) = None
 
 -- the bytes of each word
 abbrev pub words_of : {A : Type 0} → List (String A) → List (List ℕ)

@@ -12,11 +12,16 @@ use Rattle.ipanema_cli.specs.declared.status.Status.TheVariants as status
 
 -- How a call ends that has this answer: its lines are written and its status is given, or a put fails.
 pub data Writes (answer : Answer) (before after : Shown) (code : ℕ) : Type 0 where
-  written : code ≡ code_of (status_of answer) → WritesAll (lines_of answer) before after → Writes answer before after code
-  cut_off : code ≡ code_of status.WriteFault → WritesPart (lines_of answer) before after → Writes answer before after code
+  written : code ≡ code_of (status_of answer) → WritesAll (lines_of answer) before after →
+      Writes answer before after code
+  cut_off : code ≡ code_of status.WriteFault → WritesPart (lines_of answer) before after →
+      Writes answer before after code
 
 -- How a call ends that asks for this, or for nothing, with files of which this is told.
-pub data Ends (asked : Option Asked) (told : List ℕ → Told) (read_fault : Type 0) (before after : Shown) (code : ℕ) : Type 0 where
-  answered : (answer : Answer) → IsAnswer asked told answer → Writes answer before after code → Ends asked told read_fault before after code
-  unread : code ≡ code_of status.ReadFault → IsUnread asked told read_fault → WritesAll [] before after → Ends asked told read_fault before after code
+pub data Ends (asked : Option Asked) (told : List ℕ → Told) (read_fault : Type 0) (before after : Shown)
+    (code : ℕ) : Type 0 where
+  answered : (answer : Answer) → IsAnswer asked told answer → Writes answer before after code →
+      Ends asked told read_fault before after code
+  unread : code ≡ code_of status.ReadFault → IsUnread asked told read_fault → WritesAll [] before after →
+      Ends asked told read_fault before after code
   no_memory : code ≡ code_of status.Memory → WritesAll [] before after → Ends asked told read_fault before after code

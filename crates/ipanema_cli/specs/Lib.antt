@@ -2,7 +2,6 @@ pub mod Answers
 pub mod Arguments
 pub mod Asks
 pub mod Causes
-pub mod CheckAnswer
 pub mod Command
 pub mod Ends
 pub mod Loads

@@ -2,7 +2,7 @@
 use Rattle.std.specs.Prelude.{ℕ, ◌<◌, List, [], ◌∷◌, Option, Some, None, take}
 use Rattle.sched_io.specs.Loads.{Asks, Request, request}
 use Rattle.sched_io.specs.Told.{Told}
-use Rattle.ipanema_cli.specs.Command.{Asked, check, play}
+use Rattle.ipanema_cli.specs.Command.{Asked, check, explain, play}
 use Rattle.ipanema_cli.specs.Texts.{MayRead, room_of}
 use Rattle.ipanema_cli.specs.declared.texts.TextKind.TheVariants as kind
 
@@ -10,16 +10,20 @@ use Rattle.ipanema_cli.specs.declared.texts.TextKind.TheVariants as kind
 abbrev pub files_of : Option Asked → List Request
 files_of None = []
 files_of (Some (check policy)) = request policy (room_of kind.Policy) ∷ []
+files_of (Some (explain policy name)) = request policy (room_of kind.Policy) ∷ []
 files_of (Some (play policy trace)) = request policy (room_of kind.Policy) ∷ request trace (room_of kind.Trace) ∷ []
 
--- Of so many loads each but the last is of a text that may be read: behind one that is told to be missing or too long none is.
+-- Of so many loads each but the last is of a text that may be read: behind one that is told to be missing or too long
+-- none is.
 abbrev pub MayGoOn : Option Asked → (List ℕ → Told) → ℕ → Type 0
 MayGoOn None told count = Unit {0}
 MayGoOn (Some (check policy)) told count = Unit {0}
+MayGoOn (Some (explain policy name)) told count = Unit {0}
 MayGoOn (Some (play policy trace)) told count = 1 < count → (text : List ℕ) × MayRead kind.Policy (told policy) text
 
 -- Just the first of the command's files are loaded, each once and with its limit, where the source tells of its loads.
-pub record FirstAreLoaded (asked : Option Asked) (told : List ℕ → Told) (before after : Option (List Request)) : Type 0 where
+pub record FirstAreLoaded (asked : Option Asked) (told : List ℕ → Told)
+    (before after : Option (List Request)) : Type 0 where
   pub count : ℕ
   pub loaded : Asks (take count (files_of asked)) before after
   pub goes_on : MayGoOn asked told count

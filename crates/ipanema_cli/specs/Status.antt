@@ -1,5 +1,15 @@
--- The number that the program ends with.
+-- The number that the program ends with, and the status of each answer to a policy.
 use Rattle.std.specs.Prelude.{ℕ}
+use Rattle.policy_checker.specs.declared.answer.Outcome.{Outcome}
+use Rattle.policy_checker.specs.declared.answer.Outcome.TheVariants as outcome
+use Rattle.policy_checker.specs.declared.verdict.Verdict.{Verdict}
+use Rattle.policy_checker.specs.declared.verdict.Verdict.TheVariants as verdict
+use Rattle.policy_check.specs.declared.answer.CheckAnswer.{CheckAnswer}
+use Rattle.policy_check.specs.declared.answer.CheckAnswer.TheVariants as check
+use Rattle.policy_check.specs.declared.explaining.ExplainAnswer.{ExplainAnswer}
+use Rattle.policy_check.specs.declared.explaining.ExplainAnswer.TheVariants as explain
+use Rattle.policy_check.specs.declared.reading.Refusal.{Refusal}
+use Rattle.policy_check.specs.declared.reading.Refusal.TheVariants as refusal
 use Rattle.ipanema_cli.specs.declared.status.Status.{Status}
 use Rattle.ipanema_cli.specs.declared.status.Status.TheVariants as status
 
@@ -7,9 +17,37 @@ abbrev pub code_of : Status → ℕ
 code_of status.Done = 0
 code_of status.Refused = 1
 code_of status.BadText = 2
+code_of status.Undecided = 3
 code_of status.ReadFault = 4
 code_of status.WriteFault = 5
 code_of status.Memory = 6
 code_of status.BadWords = 7
 code_of status.HistoryFull = 8
 code_of status.TooMuch = 10
+
+-- the status of an answer to an obligation
+abbrev pub outcome_status : Outcome → Status
+outcome_status outcome.Holds = status.Done
+outcome_status outcome.Fails = status.Refused
+outcome_status outcome.Undecided = status.Undecided
+
+-- the status of a verdict
+abbrev pub verdict_status : Verdict → Status
+verdict_status (verdict.Accepted policy) = status.Done
+verdict_status (verdict.Refused answers policy) = status.Refused
+verdict_status (verdict.Undecided answers policy) = status.Undecided
+
+-- the status of a text that isn't judged
+abbrev pub refusal_status : Refusal → Status
+refusal_status (refusal.Faulty fault) = status.BadText
+refusal_status (refusal.Crowded name) = status.TooMuch
+
+-- the status of an answer of `check`
+abbrev pub check_status : CheckAnswer → Status
+check_status (check.Judged verdict) = verdict_status verdict
+check_status (check.Unjudged why) = refusal_status why
+
+-- the status of an answer of `explain`
+abbrev pub explain_status : ExplainAnswer → Status
+explain_status (explain.Explained told) = outcome_status told.outcome
+explain_status (explain.Unjudged why) = refusal_status why

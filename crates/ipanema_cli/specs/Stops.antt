@@ -2,7 +2,7 @@
 use Rattle.std.specs.Prelude.{◌≡◌, ◌⊎◌, ℕ, List, Option, Some, None}
 use Rattle.sched_io.specs.Told.{Told, missing}
 use Rattle.ipanema_cli.specs.Answers.{IsAnswer}
-use Rattle.ipanema_cli.specs.Command.{Asked, check, play}
+use Rattle.ipanema_cli.specs.Command.{Asked, check, explain, play}
 use Rattle.ipanema_cli.specs.Texts.{MayBeLong, MayRead}
 use Rattle.ipanema_cli.specs.declared.answers.Answer.TheVariants as answer
 use Rattle.ipanema_cli.specs.declared.stop.Stop.{Stop}
@@ -16,12 +16,15 @@ IsUnloaded which told fault stop.Unread = fault ⊎ (told ≡ missing)
 IsUnloaded which told fault (stop.TooLong other) = (other ≡ which) × MayBeLong which told
 IsUnloaded which told fault stop.Memory = Unit {0}
 
--- A file of the command wasn't read: the outside failed, or that file is told to be missing and those before it are read.
+-- A file of the command wasn't read: the outside failed, or that file is told to be missing and those before it are
+-- read.
 abbrev pub IsUnread : Option Asked → (List ℕ → Told) → Type 0 → Type 0
 IsUnread None told fault = ⊥
 IsUnread (Some (check policy)) told fault = fault ⊎ (told policy ≡ missing)
+IsUnread (Some (explain policy name)) told fault = fault ⊎ (told policy ≡ missing)
 IsUnread (Some (play policy trace)) told fault =
-    fault ⊎ ((told policy ≡ missing) ⊎ (((text : List ℕ) × MayRead kind.Policy (told policy) text) × (told trace ≡ missing)))
+    fault ⊎ ((told policy ≡ missing) ⊎ (((text : List ℕ) × MayRead kind.Policy (told policy) text)
+    × (told trace ≡ missing)))
 
 -- That is why the command comes to no answer but that a text is too long.
 abbrev pub IsStop : Option Asked → (List ℕ → Told) → Type 0 → Stop → Type 0

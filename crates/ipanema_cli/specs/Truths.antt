@@ -1,19 +1,31 @@
 -- What is said of a policy and of a trace is true.
-use Rattle.std.specs.Prelude.{◌≡◌, ◌≢◌, ℕ, ◌≤◌, ◌⊎◌, List, [], ◌∷◌, Option, Some, None, IsTrue, codes, length, ◌↔◌}
+use Rattle.std.specs.Prelude.{◌≡◌, ◌≢◌, ◌⊎◌, ℕ, ◌≤◌, List, [], ◌∷◌, Option, Some, None, All, length, ℤ}
+use Rattle.sched_io.specs.Puts.{joined}
 use Rattle.sched_io.specs.Told.{Told, holds}
 use Rattle.sched_io.specs.Written.{Adds}
+use Rattle.sched_base.specs.declared.limits.TheConstants.{CHECK_BUDGET}
 use Rattle.policy_eval.specs.Obligations.{MeetsObligations}
-use Rattle.policy_tree.specs.Meaning.{Meaning}
+use Rattle.policy_tree.specs.Meaning.{Meaning, meaning_of}
 use Rattle.policy_reader.specs.declared.fault.TextFault.{TextFault}
 use Rattle.policy_reader.specs.Faults.{HasFault}
 use Rattle.policy_reader.specs.Lines.{fault_line}
 use Rattle.policy_reader.specs.Spelled.{SpellsPolicy}
-use Rattle.count_filter.specs.Form.{HasForm}
-use Rattle.count_filter.specs.Judged.{Judges, all_hold}
-use Rattle.count_filter.specs.Policies.{policy_with}
-use Rattle.count_filter.specs.Reasons.{HasReasons, IsCertified}
-use Rattle.count_filter.specs.declared.balance.Balance.{Balance}
-use Rattle.count_filter.specs.declared.form.TheConstants.{MAX_THRESHOLD}
+use Rattle.obligations.specs.declared.names.ObName.{ObName}
+use Rattle.obligations.specs.Counts.{first_crowded}
+use Rattle.obligations.specs.Names.{ob_names, statement_of}
+use Rattle.obligations.specs.Systems.{systems_of}
+use Rattle.policy_checker.specs.Answers as obligation
+use Rattle.policy_checker.specs.Certified.{IsCertified}
+use Rattle.policy_checker.specs.Laws.{FailsAt}
+use Rattle.policy_checker.specs.Outcomes.{HasOpen, IsTold, outcome_of}
+use Rattle.policy_checker.specs.Verdicts.{IsVerdict, policy_of}
+use Rattle.policy_checker.specs.declared.answer.Answered.{Answered}
+use Rattle.policy_checker.specs.declared.answer.ObAnswer.{ObAnswer}
+use Rattle.policy_checker.specs.declared.answer.ObAnswer.TheVariants as answer
+use Rattle.policy_checker.specs.declared.verdict.Verdict.{Verdict}
+use Rattle.policy_checker.specs.declared.verdict.Verdict.TheVariants as verdict
+use Rattle.policy_check.specs.Lines.{verdict_lines}
+use Rattle.policy_check.specs.Points.{explain_line}
 use Rattle.round_model.specs.declared.entry.Entry.{Entry}
 use Rattle.round_model.specs.declared.plan.Plan.{Plan}
 use Rattle.round_model.specs.Fits.{Fits}
@@ -29,8 +41,8 @@ use Rattle.trace_play.specs.Plays as plays
 use Rattle.trace_play.specs.Told as trace_faults
 use Rattle.ipanema_cli.specs.Answers.{IsAccepted}
 use Rattle.ipanema_cli.specs.Causes.{OneOf}
-use Rattle.ipanema_cli.specs.CheckAnswer.{judged_lines}
-use Rattle.ipanema_cli.specs.Command.{Asked, check, play}
+use Rattle.ipanema_cli.specs.Command.{Asked, check, explain, play}
+use Rattle.ipanema_cli.specs.Status.{code_of, outcome_status, verdict_status}
 use Rattle.ipanema_cli.specs.Texts.{MayRead, room_of}
 use Rattle.ipanema_cli.specs.declared.texts.TextKind.{TextKind}
 use Rattle.ipanema_cli.specs.declared.texts.TextKind.TheVariants as kind
@@ -44,35 +56,52 @@ pub record Holds (which : TextKind) (told : Told) (text : List ℕ) : Type 0 whe
   pub is : told ≡ holds text
   pub short : length text ≤ room_of which
 
--- The lines that are written answer for this policy, which the policy's file may spell.
-pub record AnswersFor (policy : Told) (before after : Option (List ℕ)) (code : ℕ) (p : Meaning) (balance : Balance) : Type 0 where
+-- The policy's file holds a text that spells this policy, and no obligation of it has too many cases.
+pub record Spells (policy : Told) (p : Meaning) : Type 0 where
+  pub text : List ℕ
+  pub held : Holds kind.Policy policy text
+  pub spells : SpellsPolicy text p
+  pub few : first_crowded p ob_names ≡ None
+
+-- Bounded elimination leaves a system of an obligation of the policy open.
+abbrev pub SomeIsOpen : Meaning → Type 0
+SomeIsOpen p = (name : ObName) × HasOpen (systems_of p (statement_of name))
+
+-- What is told of an obligation has its reason, and is true.
+pub record IsToldTruly (p : Meaning) (answered : Answered) : Type 0 where
+  -- behind `holds` is a certificate that is right for each of its systems, behind `fails` a point that solves one
+  pub reason : obligation.IsAnswer CHECK_BUDGET (systems_of p (statement_of answered.name)) answered.answer
+  pub word : IsTold p answered.name (outcome_of answered.answer)
+
+-- What a verdict says of each obligation is true.
+abbrev pub AllToldTruly : Meaning → Verdict → Type 0
+AllToldTruly p (verdict.Accepted policy) = MeetsObligations p
+AllToldTruly p (verdict.Refused answers policy) = All (IsToldTruly p) answers
+AllToldTruly p (verdict.Undecided answers policy) = All (IsToldTruly p) answers
+
+-- The lines that are written answer for a policy, which the policy's file may spell.
+pub record AnswersFor (policy : Told) (before after : Option (List ℕ)) (code : ℕ) : Type 0 where
+  pub p : Meaning
+  pub verdict : Verdict
   pub spelled : MaySpell policy p
-  -- behind `holds` of a balance obligation is a certificate that is right for its system, behind `fails` a point that solves it
-  pub reasons : HasReasons p balance
-  -- and so each word is true; of a handler's obligation it is by a lemma on the default handlers
-  pub words : Judges p balance
-  pub written : Adds (judged_lines balance) before after
-  -- the verdict is that of the lines
-  pub verdict : IsTrue (all_hold balance) ↔ (code ≡ 0)
+  pub reasons : IsVerdict p CHECK_BUDGET verdict
+  pub words : AllToldTruly p verdict
+  pub written : Adds (joined (verdict_lines verdict)) before after
+  -- the status is that of the verdict
+  pub status : code ≡ code_of (verdict_status verdict)
 
--- the lines answer for some policy
-abbrev pub AnswersForOne : Told → Option (List ℕ) → Option (List ℕ) → ℕ → Type 0
-AnswersForOne policy before after code = (p : Meaning) × (balance : Balance) × AnswersFor policy before after code p balance
-
--- The text's fault is written, or that it is a policy that isn't judged so far.
-abbrev pub TellsFault : List ℕ → Option (List ℕ) → Option (List ℕ) → Type 0
-TellsFault text before after =
-    ((fault : TextFault) × HasFault text fault × Adds (fault_line fault) before after)
-    ⊎ ((p : Meaning) × SpellsPolicy text p × ((threshold : ℕ) → HasForm p threshold → ⊥) × Adds (codes "policy 0 not-built\n") before after)
-
--- it is, of a text that the policy's file may hold
-abbrev pub BadPolicy : Told → Option (List ℕ) → Option (List ℕ) → Type 0
-BadPolicy policy before after = (text : List ℕ) × MayRead kind.Policy policy text × TellsFault text before after
+-- The text's fault is written.
+pub record TellsFault (policy : Told) (before after : Option (List ℕ)) : Type 0 where
+  pub text : List ℕ
+  pub read : MayRead kind.Policy policy text
+  pub fault : TextFault
+  pub has : HasFault text fault
+  pub written : Adds (fault_line fault) before after
 
 -- What a policy has that is accepted.
 pub record AcceptedPolicy (policy : Told) (p : Meaning) : Type 0 where
   pub spelled : MaySpell policy p
-  -- a certificate that is right for the system of each balance obligation
+  -- a certificate that is right for each system of each obligation
   pub certified : IsCertified p
   -- it meets each of its statements
   pub meets : MeetsObligations p
@@ -80,20 +109,60 @@ pub record AcceptedPolicy (policy : Told) (p : Meaning) : Type 0 where
   -- explained, and still rounds conserve work
   pub wastes_no_core : WastesNoCore p
 
+-- When each status of `check` must come, if the outside lets it be.
+pub record Decides (policy : Told) (code : ℕ) : Type 0 where
+  -- a policy that meets its obligations is accepted or left undecided, and another one refused or left undecided
+  pub accepts : (p : Meaning) → Spells policy p → MeetsObligations p → OneOf (0 ∷ 3 ∷ 4 ∷ 5 ∷ 6 ∷ []) code
+  pub refuses : (p : Meaning) → Spells policy p → (MeetsObligations p → ⊥) → OneOf (1 ∷ 3 ∷ 4 ∷ 5 ∷ 6 ∷ []) code
+  -- and none is left undecided of which no system is open
+  pub decides : (p : Meaning) → Spells policy p → (SomeIsOpen p → ⊥) → code ≢ 3
+
+-- When a text isn't judged, if the outside lets it be.
+pub record Refuses (policy : Told) (code : ℕ) : Type 0 where
+  -- an obligation has too many cases
+  pub crowded : (text : List ℕ) (p : Meaning) → Holds kind.Policy policy text → SpellsPolicy text p →
+      first_crowded p ob_names ≢ None → OneOf (4 ∷ 5 ∷ 6 ∷ 10 ∷ []) code
+  -- the text is no policy
+  pub faulty : (text : List ℕ) (fault : TextFault) → Holds kind.Policy policy text → HasFault text fault →
+      OneOf (2 ∷ 4 ∷ 5 ∷ 6 ∷ []) code
+
 -- What `check` says of the policy in a file of which this is told is true.
 pub record ChecksTruly (policy : Told) (before after : Option (List ℕ)) (code : ℕ) : Type 0 where
-  -- an accepted policy has the threshold 2, and wastes no core
-  pub accepted : code ≡ 0 → (name : List ℕ) × AcceptedPolicy policy (policy_with name 2)
-  -- and every text of such a policy is accepted, if the outside lets it be
-  pub accepts : (text name : List ℕ) → Holds kind.Policy policy text → SpellsPolicy text (policy_with name 2) → OneOf (0 ∷ 4 ∷ 5 ∷ 6 ∷ []) code
-  -- one of the form with another threshold is refused
-  pub refuses : (text name : List ℕ) (threshold : ℕ) → Holds kind.Policy policy text → SpellsPolicy text (policy_with name threshold) → threshold ≤ MAX_THRESHOLD → threshold ≢ 2 → OneOf (1 ∷ 4 ∷ 5 ∷ 6 ∷ []) code
-  -- each line that says that an obligation holds or fails has its reason and is true
-  pub lines : OneOf (0 ∷ 1 ∷ []) code → AnswersForOne policy before after code
-  -- a policy of another form is told as one that isn't judged so far, and a text that is no policy by its fault
-  pub other_form : (text : List ℕ) (p : Meaning) → Holds kind.Policy policy text → SpellsPolicy text p → ((threshold : ℕ) → HasForm p threshold → ⊥) → OneOf (2 ∷ 4 ∷ 5 ∷ 6 ∷ []) code
-  pub faulty : (text : List ℕ) (fault : TextFault) → Holds kind.Policy policy text → HasFault text fault → OneOf (2 ∷ 4 ∷ 5 ∷ 6 ∷ []) code
-  pub bad_text : code ≡ 2 → BadPolicy policy before after
+  -- an accepted policy wastes no core
+  pub accepted : code ≡ 0 → (p : Meaning) × AcceptedPolicy policy p
+  -- each line that says that an obligation holds, fails or is undecided has its reason and is true
+  pub lines : OneOf (0 ∷ 1 ∷ 3 ∷ []) code → AnswersFor policy before after code
+  pub decides : Decides policy code
+  pub refuses : Refuses policy code
+  pub bad_text : code ≡ 2 → TellsFault policy before after
+
+-- Where the answer is that the obligation fails, it fails at the answer's point.
+abbrev pub ShowsFailure : Meaning → ObName → ObAnswer → Type 0
+ShowsFailure p name (answer.Holds certs) = Unit {0}
+ShowsFailure p name (answer.Fails point) = FailsAt p (statement_of name) point.vals
+ShowsFailure p name (answer.Undecided points) = Unit {0}
+
+-- The line that is written answers for an obligation of a policy, which the policy's file may spell.
+pub record ExplainsFor (policy : Told) (name : ObName) (before after : Option (List ℕ)) (code : ℕ) : Type 0 where
+  pub p : Meaning
+  pub answer : ObAnswer
+  pub spelled : MaySpell policy p
+  pub told : IsToldTruly p (record { name = name; answer = answer })
+  pub shows : ShowsFailure p name answer
+  -- the variables of a point stand there by their names, in their order, each with its value
+  pub written : Adds (explain_line p name answer) before after
+  -- the status is that of the answer
+  pub status : code ≡ code_of (outcome_status (outcome_of answer))
+
+-- What `explain` says of an obligation of the policy in a file of which this is told is true.
+pub record ExplainsTruly (policy : Told) (name : ObName) (before after : Option (List ℕ)) (code : ℕ) : Type 0 where
+  pub line : OneOf (0 ∷ 1 ∷ 3 ∷ []) code → ExplainsFor policy name before after code
+  -- every policy gets such an answer, if the outside lets it be
+  pub answers : (p : Meaning) → Spells policy p → OneOf (0 ∷ 1 ∷ 3 ∷ 4 ∷ 5 ∷ 6 ∷ []) code
+  -- and none is that nothing is known, where no system of the obligation is open
+  pub decides : (p : Meaning) → Spells policy p → (HasOpen (systems_of p (statement_of name)) → ⊥) → code ≢ 3
+  pub refuses : Refuses policy code
+  pub bad_text : code ≡ 2 → TellsFault policy before after
 
 -- The files may hold an accepted policy and a trace that means this plan under it.
 pub record MayPlay (policy trace : Told) (p : Meaning) (plan : Plan) : Type 0 where
@@ -108,13 +177,16 @@ pub record MayPlay (policy trace : Told) (p : Meaning) (plan : Plan) : Type 0 wh
   pub means : SpellsPlan p lines plan
   pub fits : Fits p plan
 
--- The files hold them.
-pub record DoPlay (policy trace : Told) (p : Meaning) (plan : Plan) : Type 0 where
-  pub text : List ℕ
-  pub jobs : List ℕ
-  pub policy_held : Holds kind.Policy policy text
+-- The files hold a policy that meets its obligations, none with too many cases, and a trace.
+pub record DoHold (policy trace : Told) (p : Meaning) (jobs : List ℕ) : Type 0 where
+  pub spells : Spells policy p
+  pub meets : MeetsObligations p
   pub trace_held : Holds kind.Trace trace jobs
-  pub accepted : IsAccepted text p
+
+-- And the trace means this plan under the policy.
+pub record DoPlay (policy trace : Told) (p : Meaning) (plan : Plan) : Type 0 where
+  pub jobs : List ℕ
+  pub held : DoHold policy trace p jobs
   pub lines : List Numbered
   pub spells : SpellsTrace jobs lines
   pub means : SpellsPlan p lines plan
@@ -131,24 +203,41 @@ pub record BadTrace (policy trace : Told) (before after : Option (List ℕ)) : T
   pub has : plays.HasFault p jobs fault
   pub written : Adds (trace_faults.fault_line fault) before after
 
+-- When each status of `play` must come, if the outside lets it be. A policy with an open system may be left undecided.
+pub record MustPlay (policy trace : Told) (code : ℕ) : Type 0 where
+  -- what can be played is: to the end where every round fits, and only there
+  pub reaches_end : (p : Meaning) (plan : Plan) → DoPlay policy trace p plan →
+      ((k : ℕ) → IsFull plan (serial_rounds p plan k) → ⊥) → OneOf (0 ∷ 3 ∷ 4 ∷ 5 ∷ 6 ∷ []) code
+  pub stops_full : (p : Meaning) (plan : Plan) (k : ℕ) → DoPlay policy trace p plan →
+      IsFull plan (serial_rounds p plan k) → OneOf (3 ∷ 4 ∷ 5 ∷ 6 ∷ 8 ∷ []) code
+  -- a trace that can't be played gets its fault
+  pub faulty : (p : Meaning) (jobs : List ℕ) (fault : LineFault) → DoHold policy trace p jobs →
+      plays.HasFault p jobs fault → OneOf (2 ∷ 3 ∷ 4 ∷ 5 ∷ 6 ∷ []) code
+  -- no policy is left undecided of which no system is open
+  pub decides : (p : Meaning) (jobs : List ℕ) → Spells policy p → Holds kind.Trace trace jobs →
+      (SomeIsOpen p → ⊥) → code ≢ 3
+  -- a policy that doesn't meet its obligations gets a status that `check` has for such ones
+  pub refuses : (p : Meaning) (jobs : List ℕ) → Spells policy p → Holds kind.Trace trace jobs →
+      (MeetsObligations p → ⊥) → OneOf (1 ∷ 3 ∷ 4 ∷ 5 ∷ 6 ∷ []) code
+  -- and a text that isn't judged the one for it
+  pub unjudged : (jobs : List ℕ) → Holds kind.Trace trace jobs → Refuses policy code
+
 -- What `play` says of files of which this is told is true.
 pub record PlaysTruly (policy trace : Told) (before after : Option (List ℕ)) (code : ℕ) : Type 0 where
   -- the text of the serial history was written, which is whole and keeps the laws of every interleaving
-  pub whole : code ≡ 0 → (p : Meaning) × (plan : Plan) × (history : List Entry) × MayPlay policy trace p plan × EndsWhole p plan history × KeepsLaws p plan history × Adds (text_of_history history) before after
+  pub whole : code ≡ 0 → (p : Meaning) × (plan : Plan) × (history : List Entry) × MayPlay policy trace p plan
+      × EndsWhole p plan history × KeepsLaws p plan history × Adds (text_of_history history) before after
   -- the text of the complete rounds before the first that might not fit the limit was written, which keep them too
-  pub full : code ≡ 8 → (p : Meaning) × (plan : Plan) × (history : List Entry) × MayPlay policy trace p plan × StopsFull p plan history × KeepsLaws p plan history × Adds (text_of_history history) before after
-  -- and what can be played is, if the outside lets it be: to the end where every round fits, and only there
-  pub reaches_end : (p : Meaning) (plan : Plan) → DoPlay policy trace p plan → ((k : ℕ) → IsFull plan (serial_rounds p plan k) → ⊥) → OneOf (0 ∷ 4 ∷ 5 ∷ 6 ∷ []) code
-  pub stops_full : (p : Meaning) (plan : Plan) (k : ℕ) → DoPlay policy trace p plan → IsFull plan (serial_rounds p plan k) → OneOf (4 ∷ 5 ∷ 6 ∷ 8 ∷ []) code
-  -- a policy that isn't accepted gets a status that `check` has for such ones
-  pub unaccepted : (text jobs : List ℕ) → Holds kind.Policy policy text → Holds kind.Trace trace jobs → ((p : Meaning) → IsAccepted text p → ⊥) → OneOf (1 ∷ 2 ∷ 4 ∷ 5 ∷ 6 ∷ []) code
-  pub lines : code ≡ 1 → AnswersForOne policy before after code
-  -- under an accepted policy a trace that can't be played gets its fault
-  pub faulty : (text jobs : List ℕ) (p : Meaning) (fault : LineFault) → Holds kind.Policy policy text → Holds kind.Trace trace jobs → IsAccepted text p → plays.HasFault p jobs fault → OneOf (2 ∷ 4 ∷ 5 ∷ 6 ∷ []) code
-  pub bad_text : code ≡ 2 → BadPolicy policy before after ⊎ BadTrace policy trace before after
+  pub full : code ≡ 8 → (p : Meaning) × (plan : Plan) × (history : List Entry) × MayPlay policy trace p plan
+      × StopsFull p plan history × KeepsLaws p plan history × Adds (text_of_history history) before after
+  pub must : MustPlay policy trace code
+  -- a policy that isn't accepted gets the lines of `check`
+  pub lines : OneOf (1 ∷ 3 ∷ []) code → AnswersFor policy before after code
+  pub bad_text : code ≡ 2 → TellsFault policy before after ⊎ BadTrace policy trace before after
 
 -- What is said is true.
 abbrev pub IsTruthful : Option Asked → (List ℕ → Told) → Option (List ℕ) → Option (List ℕ) → ℕ → Type 0
 IsTruthful None told before after code = Unit {0}
 IsTruthful (Some (check policy)) told before after code = ChecksTruly (told policy) before after code
+IsTruthful (Some (explain policy name)) told before after code = ExplainsTruly (told policy) name before after code
 IsTruthful (Some (play policy trace)) told before after code = PlaysTruly (told policy) (told trace) before after code

@@ -6,10 +6,11 @@ ghost use Rattle.sched_io.specs.Puts.{Puts};
 ghost use Rattle.ipanema_cli.specs.Answers.{CanBePut, IsPlayOfTexts, lines_of, status_of};
 ghost use Rattle.ipanema_cli.specs.declared.stop.Stop.TheVariants as stop;
 
-use crate::checking::{CheckAnswer, check_text};
-use crate::status::Status;
+use crate::status::{Status, check_status, explain_status};
 use crate::stop::Stop;
 use crate::texts::TextKind;
+use policy_check::{CheckAnswer, ExplainAnswer, check_text};
+use policy_checker::Verdict;
 use sched_io::{PutFault, Sink, put_all};
 use serial_play::Played;
 use std::alloc::Global;
@@ -20,6 +21,8 @@ use trace_play::{PlayAnswer, play_text};
 pub enum Answer {
     /// What `check` answers to the policy.
     Checked(CheckAnswer),
+    /// What `explain` answers of an obligation of the policy.
+    Explained(ExplainAnswer),
     /// What serial play of the trace comes to, under an accepted policy.
     Played(PlayAnswer),
     /// A text of that kind is longer than its limit.
@@ -37,8 +40,8 @@ pub fn play_texts(alloc: Global, policy: &[u8], trace: &[u8]) -> Result<Answer, 
     ensures memory { IfErr result (λ why. why ≡ stop.Memory) }
 {
     match check_text(alloc, policy)? {
-        CheckAnswer::Judged(policy, balance) if balance.all_hold() => {
-            Ok(Answer::Played(play_text(alloc, &policy, trace)?))
+        CheckAnswer::Judged(Verdict::Accepted(accepted)) => {
+            Ok(Answer::Played(play_text(alloc, accepted.policy(), trace)?))
         }
         refusal => Ok(Answer::Checked(refusal)),
     }
@@ -50,7 +53,8 @@ impl Answer {
         ensures { result ≡ status_of self.now }
     {
         match self {
-            Answer::Checked(answer) => answer.status(),
+            Answer::Checked(answer) => check_status(answer),
+            Answer::Explained(answer) => explain_status(answer),
             Answer::Played(PlayAnswer::Broken(_)) => Status::BadText,
             Answer::Played(PlayAnswer::Played(Played::Whole(_))) => Status::Done,
             Answer::Played(PlayAnswer::Played(Played::Full(_))) => Status::HistoryFull,
@@ -66,6 +70,7 @@ impl Answer {
     {
         match self {
             Answer::Checked(answer) => answer.put(out),
+            Answer::Explained(answer) => answer.put(out),
             Answer::Played(answer) => answer.put(out),
             Answer::TooLong(kind) => put_all(out, kind.too_long_line()),
             Answer::BadWords => put_all(out, b"bad words\n"),

@@ -1,13 +1,17 @@
 //! The words of a call, and what they ask for.
 
-ghost use Rattle.std.specs.Prelude.{◌≡◌};
+ghost use Rattle.std.specs.Prelude.{◌≡◌, option_map};
 ghost use Rattle.ipanema_cli.specs.Asks.{asked};
-ghost use Rattle.ipanema_cli.specs.Command.{asked_by, is_plain, words_of};
+ghost use Rattle.ipanema_cli.specs.Command.{asked_by, explain, is_plain, name_of, words_of};
+
+use obligations::{ObName, ob_name};
 
 /// What the words of a call ask for.
 pub enum Request<'a> {
     /// To check the policy in this file.
     Check { policy: &'a str },
+    /// To explain the obligation of that name of the policy in this file.
+    Explain { policy: &'a str, name: ObName },
     /// To play the trace in one file under the policy in the other.
     Play { policy: &'a str, trace: &'a str },
     /// Nothing: they are no command.
@@ -29,7 +33,20 @@ pub fn request_of(words: &[String]) -> Request<'_>
                 trace: trace.as_str(),
             }
         }
+        [verb, policy, name] if verb.as_str() == "explain" && is_plain(policy.as_str()) => {
+            explanation_of(policy.as_str(), name.as_str())
+        }
         _ => Request::Unknown,
+    }
+}
+
+/// What the words `explain`, this policy and this name ask for.
+fn explanation_of<'a>(policy: &'a str, name: &str) -> Request<'a>
+    ensures { asked result ≡ option_map (explain policy.now) (name_of name.now) }
+{
+    match ob_name(name) {
+        Some(name) => Request::Explain { policy, name },
+        None => Request::Unknown,
     }
 }
 

@@ -1,6 +1,7 @@
-//! The gallery of `examples/faults`, by `check`: for each word of a fault a text that has it, and the line that is written.
+//! The gallery of `examples/faults`, by `check`: for each word of a fault a text that has it, and
+//! the line that is written.
 
-use crate::tests::check;
+use crate::tests::{call_over, check};
 use std::test::Fail;
 
 #[test]
@@ -99,10 +100,6 @@ fn earlier_layers_come_first(rt: HostRuntime) -> Result<(), Fail> {
             "policy p load weight 0..2 filter t.nr < 1 choose first steal first",
             "policy 21 bad-range\n",
         ),
-        (
-            "policy p load count filter always choose first steal first",
-            "policy 0 not-built\n",
-        ),
     ];
     for (text, expected) in cases {
         let (status, out) = check(&rt, alloc, text.as_bytes())?;
@@ -122,7 +119,13 @@ fn longest_chain_of_conditions(rt: HostRuntime) -> Result<(), Fail> {
     text.push_str(" choose first steal first")?;
     assert_eq!(rt; text.len(), 65530);
     let (status, out) = check(&rt, alloc, text.as_bytes())?;
-    assert_eq!(rt; status, 2);
-    assert_eq!(rt; out.as_slice(), b"policy 0 not-built\n".as_slice());
+    assert_eq!(rt; status, 1);
+    assert!(rt;
+        out.as_slice()
+            .starts_with(b"B1 holds\nB2 fails\nB3 fails\n")
+    );
+    let (status, out) = call_over(&rt, alloc, &["explain", "p", "B2"], text.as_bytes())?;
+    assert_eq!(rt; status, 1);
+    assert!(rt; out.as_slice().starts_with(b"B2 fails self.nr="));
     Ok(())
 }

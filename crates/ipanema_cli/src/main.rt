@@ -3,7 +3,6 @@
 
 mod answers;
 mod arguments;
-mod checking;
 mod command;
 #[cfg(test)]
 mod gallery_tests;
@@ -16,6 +15,8 @@ mod stop;
 mod tests;
 mod texts;
 mod top;
+#[cfg(test)]
+mod verdict_tests;
 
 use sched_io::{DiskFiles, StdoutSink};
 use std::process::ExitCode;

@@ -3,8 +3,8 @@
 ghost use Rattle.std.specs.Prelude.{◌≡◌, ◌≢◌, ◌⊎◌, [], ◌∷◌, Some, IfErr, IfOk, IsErrOf, OnOk, codes, slice_get};
 ghost use Rattle.sched_io.specs.Faults.{Rose};
 ghost use Rattle.sched_io.specs.Loads.{Asks};
-ghost use Rattle.ipanema_cli.specs.Answers.{AnswersCheck, AnswersPlay, CanBePut, IsAnswer};
-ghost use Rattle.ipanema_cli.specs.Command.{asked_by, check, play, words_of};
+ghost use Rattle.ipanema_cli.specs.Answers.{AnswersCheck, AnswersExplain, AnswersPlay, CanBePut, IsAnswer};
+ghost use Rattle.ipanema_cli.specs.Command.{asked_by, check, explain, play, words_of};
 ghost use Rattle.ipanema_cli.specs.Ends.{Ends, Writes};
 ghost use Rattle.ipanema_cli.specs.Causes.{HasCause, OneOf};
 ghost use Rattle.ipanema_cli.specs.Loads.{FirstAreLoaded, files_of};
@@ -12,11 +12,12 @@ ghost use Rattle.ipanema_cli.specs.Stops.{IsStop};
 ghost use Rattle.ipanema_cli.specs.Truths.{IsTruthful};
 
 use crate::answers::{Answer, play_texts};
-use crate::checking::check_text;
 use crate::command::{Request, request_of};
 use crate::status::Status;
 use crate::stop::Stop;
 use crate::texts::{TextKind, load};
+use obligations::ObName;
+use policy_check::{check_text, explain_text};
 use sched_io::{Files, PutFault, Sink};
 use std::alloc::Global;
 
@@ -38,7 +39,7 @@ pub fn serial_command<F: Files, S: Sink>(
         (S.shown out.old).written (S.shown out.new).written result }
     ensures loads { FirstAreLoaded (asked_by (words_of words.now.items)) (F.told files.old)
         (F.asked files.old) (F.asked files.new) }
-    ensures loaded { OneOf (0 ∷ 1 ∷ 2 ∷ 7 ∷ 8 ∷ []) result → Asks (files_of (asked_by (words_of words.now.items)))
+    ensures loaded { OneOf (0 ∷ 1 ∷ 2 ∷ 3 ∷ 7 ∷ 8 ∷ []) result → Asks (files_of (asked_by (words_of words.now.items)))
         (F.asked files.old) (F.asked files.new) }
     ensures calm { (result ≡ 4) ⊎ (F.faults files.new ≡ F.faults files.old) }
     ensures quiet { (result ≡ 5) ⊎ ((S.shown out.new).faults ≡ (S.shown out.old).faults) }
@@ -52,14 +53,14 @@ fn carry_out<F: Files, S: Sink>(alloc: Global, words: &[String], files: &mut F, 
         (Rose (F.faults files.old) (F.faults files.new)) (S.shown out.old) (S.shown out.new) result }
     ensures loads { FirstAreLoaded (asked_by (words_of words.now)) (F.told files.old)
         (F.asked files.old) (F.asked files.new) }
-    ensures loaded { OneOf (0 ∷ 1 ∷ 2 ∷ 7 ∷ 8 ∷ []) result → Asks (files_of (asked_by (words_of words.now)))
+    ensures loaded { OneOf (0 ∷ 1 ∷ 2 ∷ 3 ∷ 7 ∷ 8 ∷ []) result → Asks (files_of (asked_by (words_of words.now)))
         (F.asked files.old) (F.asked files.new) }
     ensures calm { (result ≡ 4) ⊎ (F.faults files.new ≡ F.faults files.old) }
     ensures quiet { (result ≡ 5) ⊎ ((S.shown out.new).faults ≡ (S.shown out.old).faults) }
 {
     match answer_to(alloc, words, files) {
-        Ok(answer) => give(&answer, out),
-        Err(Stop::TooLong(kind)) => give(&Answer::TooLong(kind), out),
+        Ok(answer) => give(answer, out),
+        Err(Stop::TooLong(kind)) => give(Answer::TooLong(kind), out),
         Err(Stop::Unread) => Status::ReadFault.code(),
         Err(Stop::Memory) => Status::Memory.code(),
     }
@@ -79,6 +80,7 @@ fn answer_to<F: Files>(alloc: Global, words: &[String], files: &mut F) -> Result
 {
     match request_of(words) {
         Request::Check { policy } => check(alloc, policy, files),
+        Request::Explain { policy, name } => explain(alloc, policy, name, files),
         Request::Play { policy, trace } => play(alloc, policy, trace, files),
         Request::Unknown => Ok(Answer::BadWords),
     }
@@ -96,6 +98,25 @@ fn check<F: Files>(alloc: Global, policy: &str, files: &mut F) -> Result<Answer,
 {
     let text = load(alloc, files, policy, TextKind::Policy)?;
     Ok(Answer::Checked(check_text(alloc, text.as_slice())?))
+}
+
+/// The answer of `explain` to the policy in that file, for the obligation of that name.
+fn explain<F: Files>(
+    alloc: Global,
+    policy: &str,
+    name: ObName,
+    files: &mut F,
+) -> Result<Answer, Stop>
+    ensures answer { IfOk result (AnswersExplain (F.told files.old policy.now) name) }
+    ensures shown { IfOk result CanBePut }
+    ensures stop { IfErr result (IsStop (Some (explain policy.now name)) (F.told files.old)
+        (Rose (F.faults files.old) (F.faults files.new))) }
+    ensures loads { Asks (files_of (Some (explain policy.now name)))
+        (F.asked files.old) (F.asked files.new) }
+    ensures calm { IsErrOf result Stop.Unread ⊎ (F.faults files.new ≡ F.faults files.old) }
+{
+    let policy_text = load(alloc, files, policy, TextKind::Policy)?;
+    Ok(Answer::Explained(explain_text(alloc, policy_text.as_slice(), name)?))
 }
 
 /// The answer of `play` to the trace in one file under the policy in the other.
@@ -116,13 +137,18 @@ fn play<F: Files>(alloc: Global, policy: &str, trace: &str, files: &mut F) -> Re
 }
 
 /// Writes an answer, and gives its status.
-pub fn give<S: Sink>(answer: &Answer, out: &mut S) -> u8
-    requires { CanBePut answer.now }
-    ensures writes { Writes answer.now (S.shown out.old) (S.shown out.new) result }
+///
+/// The answer is let go in one place, by `drop`: an enum that owns a policy has many ways to be let go, and each would be
+/// one more way through the function that ends with it.
+pub fn give<S: Sink>(answer: Answer, out: &mut S) -> u8
+    requires { CanBePut answer }
+    ensures writes { Writes answer (S.shown out.old) (S.shown out.new) result }
     ensures quiet { (result ≡ 5) ⊎ ((S.shown out.new).faults ≡ (S.shown out.old).faults) }
 {
-    match answer.put(out) {
+    let code = match answer.put(out) {
         Ok(()) => answer.status().code(),
         Err(PutFault::Failed) => Status::WriteFault.code(),
-    }
+    };
+    drop(answer);
+    code
 }

@@ -1,7 +1,10 @@
 //! How the program ends.
 
 ghost use Rattle.std.specs.Prelude.{◌≡◌};
-ghost use Rattle.ipanema_cli.specs.Status.{code_of};
+ghost use Rattle.ipanema_cli.specs.Status.{check_status, code_of, explain_status, outcome_status, refusal_status, verdict_status};
+
+use policy_check::{CheckAnswer, ExplainAnswer, Refusal};
+use policy_checker::{Outcome, Verdict};
 
 /// How the program ends, for the shell a number.
 #[derive(Clone, Copy)]
@@ -10,8 +13,10 @@ pub enum Status {
     Done,
     /// An obligation of the policy fails.
     Refused,
-    /// A text has a fault, or is a policy that isn't judged so far.
+    /// A text has a fault.
     BadText,
+    /// No obligation is known to fail, and of some it isn't known whether it holds.
+    Undecided,
     /// A file wasn't read.
     ReadFault,
     /// The output wasn't written whole.
@@ -22,7 +27,7 @@ pub enum Status {
     BadWords,
     /// A round is due that the trace's limit of entries may have no room for.
     HistoryFull,
-    /// A file is longer than its limit.
+    /// A file is longer than its limit, or an obligation has too many cases.
     TooMuch,
 }
 
@@ -35,6 +40,7 @@ impl Status {
             Status::Done => 0,
             Status::Refused => 1,
             Status::BadText => 2,
+            Status::Undecided => 3,
             Status::ReadFault => 4,
             Status::WriteFault => 5,
             Status::Memory => 6,
@@ -42,5 +48,57 @@ impl Status {
             Status::HistoryFull => 8,
             Status::TooMuch => 10,
         }
+    }
+}
+
+/// The status of an answer of `check`.
+pub fn check_status(answer: &CheckAnswer) -> Status
+    ensures { result ≡ check_status answer.now }
+{
+    match answer {
+        CheckAnswer::Judged(verdict) => verdict_status(verdict),
+        CheckAnswer::Unjudged(refusal) => refusal_status(refusal),
+    }
+}
+
+/// The status of an answer of `explain`.
+pub fn explain_status(answer: &ExplainAnswer) -> Status
+    ensures { result ≡ explain_status answer.now }
+{
+    match answer {
+        ExplainAnswer::Explained(told) => outcome_status(told.outcome),
+        ExplainAnswer::Unjudged(refusal) => refusal_status(refusal),
+    }
+}
+
+/// The status of a verdict.
+fn verdict_status(verdict: &Verdict) -> Status
+    ensures { result ≡ verdict_status verdict.now }
+{
+    match verdict {
+        Verdict::Accepted(_) => Status::Done,
+        Verdict::Refused(_, _) => Status::Refused,
+        Verdict::Undecided(_, _) => Status::Undecided,
+    }
+}
+
+/// The status of an answer to an obligation.
+fn outcome_status(outcome: Outcome) -> Status
+    ensures { result ≡ outcome_status outcome }
+{
+    match outcome {
+        Outcome::Holds => Status::Done,
+        Outcome::Fails => Status::Refused,
+        Outcome::Undecided => Status::Undecided,
+    }
+}
+
+/// The status of a text that isn't judged.
+fn refusal_status(refusal: &Refusal) -> Status
+    ensures { result ≡ refusal_status refusal.now }
+{
+    match refusal {
+        Refusal::Faulty(_) => Status::BadText,
+        Refusal::Crowded(_) => Status::TooMuch,
     }
 }

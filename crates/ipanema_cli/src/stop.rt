@@ -4,7 +4,7 @@ ghost use Rattle.std.specs.Prelude.{◌≡◌};
 ghost use Rattle.ipanema_cli.specs.declared.stop.Stop.TheVariants as stop;
 
 use crate::texts::TextKind;
-use count_filter::JudgeMemory;
+use policy_check::CheckMemory;
 use trace_play::PlayMemory;
 
 /// What keeps a command from its answer.
@@ -18,10 +18,10 @@ pub enum Stop {
     Memory,
 }
 
-impl From<JudgeMemory> for Stop {
+impl From<CheckMemory> for Stop {
     ghost from_gives = { λ _ why. why ≡ stop.Memory };
 
-    fn from(_fault: JudgeMemory) -> Stop {
+    fn from(_fault: CheckMemory) -> Stop {
         Stop::Memory
     }
 }

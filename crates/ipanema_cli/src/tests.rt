@@ -85,7 +85,7 @@ pub(crate) fn first_lines(alloc: Global, text: &str, count: usize) -> Result<Vec
 }
 
 /// A call with these words over the file `p` with that text: its status, and what it wrote.
-fn call_over<R: Threads + Wait + Sync>(
+pub(crate) fn call_over<R: Threads + Wait + Sync>(
     rt: &R,
     alloc: Global,
     words: &[&str],
@@ -112,7 +112,7 @@ pub(crate) fn check<R: Threads + Wait + Sync>(
 fn words_and_texts(rt: HostRuntime) -> Result<(), Fail> {
     let alloc = rt.alloc();
     let basic = policy(alloc, "2")?;
-    let wrong_words: [&[&str]; 23] = [
+    let wrong_words: [&[&str]; 30] = [
         &[],
         &["-"],
         &["--"],
@@ -136,6 +136,13 @@ fn words_and_texts(rt: HostRuntime) -> Result<(), Fail> {
         &["play", "p"],
         &["play", "p", "-p"],
         &["play", "p", "p", "p"],
+        &["explain"],
+        &["explain", "p"],
+        &["explain", "p", "B9"],
+        &["explain", "p", "b1"],
+        &["explain", "p", ""],
+        &["explain", "-p", "B1"],
+        &["explain", "p", "B1", "B2"],
     ];
     for words in wrong_words {
         let (status, out) = call_over(&rt, alloc, words, basic.as_bytes())?;
@@ -147,7 +154,7 @@ fn words_and_texts(rt: HostRuntime) -> Result<(), Fail> {
         ("2", 0, [true, true, true]),
         ("0002", 0, [true, true, true]),
         ("3", 1, [false, true, true]),
-        ("9999", 1, [false, true, true]),
+        ("1099511627776", 1, [false, true, true]),
         ("1", 1, [true, false, false]),
         ("0", 1, [true, false, false]),
     ];
@@ -165,7 +172,7 @@ fn words_and_texts(rt: HostRuntime) -> Result<(), Fail> {
 }
 
 #[test]
-fn texts_of_other_forms(rt: HostRuntime) -> Result<(), Fail> {
+fn texts_of_one_policy_and_others(rt: HostRuntime) -> Result<(), Fail> {
     let alloc = rt.alloc();
     let cases = [
         (
@@ -182,19 +189,19 @@ fn texts_of_other_forms(rt: HostRuntime) -> Result<(), Fail> {
         ),
         (
             "policy basic load count filter victim.nr - self.nr >= 10000 choose first steal first",
-            "policy 0 not-built\n",
+            "refused\n",
         ),
         (
             "policy basic load count filter victim.nr - self.nr > 2 choose first steal first",
-            "policy 0 not-built\n",
+            "refused\n",
         ),
         (
             "policy basic load count filter self.nr - victim.nr >= 2 choose first steal first",
-            "policy 0 not-built\n",
+            "refused\n",
         ),
         (
             "policy basic load weight 1..2 filter victim.nr - self.nr >= 2 choose first steal first",
-            "policy 0 not-built\n",
+            "refused\n",
         ),
         (
             "policy basic load count filter victim.nr - self.nr >= choose first steal first",
@@ -219,7 +226,11 @@ fn texts_of_other_forms(rt: HostRuntime) -> Result<(), Fail> {
     ];
     for (text, last) in cases {
         let (status, out) = check(&rt, alloc, text.as_bytes())?;
-        let wanted = if last == "accepted\n" { 0 } else { 2 };
+        let wanted = match last {
+            "accepted\n" => 0,
+            "refused\n" => 1,
+            _ => 2,
+        };
         assert_eq!(rt; status, wanted, "at {text:?}");
         assert!(rt; out.as_slice().ends_with(last.as_bytes()), "at {text:?}");
     }

@@ -37,19 +37,19 @@ pub fn ipanema<R: Threads + Wait + Sync, F: Files, S: Sink, G: Gate>(
     // What is said of a policy and of a trace is true.
     ensures truthful { IsTruthful (asked_by (words_of words.now.items)) (F.told files.old)
         (S.shown out.old).written (S.shown out.new).written result }
-    // Just the first of the command's files are loaded, each once and with its limit, and none behind one that is told to be
-    // missing or too long.
+    // Just the first of the command's files are loaded, each once and with its limit, and none
+    // behind one that is told to be missing or too long.
     ensures loads { FirstAreLoaded (asked_by (words_of words.now.items)) (F.told files.old)
         (F.asked files.old) (F.asked files.new) }
     // And where a text was answered, or no command was, all of them are.
-    ensures loaded { OneOf (0 ∷ 1 ∷ 2 ∷ 7 ∷ 8 ∷ []) result → Asks (files_of (asked_by (words_of words.now.items)))
+    ensures loaded { OneOf (0 ∷ 1 ∷ 2 ∷ 3 ∷ 7 ∷ 8 ∷ []) result → Asks (files_of (asked_by (words_of words.now.items)))
         (F.asked files.old) (F.asked files.new) }
     // Where the files' count of faults moves, the call ends with 4, and where the sink's does, with 5.
     ensures calm { (result ≡ 4) ⊎ (F.faults files.new ≡ F.faults files.old) }
     ensures quiet { (result ≡ 5) ⊎ ((S.shown out.new).faults ≡ (S.shown out.old).faults) }
 {
     match words.first() {
-        Some(verb) if verb.as_str() == "run" => give(&Answer::BadWords, out),
+        Some(verb) if verb.as_str() == "run" => give(Answer::BadWords, out),
         _ => serial_command(alloc, words, files, out),
     }
 }

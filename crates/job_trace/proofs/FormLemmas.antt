@@ -1,247 +1,236 @@
--- The form of a line is the one that its words spell.
-use Rattle.std.proofs.Common.{◌≡◌, ◌∙◌, ◌&&◌, ℕ, Bool, true, false, cond, List, [], ◌∷◌, Option, Some, None, codes, eqb, arith, refl, ap, sym, subst}
-use Rattle.std.specs.Char.{is_ascii_digit}
-use Rattle.std.specs.List.{list_any}
-use Rattle.std.specs.Str.{bytes_eq}
+-- The form of a line is what is kept of the line that its words spell.
+use Rattle.std.proofs.Common.{◌≡◌, ◌∙◌, ℕ, Bool, true, false, cond, List, [], ◌∷◌, ◌++◌, map, Option, Some, None, codes, refl, ap, ap₂, sym, subst}
 use Rattle.std.specs.Prelude.{option_and_then, option_map}
-use Rattle.std.specs.Option.{option_or}
-use Rattle.std.proofs.lemmas.Bool.Decides.{nat_tests}
+use Rattle.std.specs.Str.{bytes_eq}
 use Rattle.std.proofs.lemmas.Slice.Eq.{bytes_eq-Decides}
 use Rattle.round_model.specs.declared.plan.Burst.{Burst}
-use Rattle.text_forms.specs.Numbers.{number_in, number_of}
+use Rattle.job_trace.specs.declared.form.LineKind.{LineKind}
+use Rattle.job_trace.specs.declared.form.LineKind.TheVariants as kind
+use Rattle.job_trace.specs.declared.trace.NamedConst.{NamedConst}
 use Rattle.job_trace.specs.declared.trace.TraceLine.{TraceLine}
-use Rattle.job_trace.specs.declared.trace.TraceLine.TheVariants.{Cores, Rounds}
-use Rattle.job_trace.specs.Words.{is_late_part, is_unbuilt}
-use Rattle.job_trace.specs.Forms.{SpellsLine, SpellsNumber, SpellsProgram, cores_line, rounds_line, run_end, run_forever, thread_line}
-use Rattle.job_trace.specs.Steps.{Found, alone, behind, form_of, number_alone, number_behind, number_first, over, program_in, run_of, thread_in, thread_with, with_rest}
+use Rattle.job_trace.specs.declared.trace.TraceLine.TheVariants.{Cores, Rounds, Entries}
+use Rattle.job_trace.specs.Forms.{SpellsLine, SpellsNumber, SpellsProgram, SpellsWeight, core_line, cores_line, entries_line, no_weight, order_line, rounds_line, run_block, run_end, run_forever, run_yield, some_weight, thread_line}
+use Rattle.job_trace.specs.Steps.{Found, by_kind, consts_in, core_in, core_with, form_of, kept, kind_of, line_in, number_alone, number_behind, number_first, numbers_in, order_in, order_with, program_in, some_of, thread_in, thread_with, weighed_in, weight_first, with_consts, with_core, with_id, with_order, with_round, with_weight}
+use Rattle.job_trace.proofs.KeptLemmas.{kept_burst, kept_line}
+use Rattle.job_trace.proofs.NumberForms.{alone-is, alone-yes, first-is, first-yes, number_behind-is, number_behind-yes, numbers-spelt, spelt-numbers}
+use Rattle.job_trace.proofs.OptionLemmas.{Spelt, chained, mapped, some-same}
+use Rattle.job_trace.proofs.ProgramForms.{consts-spelt, program-spelt, spelt-consts, spelt-program}
 
-some-same : {X : Type 0} {x y : X} → Some x ≡ Some y → x ≡ y
-some-same e = cc
+abbrev word_of : LineKind → List ℕ
+word_of kind.Cores = codes "cores"
+word_of kind.Rounds = codes "rounds"
+word_of kind.Entries = codes "entries"
+word_of kind.Core = codes "core"
+word_of kind.Thread = codes "thread"
+word_of kind.Order = codes "order"
 
-pub behind-is : (word : List ℕ) (line rest : List (List ℕ)) → behind word line ≡ Some rest → line ≡ word ∷ rest
-unfolding behind
-behind-is word [] rest e = cc
-behind-is word (first ∷ more) rest e = by (bytes_eq first word) (bytes_eq-Decides first word).0 e
+abbrev first_of : List ℕ → LineKind → Option LineKind → Option LineKind
+first_of word j others = cond (bytes_eq word (word_of j)) (Some j) others
+
+kind-is : (word : List ℕ) (k : LineKind) → kind_of word ≡ Some k → word ≡ word_of k
+unfolding kind_of
+kind-is word k e =
+    next kind.Cores (first_of word kind.Rounds (first_of word kind.Entries (first_of word kind.Core (first_of word kind.Thread (first_of word kind.Order None)))))
+    (next kind.Rounds (first_of word kind.Entries (first_of word kind.Core (first_of word kind.Thread (first_of word kind.Order None))))
+    (next kind.Entries (first_of word kind.Core (first_of word kind.Thread (first_of word kind.Order None)))
+    (next kind.Core (first_of word kind.Thread (first_of word kind.Order None))
+    (next kind.Thread (first_of word kind.Order None) (next kind.Order None (λ f. none f)))))) e
   where
-    by : (b : Bool) → (b ≡ true → first ≡ word) → cond b (Some more) None ≡ Some rest → first ∷ more ≡ word ∷ rest
-    by true same e = let heads = same refl in cc
-    by false same e = cc
+    none : None ≡ Some k → word ≡ word_of k
+    none f = cc
 
-pub behind-yes : (word : List ℕ) (rest : List (List ℕ)) → behind word (word ∷ rest) ≡ Some rest
-unfolding behind
-behind-yes word rest = rw ((bytes_eq-Decides word word).1 refl) refl
+    next : (j : LineKind) (others : Option LineKind) → (others ≡ Some k → word ≡ word_of k) → first_of word j others ≡ Some k → word ≡ word_of k
+    next j others later f = by (bytes_eq word (word_of j)) (bytes_eq-Decides word (word_of j)).0 f
+      where
+        by : (b : Bool) → (b ≡ true → word ≡ word_of j) → cond b (Some j) others ≡ Some k → word ≡ word_of k
+        by true same f = subst (λ (i : LineKind). word ≡ word_of i) (some-same f) (same refl)
+        by false same f = later f
 
--- the line begins with that word and a number
-record Numbers (word : List ℕ) (line : List (List ℕ)) (number : ℕ) (rest : List (List ℕ)) : Type 0 where
-  digits : List ℕ
-  spells : SpellsNumber digits number
-  is : line ≡ word ∷ digits ∷ rest
-
-number_behind-is : (word : List ℕ) (line : List (List ℕ)) (number : ℕ) (rest : List (List ℕ)) →
-    number_behind word line ≡ Some (number, rest) → Numbers word line number rest
-unfolding number_behind
-number_behind-is word line number rest e = by (behind word line) refl e
-  where
-    found : (first : List ℕ) (more : List (List ℕ)) (n : Option ℕ) → number_in first ≡ n →
-        with_rest more n ≡ Some (number, rest) → (number_in first ≡ Some number) × (more ≡ rest)
-    found first more None is e = cc
-    found first more (Some n) is e =
-        let pair : ◌≡◌ {A = Found} (n, more) (number, rest) = some-same e in
-        (is ∙ ap (λ (p : Found). Some p.0) pair, ap (λ (p : Found). p.1) pair)
-
-    by : (b : Option (List (List ℕ))) → behind word line ≡ b → option_and_then number_first b ≡ Some (number, rest) → Numbers word line number rest
-    by None is e = cc
-    by (Some []) is e = cc
-    by (Some (first ∷ more)) is e =
-        let both = found first more (number_in first) refl e in
-        record {
-          digits = first;
-          spells = both.0;
-          is = behind-is word line (first ∷ more) is ∙ ap (λ tail. word ∷ first ∷ tail) both.1;
-        }
-
-number_behind-yes : (word digits : List ℕ) (number : ℕ) (rest : List (List ℕ)) → SpellsNumber digits number →
-    number_behind word (word ∷ digits ∷ rest) ≡ Some (number, rest)
-unfolding number_behind
-number_behind-yes word digits number rest spells = rw (behind-yes word (digits ∷ rest)) (rw spells refl)
-
-number_alone-is : (word : List ℕ) (line : List (List ℕ)) (number : ℕ) → number_alone word line ≡ Some number → Numbers word line number []
-unfolding number_alone
-number_alone-is word line number e = by (number_behind word line) refl e
-  where
-    by : (f : Option Found) → number_behind word line ≡ f → alone f ≡ Some number → Numbers word line number []
-    by None is e = cc
-    by (Some (n, [])) is e = subst (λ m. Numbers word line m []) (some-same e) (number_behind-is word line n [] is)
-    by (Some (n, first ∷ rest)) is e = cc
-
-number_alone-yes : (word digits : List ℕ) (number : ℕ) → SpellsNumber digits number → number_alone word (word ∷ digits ∷ []) ≡ Some number
-unfolding number_alone
-number_alone-yes word digits number spells = ap alone (number_behind-yes word digits number [] spells)
-
-program-spells : (line : List (List ℕ)) (bursts : List Burst) → program_in line ≡ Some bursts → SpellsProgram line bursts
-unfolding program_in
-program-spells line bursts e = by (number_alone (codes "run") line) refl e
-  where
-    forever : (b : Option (List (List ℕ))) → behind (codes "forever") line ≡ b → over b ≡ Some bursts → SpellsProgram line bursts
-    forever None is e = cc
-    forever (Some []) is e =
-        subst (λ l. SpellsProgram l bursts) (sym (behind-is (codes "forever") line [] is))
-        (subst (λ bs. SpellsProgram (codes "forever" ∷ []) bs) (some-same e) run_forever)
-    forever (Some (first ∷ rest)) is e = cc
-
-    by : (n : Option ℕ) → number_alone (codes "run") line ≡ n →
-        option_or (option_map run_of n) (over (behind (codes "forever") line)) ≡ Some bursts → SpellsProgram line bursts
-    by None is e = forever (behind (codes "forever") line) refl e
-    by (Some n) is e =
-        let run = number_alone-is (codes "run") line n is in
-        subst (λ l. SpellsProgram l bursts) (sym run.is)
-        (subst (λ bs. SpellsProgram (codes "run" ∷ run.digits ∷ []) bs) (some-same e) (run_end run.digits run.spells))
-
-spells-program : (line : List (List ℕ)) (bursts : List Burst) → SpellsProgram line bursts → program_in line ≡ Some bursts
-unfolding program_in number_alone number_behind behind
-spells-program line bursts (run_end n {units = units} spells) = ap (λ u. option_or (option_map run_of u) (over (behind (codes "forever") (codes "run" ∷ n ∷ [])))) (number_alone-yes (codes "run") n units spells)
-spells-program line bursts run_forever = refl
-
--- what stands behind the core's number in a thread's line
-record Tail (id core : ℕ) (rest : List (List ℕ)) (form : TraceLine) : Type 0 where
-  round : ℕ
-  digits : List ℕ
-  more : List (List ℕ)
-  bursts : List Burst
-  spells : SpellsNumber digits round
-  is : rest ≡ codes "round" ∷ digits ∷ more
-  runs : SpellsProgram more bursts
-  form_is : thread_with id core round bursts ≡ form
-
-spells-tail : (t c : List ℕ) (id core : ℕ) (rest more : List (List ℕ)) (form : TraceLine) → SpellsNumber t id → SpellsNumber c core →
-    rest ≡ codes "core" ∷ c ∷ more → Tail id core more form → SpellsLine (codes "thread" ∷ t ∷ rest) form
-spells-tail t c id core rest more form t_is c_is rest_is tail =
-    subst (λ l. SpellsLine (codes "thread" ∷ t ∷ l) form) (sym (rest_is ∙ ap (λ l. codes "core" ∷ c ∷ l) tail.is))
-    (subst (λ f. SpellsLine (codes "thread" ∷ t ∷ codes "core" ∷ c ∷ codes "round" ∷ tail.digits ∷ tail.more) f) tail.form_is
-    (thread_line t c tail.digits tail.more {round = tail.round} {bursts = tail.bursts} t_is c_is tail.spells tail.runs))
-
-thread-spells : (line : List (List ℕ)) (form : TraceLine) → thread_in line ≡ Some form → SpellsLine line form
-unfolding thread_in
-thread-spells line form e = with_id (number_behind (codes "thread") line) refl e
-  where
-    bursts_last : (id core round : ℕ) (digits : List ℕ) (rest : List (List ℕ)) → SpellsNumber digits round →
-        (b : Option (List Burst)) → program_in rest ≡ b → option_map (thread_with id core round) b ≡ Some form →
-        Tail id core (codes "round" ∷ digits ∷ rest) form
-    bursts_last id core round digits rest spells None is e = cc
-    bursts_last id core round digits rest spells (Some bursts) is e = record {
-      round = round;
-      digits = digits;
-      more = rest;
-      bursts = bursts;
-      spells = spells;
-      is = refl;
-      runs = program-spells rest bursts is;
-      form_is = some-same e;
+-- a line of one number
+number-spelt : (word : List ℕ) (make : ℕ → TraceLine) (rest : List (List ℕ)) (form : TraceLine) →
+    ((n : List ℕ) (number : ℕ) → SpellsNumber n number → SpellsLine (word ∷ n ∷ []) (make number)) →
+    ((number : ℕ) → kept_line (make number) ≡ make (kept number)) →
+    option_map make (number_alone rest) ≡ Some form → Spelt (SpellsLine (word ∷ rest)) kept_line form
+number-spelt word make rest form spell keep e =
+    let (number, number_is, form_is) = mapped make (number_alone rest) form e in
+    let n = alone-is rest number number_is in
+    record {
+      whole = make n.whole;
+      spells = subst (λ (l : List (List ℕ)). SpellsLine (word ∷ l) (make n.whole)) (sym n.line_is) (spell n.digits n.whole n.spells);
+      is = keep n.whole ∙ ap make n.is ∙ form_is;
     }
 
-    with_round : (id core : ℕ) (rest : List (List ℕ)) → (f : Option Found) → number_behind (codes "round") rest ≡ f →
-        option_and_then (λ (r : Found). option_map (thread_with id core r.0) (program_in r.1)) f ≡ Some form → Tail id core rest form
-    with_round id core rest None is e = cc
-    with_round id core rest (Some (round, more)) is e =
-        let found = number_behind-is (codes "round") rest round more is in
-        subst (λ l. Tail id core l form) (sym found.is)
-        (bursts_last id core round found.digits more found.spells (program_in more) refl e)
+core-spelt : (line : List (List ℕ)) (form : TraceLine) → core_in line ≡ Some form → Spelt (SpellsLine (codes "core" ∷ line)) kept_line form
+unfolding core_in
+core-spelt line form e =
+    let (found, found_is, then_) = chained with_consts (number_first line) form e in
+    let core = first-is line found found_is in
+    let (consts, consts_is, form_is) = mapped (core_with found.0) (some_of found.1 (consts_in found.1)) form then_ in
+    whole (core.digits) core.whole found.0 found.1 consts core.spells core.is core.line_is consts_is form_is
+  where
+    whole : (digits : List ℕ) (n number : ℕ) (rest : List (List ℕ)) (consts : List NamedConst) → SpellsNumber digits n → kept n ≡ number →
+        line ≡ digits ∷ rest → some_of rest (consts_in rest) ≡ Some consts → core_with number consts ≡ form → Spelt (SpellsLine (codes "core" ∷ line)) kept_line form
+    whole digits n number [] consts spells is line_is consts_is form_is = cc
+    whole digits n number (first ∷ rest) consts spells is line_is consts_is form_is =
+        let given = consts-spelt (first ∷ rest) consts consts_is in
+        record {
+          whole = core_with n given.whole;
+          spells = subst (λ (l : List (List ℕ)). SpellsLine (codes "core" ∷ l) (core_with n given.whole)) (sym line_is) (core_line digits first rest spells given.spells);
+          is = ap₂ core_with is given.is ∙ form_is;
+        }
 
-    with_core : (id : ℕ) (rest : List (List ℕ)) → (f : Option Found) → number_behind (codes "core") rest ≡ f →
-        option_and_then (λ (c : Found). option_and_then (λ (r : Found). option_map (thread_with id c.0 r.0) (program_in r.1))
-        (number_behind (codes "round") c.1)) f ≡ Some form → (t : List ℕ) → SpellsNumber t id → SpellsLine (codes "thread" ∷ t ∷ rest) form
-    with_core id rest None is e t spells = cc
-    with_core id rest (Some (core, more)) is e t spells =
-        let found = number_behind-is (codes "core") rest core more is in
-        spells-tail t found.digits id core rest more form spells found.spells found.is
-        (with_round id core more (number_behind (codes "round") more) refl e)
+order-spelt : (line : List (List ℕ)) (form : TraceLine) → order_in line ≡ Some form → Spelt (SpellsLine (codes "order" ∷ line)) kept_line form
+unfolding order_in
+order-spelt line form e =
+    let (found, found_is, then_) = chained with_order (number_first line) form e in
+    let round = first-is line found found_is in
+    let (cores, cores_is, form_is) = mapped (order_with found.0) (some_of found.1 (numbers_in found.1)) form then_ in
+    whole (round.digits) round.whole found.0 found.1 cores round.spells round.is round.line_is cores_is form_is
+  where
+    whole : (digits : List ℕ) (n number : ℕ) (rest : List (List ℕ)) (cores : List ℕ) → SpellsNumber digits n → kept n ≡ number →
+        line ≡ digits ∷ rest → some_of rest (numbers_in rest) ≡ Some cores → order_with number cores ≡ form → Spelt (SpellsLine (codes "order" ∷ line)) kept_line form
+    whole digits n number [] cores spells is line_is cores_is form_is = cc
+    whole digits n number (first ∷ rest) cores spells is line_is cores_is form_is =
+        let given = numbers-spelt (first ∷ rest) cores cores_is in
+        record {
+          whole = order_with n given.whole;
+          spells = subst (λ (l : List (List ℕ)). SpellsLine (codes "order" ∷ l) (order_with n given.whole)) (sym line_is) (order_line digits first rest spells given.spells);
+          is = ap₂ order_with is given.is ∙ form_is;
+        }
 
-    with_id : (f : Option Found) → number_behind (codes "thread") line ≡ f →
-        option_and_then (λ (t : Found). option_and_then (λ (c : Found). option_and_then (λ (r : Found).
-        option_map (thread_with t.0 c.0 r.0) (program_in r.1)) (number_behind (codes "round") c.1)) (number_behind (codes "core") t.1)) f ≡ Some form →
-        SpellsLine line form
-    with_id None is e = cc
-    with_id (Some (id, rest)) is e =
-        let found = number_behind-is (codes "thread") line id rest is in
-        subst (λ l. SpellsLine l form) (sym found.is)
-        (with_core id rest (number_behind (codes "core") rest) refl e found.digits found.spells)
+-- a weight with which words begin, or 1
+record Weighing (line : List (List ℕ)) (weight : ℕ) (rest : List (List ℕ)) : Type 0 where
+  words : List (List ℕ)
+  whole : ℕ
+  spells : SpellsWeight words whole
+  line_is : line ≡ words ++ rest
+  is : kept whole ≡ weight
 
--- the form that was read is spelt
-pub form-spells : (line : List (List ℕ)) (form : TraceLine) → form_of line ≡ Some form → SpellsLine line form
+left-out : (line : List (List ℕ)) (found : Found) → ◌≡◌ {A = Found} (1, line) found → Weighing line found.0 found.1
+left-out line found e = record {
+  words = [];
+  whole = 1;
+  spells = no_weight;
+  line_is = ap (λ (p : Found). p.1) e;
+  is = ap (λ (p : Found). p.0) e;
+}
+
+weight-is : (line : List (List ℕ)) (found : Found) → weight_first line ≡ Some found → Weighing line found.0 found.1
+unfolding weight_first
+weight-is [] found e = left-out [] found (some-same e)
+weight-is (first ∷ rest) found e = by (bytes_eq first (codes "weight")) (bytes_eq-Decides first (codes "weight")).0 e
+  where
+    by : (b : Bool) → (b ≡ true → first ≡ codes "weight") → cond b (number_first rest) (Some (1, first ∷ rest)) ≡ Some found → Weighing (first ∷ rest) found.0 found.1
+    by true same e =
+        let n = first-is rest found e in
+        record {
+          words = codes "weight" ∷ n.digits ∷ [];
+          whole = n.whole;
+          spells = some_weight n.digits n.spells;
+          line_is = ap₂ (λ (w : List ℕ) ws. w ∷ ws) (same refl) n.line_is;
+          is = n.is;
+        }
+    by false same e = left-out (first ∷ rest) found (some-same e)
+
+-- what stands behind the core's number in a thread's line
+record Weighed (id core round : ℕ) (line : List (List ℕ)) (form : TraceLine) : Type 0 where
+  weighing : List (List ℕ)
+  program : List (List ℕ)
+  weight : ℕ
+  bursts : List Burst
+  weighs : SpellsWeight weighing weight
+  runs : SpellsProgram program bursts
+  line_is : line ≡ weighing ++ program
+  is : thread_with id core round (kept weight) (map kept_burst bursts) ≡ form
+
+weighed-is : (id core round : ℕ) (line : List (List ℕ)) (form : TraceLine) → weighed_in id core round line ≡ Some form → Weighed id core round line form
+unfolding weighed_in
+weighed-is id core round line form e =
+    let (found, found_is, then_) = chained (with_weight id core round) (weight_first line) form e in
+    let weight = weight-is line found found_is in
+    let (bursts, bursts_is, form_is) = mapped (thread_with id core round found.0) (program_in found.1) form then_ in
+    let program = program-spelt found.1 bursts bursts_is in
+    record {
+      weighing = weight.words;
+      program = found.1;
+      weight = weight.whole;
+      bursts = program.whole;
+      weighs = weight.spells;
+      runs = program.spells;
+      line_is = weight.line_is;
+      is = ap₂ (thread_with id core round) weight.is program.is ∙ form_is;
+    }
+
+thread-spelt : (line : List (List ℕ)) (form : TraceLine) → thread_in line ≡ Some form → Spelt (SpellsLine (codes "thread" ∷ line)) kept_line form
+unfolding thread_in
+thread-spelt line form e =
+    let (t, t_is, then_core) = chained with_id (number_first line) form e in
+    let (c, c_is, then_round) = chained (with_core t.0) (number_behind (codes "core") t.1) form then_core in
+    let (r, r_is, then_weight) = chained (with_round t.0 c.0) (number_behind (codes "round") c.1) form then_round in
+    let id = first-is line t t_is in
+    let core = number_behind-is (codes "core") t.1 c c_is in
+    let round = number_behind-is (codes "round") c.1 r r_is in
+    let tail = weighed-is t.0 c.0 r.0 r.1 form then_weight in
+    let made : TraceLine = thread_with id.whole core.whole round.whole tail.weight tail.bursts in
+    let line_is : line ≡ id.digits ∷ codes "core" ∷ core.digits ∷ codes "round" ∷ round.digits ∷ (tail.weighing ++ tail.program) =
+    id.line_is ∙ ap (λ (l : List (List ℕ)). id.digits ∷ l) (core.line_is ∙ ap (λ (l : List (List ℕ)). codes "core" ∷ core.digits ∷ l)
+    (round.line_is ∙ ap (λ (l : List (List ℕ)). codes "round" ∷ round.digits ∷ l) tail.line_is)) in
+    record {
+      whole = made;
+      spells = subst (λ (l : List (List ℕ)). SpellsLine (codes "thread" ∷ l) made) (sym line_is)
+          (thread_line id.digits core.digits round.digits tail.weighing tail.program id.spells core.spells round.spells tail.weighs tail.runs);
+      is = ap₂ (λ i c. thread_with i c (kept round.whole) (kept tail.weight) (map kept_burst tail.bursts)) id.is core.is
+          ∙ ap (λ r. thread_with t.0 c.0 r (kept tail.weight) (map kept_burst tail.bursts)) round.is ∙ tail.is;
+    }
+
+kind-spelt : (k : LineKind) (rest : List (List ℕ)) (form : TraceLine) → line_in k rest ≡ Some form → Spelt (SpellsLine (word_of k ∷ rest)) kept_line form
+unfolding line_in
+kind-spelt kind.Cores rest form e = number-spelt (codes "cores") Cores rest form (λ n number spells. cores_line n spells) (λ number. refl) e
+kind-spelt kind.Rounds rest form e = number-spelt (codes "rounds") Rounds rest form (λ n number spells. rounds_line n spells) (λ number. refl) e
+kind-spelt kind.Entries rest form e = number-spelt (codes "entries") Entries rest form (λ n number spells. entries_line n spells) (λ number. refl) e
+kind-spelt kind.Core rest form e = core-spelt rest form e
+kind-spelt kind.Thread rest form e = thread-spelt rest form e
+kind-spelt kind.Order rest form e = order-spelt rest form e
+
+-- the form that was read is kept of a line that is spelt
+pub form-spelt : (line : List (List ℕ)) (form : TraceLine) → form_of line ≡ Some form → Spelt (SpellsLine line) kept_line form
 unfolding form_of
-form-spells line form e = with_cores (number_alone (codes "cores") line) refl e
+form-spelt [] form e = cc
+form-spelt (first ∷ rest) form e = by (kind_of first) refl e
   where
-    with_rounds : (n : Option ℕ) → number_alone (codes "rounds") line ≡ n →
-        option_or (option_map Rounds n) (thread_in line) ≡ Some form → SpellsLine line form
-    with_rounds None is e = thread-spells line form e
-    with_rounds (Some n) is e =
-        let found = number_alone-is (codes "rounds") line n is in
-        subst (λ l. SpellsLine l form) (sym found.is)
-        (subst (λ f. SpellsLine (codes "rounds" ∷ found.digits ∷ []) f) (some-same e) (rounds_line found.digits found.spells))
+    by : (o : Option LineKind) → kind_of first ≡ o → by_kind rest o ≡ Some form → Spelt (SpellsLine (first ∷ rest)) kept_line form
+    by None is e = cc
+    by (Some k) is e = subst (λ (w : List ℕ). Spelt (SpellsLine (w ∷ rest)) kept_line form) (sym (kind-is first k is)) (kind-spelt k rest form e)
 
-    with_cores : (n : Option ℕ) → number_alone (codes "cores") line ≡ n →
-        option_or (option_map Cores n) (option_or (option_map Rounds (number_alone (codes "rounds") line)) (thread_in line)) ≡ Some form →
-        SpellsLine line form
-    with_cores None is e = with_rounds (number_alone (codes "rounds") line) refl e
-    with_cores (Some n) is e =
-        let found = number_alone-is (codes "cores") line n is in
-        subst (λ l. SpellsLine l form) (sym found.is)
-        (subst (λ f. SpellsLine (codes "cores" ∷ found.digits ∷ []) f) (some-same e) (cores_line found.digits found.spells))
+-- words that begin a program are no weight
+program-weight : (line : List (List ℕ)) (bursts : List Burst) → SpellsProgram line bursts → weight_first line ≡ Some (1, line)
+unfolding weight_first
+program-weight line bursts (run_end n spells) = refl
+program-weight line bursts run_forever = refl
+program-weight line bursts (run_yield n rest spells more) = refl
+program-weight line bursts (run_block n k rest spells rounds more) = refl
 
-number_alone-other : (word first : List ℕ) (rest : List (List ℕ)) → bytes_eq first word ≡ false → number_alone word (first ∷ rest) ≡ None
-unfolding number_alone number_behind behind
-number_alone-other word first rest e = rw e refl
+weight-first : (weighing program : List (List ℕ)) (weight : ℕ) (bursts : List Burst) → SpellsWeight weighing weight → SpellsProgram program bursts →
+    weight_first (weighing ++ program) ≡ Some (kept weight, program)
+unfolding weight_first
+weight-first weighing program weight bursts no_weight runs = program-weight program bursts runs
+weight-first weighing program weight bursts (some_weight w spells) runs = first-yes w program weight spells
 
--- what is spelt is read
-pub spells-form : (line : List (List ℕ)) (form : TraceLine) → SpellsLine line form → form_of line ≡ Some form
-unfolding form_of thread_in
-spells-form line form (cores_line n {number = number} spells) = rw (number_alone-yes (codes "cores") n number spells) refl
-spells-form line form (rounds_line r {number = number} spells) =
-    rw (number_alone-other (codes "cores") (codes "rounds") (r ∷ []) refl)
-    (rw (number_alone-yes (codes "rounds") r number spells) refl)
-spells-form line form (thread_line t c r program {id = id} {core = core} {round = round} {bursts = bursts} id_is core_is round_is runs) =
-    let behind_round : List (List ℕ) = codes "round" ∷ r ∷ program in
-    let behind_core : List (List ℕ) = codes "core" ∷ c ∷ behind_round in
-    rw (number_alone-other (codes "cores") (codes "thread") (t ∷ behind_core) refl)
-    (rw (number_alone-other (codes "rounds") (codes "thread") (t ∷ behind_core) refl)
-    (rw (number_behind-yes (codes "thread") t id behind_core id_is)
-    (rw (number_behind-yes (codes "core") c core behind_round core_is)
-    (rw (number_behind-yes (codes "round") r round program round_is)
-    (rw (spells-program program bursts runs) refl)))))
-
-and-left : (a b : Bool) → (a && b) ≡ true → a ≡ true
-and-left true b e = refl
-and-left false b e = cc
-
-and-right : (a b : Bool) → (a && b) ≡ true → b ≡ true
-and-right true b e = e
-and-right false b e = cc
-
-number-first_digit : (byte : ℕ) (rest : List ℕ) (number : ℕ) → SpellsNumber (byte ∷ rest) number → is_ascii_digit byte ≡ true
-unfolding number_in
-number-first_digit byte rest number e = and-left _ _ (and-right _ _ (and-right _ _ (tested _ e)))
-  where
-    tested : (b : Bool) → cond b (Some (number_of (byte ∷ rest))) None ≡ Some number → b ≡ true
-    tested true e = refl
-    tested false e = cc
-
-no-letter : (byte : ℕ) → is_ascii_digit byte ≡ true → (eqb byte 119 ≡ false) × (eqb byte 121 ≡ false) × (eqb byte 98 ≡ false)
-no-letter byte digit = (grind (arith, nat_tests), grind (arith, nat_tests), grind (arith, nat_tests))
-
-number-not_late : (word : List ℕ) (number : ℕ) → SpellsNumber word number → is_late_part word ≡ false
-number-not_late [] number spells = refl
-number-not_late (byte ∷ rest) number spells =
-    let none = no-letter byte (number-first_digit byte rest number spells) in rw (none.0, none.1, none.2) refl
-
-program-not_late : (line : List (List ℕ)) (bursts : List Burst) → SpellsProgram line bursts → list_any is_late_part line ≡ false
-program-not_late line bursts (run_end n {units = units} spells) = rw (number-not_late n units spells) refl
-program-not_late line bursts run_forever = refl
-
--- what is spelt is built
-pub spells-built : (line : List (List ℕ)) (form : TraceLine) → SpellsLine line form → is_unbuilt line ≡ false
-spells-built line form (cores_line n spells) = refl
-spells-built line form (rounds_line r spells) = refl
-spells-built line form (thread_line t c r program {id = id} {core = core} {round = round} {bursts = bursts} id_is core_is round_is runs) =
-    rw (number-not_late t id id_is)
-    (rw (number-not_late c core core_is)
-    (rw (number-not_late r round round_is) (program-not_late program bursts runs)))
+-- what is kept of a line that is spelt is read
+pub spelt-form : (line : List (List ℕ)) (whole : TraceLine) → SpellsLine line whole → form_of line ≡ Some (kept_line whole)
+unfolding form_of kind_of line_in thread_in weighed_in core_in order_in
+spelt-form line whole (cores_line n {number = number} spells) = ap (option_map Cores) (alone-yes n number spells)
+spelt-form line whole (rounds_line r {number = number} spells) = ap (option_map Rounds) (alone-yes r number spells)
+spelt-form line whole (entries_line e {number = number} spells) = ap (option_map Entries) (alone-yes e number spells)
+spelt-form line whole (core_line c first rest {core = core} {consts = consts} spells given) =
+    ap (option_and_then with_consts) (first-yes c (first ∷ rest) core spells)
+    ∙ ap (option_map (core_with (kept core))) (spelt-consts (first ∷ rest) consts given)
+spelt-form line whole (order_line r first rest {round = round} {cores = cores} spells given) =
+    ap (option_and_then with_order) (first-yes r (first ∷ rest) round spells)
+    ∙ ap (option_map (order_with (kept round))) (spelt-numbers (first ∷ rest) cores given)
+spelt-form line whole (thread_line t c r weighing program {id = id} {core = core} {round = round} {weight = weight} {bursts = bursts} t_is c_is r_is weighs runs) =
+    ap (option_and_then with_id) (first-yes t (codes "core" ∷ c ∷ codes "round" ∷ r ∷ (weighing ++ program)) id t_is)
+    ∙ ap (option_and_then (with_core (kept id))) (number_behind-yes (codes "core") c (codes "round" ∷ r ∷ (weighing ++ program)) core c_is)
+    ∙ ap (option_and_then (with_round (kept id) (kept core))) (number_behind-yes (codes "round") r (weighing ++ program) round r_is)
+    ∙ ap (option_and_then (with_weight (kept id) (kept core) (kept round))) (weight-first weighing program weight bursts weighs runs)
+    ∙ ap (option_map (thread_with (kept id) (kept core) (kept round) (kept weight))) (spelt-program program bursts runs)

@@ -1,79 +1,90 @@
 -- What is answered to one line is what its words are.
-use Rattle.std.proofs.Common.{◌≡◌, ◌∙◌, ℕ, Bool, true, false, cond, List, Option, Some, None, Result, Ok, Err, ap, refl, sym}
-use Rattle.std.specs.Prelude.{ℤ, MatchBool}
+use Rattle.std.proofs.Common.{◌≡◌, ◌∙◌, ℕ, ◌≤◌, Bool, true, false, cond, List, Option, Some, None, Result, Ok, Err, ap, refl, sym, subst}
+use Rattle.std.specs.Prelude.{ℤ}
+use Rattle.sched_base.specs.declared.limits.TheConstants.{MAX_CORES}
 use Rattle.job_trace.specs.declared.fault.TraceFault.{TraceFault}
-use Rattle.job_trace.specs.declared.fault.TraceFault.TheVariants.{BadLine, Twice, NotBuilt}
+use Rattle.job_trace.specs.declared.fault.TraceFault.TheVariants.{BadLine, Twice}
 use Rattle.job_trace.specs.declared.trace.TraceLine.{TraceLine}
 use Rattle.job_trace.specs.declared.trace.Numbered.{Numbered}
-use Rattle.job_trace.specs.Words.{is_unbuilt}
 use Rattle.job_trace.specs.Forms.{SpellsLine}
 use Rattle.job_trace.specs.Rules.{MayFollow, cores_of, first_passed, is_given, may_stand, measures}
-use Rattle.job_trace.specs.Faults.{Breaks, BreaksRule, no_form, other_kind, past_range, given_before}
-use Rattle.job_trace.specs.Steps.{form_of, formed, judged, measured, once, ranged}
-use Rattle.job_trace.proofs.FormLemmas.{form-spells, spells-built, spells-form}
+use Rattle.job_trace.specs.Faults.{Breaks, no_form, other_kind, past_range, given_before}
+use Rattle.job_trace.specs.Steps.{form_of, formed, judged, measured, once, ranged_line}
+use Rattle.job_trace.proofs.FormLemmas.{form-spelt, spelt-form}
+use Rattle.job_trace.proofs.KeptLemmas.{kept-stands, kept_line, keeps-line}
 
 -- the line may stand there, or breaks that rule
 abbrev pub IsVerdict : List Numbered → ℕ → List (List ℕ) → Result TraceLine TraceFault → Type 0
 IsVerdict front number line (Ok form) = SpellsLine line form × MayFollow front form
 IsVerdict front number line (Err fault) = Breaks front number line fault
 
-pub judged-verdict : (front : List Numbered) (number : ℕ) (line : List (List ℕ)) → IsVerdict front number line (judged front number line)
-unfolding judged
-judged-verdict front number line = built (is_unbuilt line) refl
-  where
-    given : (form : TraceLine) → SpellsLine line form → is_unbuilt line ≡ false → may_stand front form ≡ true →
-        first_passed (measures (cores_of front) form) ≡ None → (b : Bool) → is_given front form ≡ b →
-        IsVerdict front number line (cond b (Err (Twice number)) (Ok form))
-    given form spells made kind inside true e = rw made (given_before form spells kind inside e)
-    given form spells made kind inside false e = (spells, record { kind = kind; within = inside; once = e })
+-- lines behind a front of few cores
+module _ (front : List Numbered) (few : cores_of front ≤ MAX_CORES) (number : ℕ) (line : List (List ℕ)) where
+  pub judged-verdict : IsVerdict front number line (judged front number line)
+  unfolding judged
+  judged-verdict = has_form (form_of line) refl
+    where
+      given : (whole : TraceLine) → SpellsLine line whole → may_stand front whole ≡ true →
+          first_passed (measures (cores_of front) whole) ≡ None → (b : Bool) → is_given front whole ≡ b →
+          IsVerdict front number line (cond b (Err (Twice number)) (Ok whole))
+      given whole spells stands inside true e = given_before whole spells stands inside e
+      given whole spells stands inside false e = (spells, record { kind = stands; within = inside; once = e })
 
-    within : (form : TraceLine) → SpellsLine line form → is_unbuilt line ≡ false → may_stand front form ≡ true →
-        (end : Option ℤ) → first_passed (measures (cores_of front) form) ≡ end →
-        IsVerdict front number line (once front number (ranged number form end))
-    within form spells made kind None e = given form spells made kind e (is_given front form) refl
-    within form spells made kind (Some end) e = rw made (past_range form spells kind e)
+      within : (whole : TraceLine) → SpellsLine line whole → may_stand front whole ≡ true →
+          (end : Option ℤ) → first_passed (measures (cores_of front) whole) ≡ end →
+          IsVerdict front number line (once front number (ranged_line number (kept_line whole) end))
+      within whole spells stands None e =
+          let keeps = keeps-line (cores_of front) few whole in
+          subst (λ (l : TraceLine). IsVerdict front number line (once front number (Ok l))) (sym (keeps.stays e))
+          (given whole spells stands e (is_given front whole) refl)
+      within whole spells stands (Some end) e = past_range whole spells stands e
 
-    stands : (form : TraceLine) → SpellsLine line form → is_unbuilt line ≡ false → (b : Bool) → may_stand front form ≡ b →
-        IsVerdict front number line (cond b (once front number (measured number (cores_of front) form)) (Err (BadLine number)))
-    stands form spells made true e = within form spells made e (first_passed (measures (cores_of front) form)) refl
-    stands form spells made false e = rw made (other_kind form spells e)
+      stands_there : (whole : TraceLine) → SpellsLine line whole → (b : Bool) → may_stand front whole ≡ b →
+          IsVerdict front number line (cond b (once front number (measured number (cores_of front) (kept_line whole))) (Err (BadLine number)))
+      stands_there whole spells true e =
+          let keeps = keeps-line (cores_of front) few whole in
+          subst (λ (o : Option ℤ). IsVerdict front number line (once front number (ranged_line number (kept_line whole) o))) (sym keeps.passes)
+          (within whole spells e (first_passed (measures (cores_of front) whole)) refl)
+      stands_there whole spells false e = other_kind whole spells e
 
-    has_form : is_unbuilt line ≡ false → (f : Option TraceLine) → form_of line ≡ f → IsVerdict front number line (formed front number f)
-    has_form made None e = rw made (no_form (λ form spells. let clash = sym e ∙ spells-form line form spells in cc))
-    has_form made (Some form) e = stands form (form-spells line form e) made (may_stand front form) refl
+      has_form : (o : Option TraceLine) → form_of line ≡ o → IsVerdict front number line (formed front number o)
+      has_form None e = no_form (λ form spells. let clash = sym e ∙ spelt-form line form spells in cc)
+      has_form (Some form) e =
+          let spelt = form-spelt line form e in
+          subst (λ (l : TraceLine). IsVerdict front number line (formed front number (Some l))) spelt.is
+          (subst (λ (b : Bool). IsVerdict front number line (cond b (once front number (measured number (cores_of front) (kept_line spelt.whole))) (Err (BadLine number))))
+          (sym (kept-stands front spelt.whole)) (stands_there spelt.whole spelt.spells (may_stand front spelt.whole) refl))
 
-    built : (b : Bool) → is_unbuilt line ≡ b → IsVerdict front number line (cond b (Err (NotBuilt number)) (formed front number (form_of line)))
-    built true e = rw e refl
-    built false e = has_form e (form_of line) refl
+  -- what is answered to a line that is spelt
+  judged-spelt : (whole : TraceLine) → SpellsLine line whole → judged front number line ≡ formed front number (Some (kept_line whole))
+  unfolding judged
+  judged-spelt whole spells = ap (formed front number) (spelt-form line whole spells)
 
--- a line that is spelt and may follow is taken
-pub judged-ok : (front : List Numbered) (number : ℕ) (line : List (List ℕ)) (form : TraceLine) →
-    SpellsLine line form → MayFollow front form → judged front number line ≡ Ok form
-unfolding judged
-judged-ok front number line form spells may =
-    rw (spells-built line form spells, spells-form line form spells) (rw (may.kind, may.within, may.once) refl)
+  within-answer : (whole : TraceLine) → first_passed (measures (cores_of front) whole) ≡ None →
+      measured number (cores_of front) (kept_line whole) ≡ Ok whole
+  within-answer whole inside =
+      let keeps = keeps-line (cores_of front) few whole in
+      ap (ranged_line number (kept_line whole)) (keeps.passes ∙ inside) ∙ ap (λ l. Ok l) (keeps.stays inside)
 
-none-some : {X : Type 0} (o : Option X) → ((x : X) → o ≡ Some x → ⊥) → o ≡ None
-none-some None never = refl
-none-some (Some x) never = absurd (never x refl)
+  -- a line that is spelt and may follow is taken
+  pub judged-ok : (whole : TraceLine) → SpellsLine line whole → MayFollow front whole → judged front number line ≡ Ok whole
+  judged-ok whole spells may =
+      judged-spelt whole spells ∙ rw (kept-stands front whole ∙ may.kind) (rw (within-answer whole may.within) (rw may.once refl))
 
-rule-formed : (front : List Numbered) (number : ℕ) (line : List (List ℕ)) (fault : TraceFault) →
-    BreaksRule front number line fault → formed front number (form_of line) ≡ Err fault
-rule-formed front number line fault (no_form never) =
-    rw (none-some (form_of line) (λ form e. never form (form-spells line form e))) refl
-rule-formed front number line fault (other_kind form spells kind) = rw (spells-form line form spells, kind) refl
-rule-formed front number line fault (past_range form spells kind passed) =
-    rw (spells-form line form spells) (rw (kind, passed) refl)
-rule-formed front number line fault (given_before form spells kind inside given) =
-    rw (spells-form line form spells) (rw (kind, inside, given) refl)
+  none-some : {X : Type 0} (o : Option X) → ((x : X) → o ≡ Some x → ⊥) → o ≡ None
+  none-some None never = refl
+  none-some (Some x) never = absurd (never x refl)
 
--- a broken rule is answered
-pub judged-err : (front : List Numbered) (number : ℕ) (line : List (List ℕ)) (fault : TraceFault) →
-    Breaks front number line fault → judged front number line ≡ Err fault
-unfolding judged
-judged-err front number line fault breaks = by (is_unbuilt line) breaks
-  where
-    by : (b : Bool) → MatchBool b (fault ≡ NotBuilt number) (BreaksRule front number line fault) →
-        cond b (Err (NotBuilt number)) (formed front number (form_of line)) ≡ Err fault
-    by true late = ap Err (sym late)
-    by false breaks = rule-formed front number line fault breaks
+  never-spelt : ((form : TraceLine) → SpellsLine line form → ⊥) → (form : TraceLine) → form_of line ≡ Some form → ⊥
+  never-spelt never form e = let spelt = form-spelt line form e in never spelt.whole spelt.spells
+
+  -- a broken rule is answered
+  pub judged-err : (fault : TraceFault) → Breaks front number line fault → judged front number line ≡ Err fault
+  unfolding judged
+  judged-err fault (no_form never) = ap (formed front number) (none-some (form_of line) (never-spelt never))
+  judged-err fault (other_kind whole spells kind) = judged-spelt whole spells ∙ rw (kept-stands front whole ∙ kind) refl
+  judged-err fault (past_range whole spells kind passed) =
+      let keeps = keeps-line (cores_of front) few whole in
+      judged-spelt whole spells ∙ rw (kept-stands front whole ∙ kind) (rw (keeps.passes ∙ passed) refl)
+  judged-err fault (given_before whole spells kind inside given) =
+      judged-spelt whole spells ∙ rw (kept-stands front whole ∙ kind) (rw (within-answer whole inside) (rw given refl))

@@ -1,9 +1,16 @@
+mod OptionLemmas
+mod RangeLemmas
+mod KeptLemmas
+mod StepLemmas
+mod NumberForms
+mod ProgramForms
 mod FormLemmas
 mod JudgeLemmas
 pub mod ScanLemmas
 mod AnswerLemmas
-mod RangeLemmas
+pub mod GiftLemmas
 mod StartLemmas
 mod ThreadLemmas
 mod NumberLemmas
+mod ConstLemmas
 mod FitsLemmas

@@ -1,89 +1,91 @@
--- The threads of a trace have different numbers, so that there are no more than numbers.
-use Rattle.std.proofs.Common.{◌≡◌, ◌≢◌, ◌∙◌, ℕ, ◌+◌, ◌<◌, ◌≤◌, Bool, true, false, ◌||◌, List, [], ◌∷◌, ◌++◌, length, map, refl, ap, sym, arith, eqb}
-use Rattle.std.specs.Prelude.{AllPairs}
+-- Threads of a trace have different numbers, so that there are no more than numbers; its orders have different rounds.
+use Rattle.std.proofs.Common.{◌≡◌, ◌≢◌, ◌∙◌, ℕ, ◌+◌, ◌<◌, ◌≤◌, Bool, true, false, ◌||◌, List, [], ◌∷◌, ◌++◌, length, map, Option, Some, None, refl, ap, sym, arith, eqb}
+use Rattle.std.specs.Prelude.{AllPairs, filter_map}
 use Rattle.std.specs.List.{IsDistinct, AllByRecursion, cons_option, list_any}
-use Rattle.std.proofs.lemmas.Bool.{eq-eqb, eqb-false, eqb-true, ne_eqb}
+use Rattle.std.proofs.lemmas.Bool.{eqb-false, eqb-true, ne_eqb}
 use Rattle.std.proofs.lemmas.List.{get_or-map, length-map}
 use Rattle.std.proofs.lemmas.List.Folds.{list_any-append}
 use Rattle.std.proofs.lemmas.Map.Keys.{IsDistinct-cons, apart_from_distinct}
 use Rattle.std.proofs.lemmas.Map.Steps.{length-le_from_distinct_below}
 use Rattle.sched_base.specs.declared.limits.TheConstants.{MAX_THREADS}
-use Rattle.policy_tree.specs.declared.typed.Load.{Load}
 use Rattle.policy_tree.specs.Meaning.{Meaning}
 use Rattle.round_model.specs.declared.plan.Planned.{Planned}
 use Rattle.round_model.specs.Fits.{ThreadFits}
 use Rattle.job_trace.specs.declared.trace.TraceLine.{TraceLine}
-use Rattle.job_trace.specs.declared.trace.TraceLine.TheVariants.{Cores, Rounds, Thread}
 use Rattle.job_trace.specs.declared.trace.Numbered.{Numbered}
-use Rattle.job_trace.specs.Rules.{MayAllFollow, MayFollow, gives_same, is_given}
-use Rattle.job_trace.specs.Plans.{thread_of, threads_of}
+use Rattle.job_trace.specs.Rules.{MayAllFollow, MayFollow, all_gifts, gift, gifts_of, is_repeated, same_gift}
+use Rattle.job_trace.proofs.GiftLemmas.{all_gifts-push, same-gift}
+
+or-left : (a b : Bool) → (a || b) ≡ false → a ≡ false
+or-left true b e = cc
+or-left false b e = refl
+
+-- lines of one kind, which give their numbers
+module _ (word : List ℕ) (number_of : TraceLine → Option ℕ)
+    (gives : (line : TraceLine) (number : ℕ) → number_of line ≡ Some number → gifts_of line ≡ gift word number [] ∷ []) where
+  -- a line has given the number
+  abbrev has : List Numbered → ℕ → Bool
+  has front number = list_any (same_gift (gift word number [])) (all_gifts front)
+
+  -- the numbers that the lines give, in their order
+  abbrev pub numbers : List Numbered → List ℕ
+  numbers lines = filter_map (λ (n : Numbered). number_of n.line) lines
+
+  not-yet : (front : List Numbered) (line : TraceLine) (number : ℕ) → number_of line ≡ Some number → MayFollow front line → has front number ≡ false
+  not-yet front line number is may =
+      or-left _ _ (sym (ap (is_repeated (all_gifts front)) (gives line number is)) ∙ may.once)
+
+  other-number : (front : List Numbered) (line : TraceLine) (i j : ℕ) → has front i ≡ true → number_of line ≡ Some j → MayFollow front line → eqb i j ≡ false
+  other-number front line i j given is may =
+      ne_eqb i j (λ e. let clash : true ≡ false = sym given ∙ ap (has front) e ∙ not-yet front line j is may in cc)
+
+  given-more : (front : List Numbered) (n : Numbered) (i : ℕ) → has front i ≡ true → has (front ++ n ∷ []) i ≡ true
+  given-more front n i given =
+      ap (list_any (same_gift (gift word i []))) (all_gifts-push front n)
+      ∙ list_any-append (same_gift (gift word i [])) (all_gifts front) (gifts_of n.line)
+      ∙ ap (λ b. b || list_any (same_gift (gift word i [])) (gifts_of n.line)) given
+
+  or-true : (b : Bool) → (b || true) ≡ true
+  or-true true = refl
+  or-true false = refl
+
+  given-here : (front : List Numbered) (n : Numbered) (i : ℕ) → number_of n.line ≡ Some i → has (front ++ n ∷ []) i ≡ true
+  given-here front n i is =
+      ap (list_any (same_gift (gift word i []))) (all_gifts-push front n)
+      ∙ list_any-append (same_gift (gift word i [])) (all_gifts front) (gifts_of n.line)
+      ∙ ap (λ gs. has front i || list_any (same_gift (gift word i [])) gs) (gives n.line i is)
+      ∙ ap (λ b. has front i || (b || false)) (same-gift word i)
+      ∙ or-true (has front i)
+
+  -- later lines give other numbers
+  later-others : (front rest : List Numbered) (i : ℕ) → MayAllFollow front rest → has front i ≡ true →
+      AllByRecursion (λ j. eqb i j ≡ false) (numbers rest)
+  later-others front [] i all given = tt
+  later-others front (n ∷ rest) i (spelt, may, all) given =
+      by (number_of n.line) refl (later-others (front ++ n ∷ []) rest i all (given-more front n i given))
+    where
+      by : (o : Option ℕ) → number_of n.line ≡ o → AllByRecursion (λ j. eqb i j ≡ false) (numbers rest) →
+          AllByRecursion (λ j. eqb i j ≡ false) (cons_option o (numbers rest))
+      by None is later = later
+      by (Some j) is later = (other-number front n.line i j given is may, later)
+
+  none-distinct : IsDistinct eqb []
+  unfolding IsDistinct
+  none-distinct = tt
+
+  -- no two lines give the same number
+  pub numbers-distinct : (front rest : List Numbered) → MayAllFollow front rest → IsDistinct eqb (numbers rest)
+  numbers-distinct front [] all = none-distinct
+  numbers-distinct front (n ∷ rest) (spelt, may, all) =
+      by (number_of n.line) refl (numbers-distinct (front ++ n ∷ []) rest all)
+    where
+      by : (o : Option ℕ) → number_of n.line ≡ o → IsDistinct eqb (numbers rest) → IsDistinct eqb (cons_option o (numbers rest))
+      by None is later = later
+      by (Some i) is later =
+          IsDistinct-cons eqb i (numbers rest) (later-others (front ++ n ∷ []) rest i all (given-here front n i is)) later
 
 abbrev pub id_of : Planned → ℕ
 id_of t = t.id
-
-gives-same_id : (t u : Planned) → t.id ≡ u.id → (line : TraceLine) → gives_same (Thread t) line ≡ gives_same (Thread u) line
-gives-same_id t u e (Cores number) = refl
-gives-same_id t u e (Rounds number) = refl
-gives-same_id t u e (Thread v) = ap (λ i. eqb i v.id) e
-
-given-same_id : (front : List Numbered) (t u : Planned) → t.id ≡ u.id → is_given front (Thread t) ≡ is_given front (Thread u)
-given-same_id [] t u e = refl
-given-same_id (n ∷ front) t u e =
-    ap (λ b. b || is_given front (Thread t)) (gives-same_id t u e n.line)
-    ∙ ap (λ b. gives_same (Thread u) n.line || b) (given-same_id front t u e)
-
--- a thread that was given before has another number
-other-number : (front : List Numbered) (t u : Planned) → is_given front (Thread t) ≡ true → is_given front (Thread u) ≡ false →
-    eqb t.id u.id ≡ false
-other-number front t u given fresh =
-    ne_eqb t.id u.id (λ e. let same = given-same_id front t u e in let clash : true ≡ false = sym given ∙ same ∙ fresh in cc)
-
-given-more : (front : List Numbered) (n : Numbered) (t : Planned) → is_given front (Thread t) ≡ true → is_given (front ++ n ∷ []) (Thread t) ≡ true
-given-more front n t given =
-    list_any-append (λ (m : Numbered). gives_same (Thread t) m.line) front (n ∷ [])
-    ∙ ap (λ b. b || (gives_same (Thread t) n.line || false)) given
-
-or-true : (b : Bool) → (b || true) ≡ true
-or-true true = refl
-or-true false = refl
-
-given-here : (front : List Numbered) (n : Numbered) (t : Planned) → n.line ≡ Thread t → is_given (front ++ n ∷ []) (Thread t) ≡ true
-given-here front n t is =
-    list_any-append (λ (m : Numbered). gives_same (Thread t) m.line) front (n ∷ [])
-    ∙ ap (λ line. is_given front (Thread t) || (gives_same (Thread t) line || false)) is
-    ∙ ap (λ b. is_given front (Thread t) || (b || false)) (eq-eqb t.id t.id refl)
-    ∙ or-true (is_given front (Thread t))
-
--- the threads of later lines have other numbers
-later-others : (l : Load) (front rest : List Numbered) (t : Planned) → MayAllFollow front rest → is_given front (Thread t) ≡ true →
-    AllByRecursion (λ i. eqb t.id i ≡ false) (map id_of (threads_of l rest))
-later-others l front [] t all given = tt
-later-others l front (n ∷ rest) t (spelt, may, all) given =
-    by n.line may (later-others l (front ++ n ∷ []) rest t all (given-more front n t given))
-  where
-    by : (line : TraceLine) → MayFollow front line → AllByRecursion (λ i. eqb t.id i ≡ false) (map id_of (threads_of l rest)) →
-        AllByRecursion (λ i. eqb t.id i ≡ false) (map id_of (cons_option (thread_of l line) (threads_of l rest)))
-    by (Cores number) may later = later
-    by (Rounds number) may later = later
-    by (Thread u) may later = (other-number front t u given may.once, later)
-
-none-distinct : IsDistinct eqb []
-unfolding IsDistinct
-none-distinct = tt
-
--- no two threads have the same number
-pub threads-distinct : (l : Load) (front rest : List Numbered) → MayAllFollow front rest → IsDistinct eqb (map id_of (threads_of l rest))
-threads-distinct l front [] all = none-distinct
-threads-distinct l front (n ∷ rest) (spelt, may, all) =
-    by n.line refl (threads-distinct l (front ++ n ∷ []) rest all)
-  where
-    by : (line : TraceLine) → n.line ≡ line → IsDistinct eqb (map id_of (threads_of l rest)) →
-        IsDistinct eqb (map id_of (cons_option (thread_of l line) (threads_of l rest)))
-    by (Cores number) is later = later
-    by (Rounds number) is later = later
-    by (Thread t) is later =
-        IsDistinct-cons eqb t.id (map id_of (threads_of l rest))
-        (later-others l (front ++ n ∷ []) rest t all (given-here front n t is)) later
 
 no-zero : (p : Meaning) (cores : ℕ) (threads : List Planned) → AllByRecursion (ThreadFits p cores) threads →
     AllByRecursion (λ i. eqb 0 i ≡ false) (map id_of threads)
@@ -117,9 +119,10 @@ few-threads p cores threads fit apart =
         by true e among = omega (arith, eqb-true q 0 e)
         by false e among = id-below p cores threads fit q among
 
-pub apart-pairs : (threads : List Planned) → IsDistinct eqb (map id_of threads) → AllPairs (λ (t u : Planned). t.id ≢ u.id) threads
-apart-pairs threads apart i j d order inside e =
-    let left = get_or-map id_of threads i d d.id (omega (arith, order, inside)) in
-    let right = get_or-map id_of threads j d d.id inside in
-    let clash = apart_from_distinct eqb (map id_of threads) i j d.id apart order (omega (arith, inside, length-map threads id_of)) in
+-- things of different numbers differ pair by pair
+pub apart-pairs : {X : Type 0} (key : X → ℕ) (xs : List X) → IsDistinct eqb (map key xs) → AllPairs (λ x y. key x ≢ key y) xs
+apart-pairs key xs apart i j d order inside e =
+    let left = get_or-map key xs i d (key d) (omega (arith, order, inside)) in
+    let right = get_or-map key xs j d (key d) inside in
+    let clash = apart_from_distinct eqb (map key xs) i j (key d) apart order (omega (arith, inside, length-map xs key)) in
     eqb-false _ _ clash (left ∙ e ∙ sym right)

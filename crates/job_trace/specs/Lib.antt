@@ -1,6 +1,7 @@
 pub mod Words
 pub mod Forms
 pub mod Rules
+pub mod Keys
 pub mod TraceText
 pub mod Faults
 pub mod Steps

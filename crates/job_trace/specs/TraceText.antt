@@ -14,7 +14,8 @@ numbered number line = record { number = number; line = line }
 -- a line is skipped, or adds what it says to the front of a trace
 pub data Takes (front : List Numbered) (number : ℕ) (line : List ℕ) : List Numbered → Type 0 where
   takes_nothing : is_skipped (words line) ≡ true → Takes front number line front
-  takes_line : (form : TraceLine) → is_skipped (words line) ≡ false → SpellsLine (words line) form → MayFollow front form →
+  takes_line : (form : TraceLine) → is_skipped (words line) ≡ false → SpellsLine (words line) form →
+      MayFollow front form →
       Takes front number line (front ++ numbered number form ∷ [])
 
 -- the trace that the text spells: the lines that aren't skipped, each with its number, cores and rounds among them

@@ -1,7 +1,8 @@
 -- The words of a line of a trace.
-use Rattle.std.specs.Prelude.{ℕ, ◌==◌, Bool, true, false, ◌||◌, List, [], ◌∷◌, codes, if◌then◌else◌}
-use Rattle.std.specs.List.{list_any}
-use Rattle.std.specs.Str.{bytes_eq}
+use Rattle.std.specs.Prelude.{ℕ, ◌==◌, Bool, true, false, ◌||◌, ◌&&◌, List, [], ◌∷◌, length, nat_lt}
+use Rattle.std.specs.Char.{is_ascii_alphabetic, is_ascii_alphanumeric}
+use Rattle.std.specs.List.{list_all}
+use Rattle.sched_base.specs.declared.limits.TheConstants.{MAX_NAME_BYTES}
 use Rattle.text_forms.specs.Words.{words_of}
 
 -- a space, a tab and a carriage return
@@ -20,15 +21,12 @@ abbrev pub is_skipped : List (List ℕ) → Bool
 is_skipped [] = true
 is_skipped (first ∷ rest) = begins_comment first
 
--- the word begins a line of a kind that isn't built yet
-abbrev pub is_late_kind : List ℕ → Bool
-is_late_kind word = bytes_eq word (codes "entries") || (bytes_eq word (codes "core") || bytes_eq word (codes "order"))
+-- a letter, a digit or an underscore
+abbrev pub is_name_byte : ℕ → Bool
+is_name_byte byte = is_ascii_alphanumeric byte || byte == 95
 
--- the word belongs to a part of a thread's line that isn't built yet
-abbrev pub is_late_part : List ℕ → Bool
-is_late_part word = bytes_eq word (codes "weight") || (bytes_eq word (codes "yield") || bytes_eq word (codes "block"))
-
--- the line is one of those that aren't built yet
-abbrev pub is_unbuilt : List (List ℕ) → Bool
-is_unbuilt [] = false
-is_unbuilt (first ∷ rest) = if bytes_eq first (codes "thread") then list_any is_late_part rest else is_late_kind first
+-- the word may name an attribute: a letter begins it, such bytes follow, and there are not too many
+abbrev pub is_name : List ℕ → Bool
+is_name [] = false
+is_name (first ∷ rest) =
+    is_ascii_alphabetic first && (list_all is_name_byte rest && nat_lt (length rest) MAX_NAME_BYTES)

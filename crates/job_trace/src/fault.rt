@@ -10,14 +10,12 @@ pub enum TraceFault {
     /// The line has none of the forms, or isn't of the kind that must stand there. Where the text ends before its
     /// second line, it is the number behind the last line's.
     BadLine(u32),
-    /// A number of the line is out of its range. The end of the range that it passes is told.
+    /// A number of the line is out of its range, or there are too many bursts or cores. The end that is passed is told.
     Limit(u32, i64),
-    /// A line before gives the same thing.
+    /// The line gives what a line before gives, or the same constant twice.
     Twice(u32),
     /// There was no memory for the trace.
     Memory,
-    /// The line has a form that isn't read yet.
-    NotBuilt(u32),
 }
 
 impl From<AllocError> for TraceFault {

@@ -1,20 +1,22 @@
 //! Makes the plan that a trace means under a policy.
 
-ghost use Rattle.std.specs.Prelude.{◌≡◌, ◌+◌, ◌<◌, ◌≤◌, ◌++◌, ◌^◌, pos, IfOk, IfErr, OnOk, Ok, Err, length, replicate, slice_index_or, vec_len};
+ghost use Rattle.std.specs.Prelude.{◌≡◌, ◌+◌, ◌<◌, ◌≤◌, ◌++◌, ◌^◌, IfOk, IfErr, OnOk, length, vec_len};
 ghost use Rattle.std.specs.Option.{option_to_list};
 ghost use Rattle.round_model.specs.declared.plan.Plan.{Plan};
 ghost use Rattle.round_model.specs.Fits.{Fits};
 ghost use Rattle.policy_eval.specs.Resolved.{IsResolved};
 ghost use Rattle.policy_tree.specs.Meaning.{meaning_of};
 ghost use Rattle.job_trace.specs.declared.plan_fault.PlanFault.{PlanFault};
-ghost use Rattle.job_trace.specs.Plans.{IsForeign, IsPlanFault, IsPlannedUnlessMemory, MustPlan, MustRefusePlan, SpellsPlan, counted_weight, first_foreign, has_foreign_weight, is_foreign, rounds_in, rounds_of, starts, thread_of, threads_of, allowed_threads, weighed};
+ghost use Rattle.job_trace.specs.Plans.{IsForeign, IsPlanFault, MustPlan, MustRefusePlan, SpellsPlan, counted_weight, entries_in, limit_of, order_of, orders_of, rounds_in, rounds_of, thread_of, threads_of, weighed};
 
+use crate::constants::consts_of;
+use crate::fitting::first_fault;
 use crate::plan_fault::PlanFault;
 use crate::rules::cores_of;
 use crate::trace::{Numbered, Trace, TraceLine};
-use policy_tree::{Attr, Load, Policy};
-use round_model::{BurstList, ConstList, OrderList, Plan, Planned, PlannedList};
-use sched_base::{DEFAULT_ENTRIES, MAX_ATTRIBUTES};
+use policy_tree::{Load, Policy};
+use round_model::{BurstList, CoreList, OrderLine, OrderList, Plan, Planned, PlannedList};
+use sched_base::DEFAULT_ENTRIES;
 use std::alloc::{AllocError, Global};
 
 /// The plan that the trace means under the policy. Constants that no line gives start as the policy declares them.
@@ -28,29 +30,31 @@ pub fn plan(alloc: Global, trace: &Trace, policy: &Policy) -> Result<Plan, PlanF
     ensures refuses { MustRefusePlan (IsForeign (meaning_of policy.now) trace.now) result }
 {
     let lines = trace.lines();
+    let attrs = policy.core_attrs.as_slice();
+    if let Some(fault) = first_fault(lines, policy.load, attrs) {
+        return Err(fault);
+    }
     let cores = cores_of(lines);
+    let consts = consts_of(alloc, lines, attrs, cores)?;
     let threads = threads_of(alloc, lines, policy.load)?;
-    let consts = consts(alloc, cores, policy.core_attrs.as_slice())?;
+    let orders = orders_of(alloc, lines)?;
     Ok(Plan {
         cores,
         rounds: rounds_of(lines),
-        limit: DEFAULT_ENTRIES,
+        limit: limit_of(lines),
         consts,
         threads,
-        orders: OrderList::from_vec(Vec::new(alloc)),
+        orders,
     })
 }
 
-/// The threads of the lines, where the load allows all their weights.
-fn threads_of(alloc: Global, lines: &[Numbered], load: Load) -> Result<PlannedList, PlanFault>
+/// The threads of the lines, in their order.
+fn threads_of(alloc: Global, lines: &[Numbered], load: Load) -> Result<PlannedList, AllocError>
     requires { length lines.now < 2 ^ 32 }
-    ensures { IsPlannedUnlessMemory (allowed_threads load lines.now) result }
+    ensures { IfOk result (λ threads. threads ≡ threads_of load lines.now) }
 {
     let mut threads = Vec::new(alloc);
     for numbered in lines {
-        if has_foreign_weight(load, &numbered.line) {
-            return Err(PlanFault::WeightRange(numbered.number));
-        }
         add_thread(alloc, &mut threads, load, &numbered.line)?;
     }
     Ok(PlannedList::from_vec(threads))
@@ -62,14 +66,14 @@ fn add_thread(
     threads: &mut Vec<Planned>,
     load: Load,
     line: &TraceLine,
-) -> Result<(), PlanFault>
+) -> Result<(), AllocError>
     ensures adds { OnOk result
         (threads.new.items ≡ threads.old.items ++ option_to_list (thread_of load line.now)) }
     ensures few { vec_len threads.new ≤ vec_len threads.old + 1 }
-    ensures memory { IfErr result (λ fault. fault ≡ PlanFault.Memory) }
 {
     if let TraceLine::Thread(thread) = line {
-        threads.push(weighed(alloc, load, thread)?)?;
+        let thread = weighed(alloc, load, thread)?;
+        threads.push(thread).map_err(|_| AllocError)?;
     }
     Ok(())
 }
@@ -97,22 +101,55 @@ fn counted_weight(load: Load, weight: u32) -> u32
     }
 }
 
-/// Whether the load doesn't allow the weight of the line.
-fn has_foreign_weight(load: Load, line: &TraceLine) -> bool
-    ensures { result ≡ has_foreign_weight load line.now }
+/// The orders of rounds, in the order of their lines.
+fn orders_of(alloc: Global, lines: &[Numbered]) -> Result<OrderList, AllocError>
+    requires { length lines.now < 2 ^ 32 }
+    ensures { IfOk result (λ orders. orders ≡ orders_of lines.now) }
 {
-    match line {
-        TraceLine::Thread(thread) => is_foreign(load, thread.weight),
-        TraceLine::Cores(_) | TraceLine::Rounds(_) => false,
+    let mut orders = Vec::new(alloc);
+    for numbered in lines {
+        add_order(alloc, &mut orders, &numbered.line)?;
     }
+    Ok(OrderList::from_vec(orders))
 }
 
-fn is_foreign(load: Load, weight: u32) -> bool
-    ensures { result ≡ is_foreign load weight }
+/// Adds the order that the line gives, if it gives one.
+fn add_order(alloc: Global, orders: &mut Vec<OrderLine>, line: &TraceLine) -> Result<(), AllocError>
+    ensures adds { OnOk result (orders.new.items ≡ orders.old.items ++ option_to_list (order_of line.now)) }
+    ensures few { vec_len orders.new ≤ vec_len orders.old + 1 }
 {
-    match load {
-        Load::Count => false,
-        Load::Weight { lo, hi } => weight < lo || hi < weight,
+    if let TraceLine::Order(order) = line {
+        let cores = CoreList::from_vec(Vec::from_slice(alloc, order.cores.as_slice())?);
+        let round = order.round;
+        orders
+            .push(OrderLine { round, cores })
+            .map_err(|_| AllocError)?;
+    }
+    Ok(())
+}
+
+/// The limit of entries that a line gives, or that of traces that give none.
+fn limit_of(lines: &[Numbered]) -> u32
+    ensures { result ≡ limit_of lines.now }
+{
+    for numbered in lines {
+        if let Some(entries) = entries_in(&numbered.line) {
+            return entries;
+        }
+    }
+    DEFAULT_ENTRIES
+}
+
+fn entries_in(line: &TraceLine) -> Option<u32>
+    ensures { result ≡ entries_in line.now }
+{
+    match line {
+        TraceLine::Entries(number) => Some(*number),
+        TraceLine::Cores(_)
+        | TraceLine::Rounds(_)
+        | TraceLine::Core(_)
+        | TraceLine::Thread(_)
+        | TraceLine::Order(_) => None,
     }
 }
 
@@ -131,39 +168,10 @@ fn rounds_in(line: &TraceLine) -> u32
 {
     match line {
         TraceLine::Rounds(number) => *number,
-        TraceLine::Cores(_) | TraceLine::Thread(_) => 0,
-    }
-}
-
-/// The constants of so many cores, each as it is declared to start.
-fn consts(alloc: Global, cores: u32, attrs: &[Attr]) -> Result<ConstList, PlanFault>
-    ensures { IsPlannedUnlessMemory (Ok (replicate cores (starts attrs.now))) result }
-{
-    let of_core = starts(attrs);
-    let mut consts = Vec::new(alloc);
-    for _core in 0..cores {
-        consts.push(of_core)?;
-    }
-    Ok(ConstList::from_vec(consts))
-}
-
-/// The starts of the attributes that there is room for.
-fn starts(attrs: &[Attr]) -> [i32; MAX_ATTRIBUTES]
-    ensures { result ≡ starts attrs.now }
-{
-    let mut starts = [0; MAX_ATTRIBUTES];
-    for at in 0..MAX_ATTRIBUTES {
-        starts[at] = start_at(attrs, at);
-    }
-    starts
-}
-
-fn start_at(attrs: &[Attr], at: usize) -> i32
-    requires { at < MAX_ATTRIBUTES }
-    ensures { result ≡ slice_index_or (starts attrs.now) at (pos 0) }
-{
-    match attrs.get(at) {
-        Some(attr) => attr.start,
-        None => 0,
+        TraceLine::Cores(_)
+        | TraceLine::Entries(_)
+        | TraceLine::Core(_)
+        | TraceLine::Thread(_)
+        | TraceLine::Order(_) => 0,
     }
 }

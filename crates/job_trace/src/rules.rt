@@ -1,38 +1,18 @@
 //! What a line must keep behind the lines before it.
 
 ghost use Rattle.std.specs.Prelude.{◌≡◌};
-ghost use Rattle.job_trace.specs.Rules.{cores_in, cores_of, gives_same, is_given, may_stand};
-ghost use Rattle.job_trace.specs.Steps.{line_of};
+ghost use Rattle.job_trace.specs.Rules.{cores_in, cores_of, may_stand};
 
-use crate::form::Form;
 use crate::trace::{Numbered, TraceLine};
 
-/// Whether a line of that form may stand behind those.
-pub(crate) fn may_stand(before: &[Numbered], form: Form) -> bool
-    ensures { result ≡ may_stand before.now (line_of form) }
+/// Whether the line may stand behind those.
+pub(crate) fn may_stand(before: &[Numbered], line: &TraceLine) -> bool
+    ensures { result ≡ may_stand before.now line.now }
 {
     match before {
-        [] => matches!(form, Form::Cores(_)),
-        [_first] => matches!(form, Form::Rounds(_)),
+        [] => matches!(line, TraceLine::Cores(_)),
+        [_first] => matches!(line, TraceLine::Rounds(_)),
         _ => true,
-    }
-}
-
-/// Whether one of those lines gives the same thing.
-pub(crate) fn is_given(before: &[Numbered], line: &TraceLine) -> bool
-    ensures { result ≡ is_given before.now line.now }
-{
-    before.iter().any(|earlier| gives_same(line, &earlier.line))
-}
-
-fn gives_same(line: &TraceLine, other: &TraceLine) -> bool
-    ensures { result ≡ gives_same line.now other.now }
-{
-    match (line, other) {
-        (TraceLine::Cores(_), TraceLine::Cores(_)) => true,
-        (TraceLine::Rounds(_), TraceLine::Rounds(_)) => true,
-        (TraceLine::Thread(thread), TraceLine::Thread(other)) => thread.id == other.id,
-        _ => false,
     }
 }
 
@@ -51,6 +31,10 @@ fn cores_in(line: &TraceLine) -> u32
 {
     match line {
         TraceLine::Cores(number) => *number,
-        TraceLine::Rounds(_) | TraceLine::Thread(_) => 0,
+        TraceLine::Rounds(_)
+        | TraceLine::Entries(_)
+        | TraceLine::Core(_)
+        | TraceLine::Thread(_)
+        | TraceLine::Order(_) => 0,
     }
 }

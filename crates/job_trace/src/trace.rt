@@ -3,8 +3,28 @@
 ghost use Rattle.std.specs.Prelude.{◌≡◌, ◌≤◌, length};
 
 use lists::Items;
-use round_model::Planned;
+use policy_tree::Name;
+use round_model::{OrderLine, Planned};
+use sched_base::CoreId;
 use std::marker::Model;
+
+/// The constants of a core that a line gives, from left to right.
+pub type NamedConstList = Items<NamedConst>;
+
+/// A constant of a core.
+#[derive(Drop)]
+pub struct NamedConst {
+    /// The attribute of cores that it is.
+    pub name: Name,
+    pub value: i32,
+}
+
+/// Constants of one core.
+#[derive(Drop)]
+pub struct CoreConsts {
+    pub core: CoreId,
+    pub consts: NamedConstList,
+}
 
 /// What a line of a trace says.
 #[derive(Drop)]
@@ -13,8 +33,14 @@ pub enum TraceLine {
     Cores(u32),
     /// The number of rounds.
     Rounds(u32),
+    /// The most entries of a history.
+    Entries(u32),
+    /// Constants of a core.
+    Core(CoreConsts),
     /// A thread. Its weight is 1 where the line names none.
     Thread(Planned),
+    /// The order in which the cores take their steps in a round.
+    Order(OrderLine),
 }
 
 /// A line of a trace, with its number in the text.
@@ -49,8 +75,8 @@ impl Model for Trace {
 impl Trace {
     ghost use Rattle.job_trace.specs.Rules.{KeepsRules};
 
-    /// The trace of these lines.
-    pub(crate) fn from_lines(lines: Items<Numbered>) -> Trace
+    /// The trace of these lines. It takes no memory.
+    pub fn from_lines(lines: Items<Numbered>) -> Trace
         requires { KeepsRules lines }
         ensures { result ≡ lines }
     {

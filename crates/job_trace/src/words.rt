@@ -1,10 +1,11 @@
 //! Words of a line that come one after the other.
 
-ghost use Rattle.std.specs.Prelude.{◌≡◌, ◌<◌, [], ◌∷◌, IfNone, IfSome, MatchOption, None, Some, length};
-ghost use Rattle.std.specs.List.{list_any};
-ghost use Rattle.job_trace.specs.Words.{begins_comment, is_late_kind, is_late_part, is_skipped, is_unbuilt, words};
-ghost use Rattle.job_trace.specs.Steps.{behind, has_word, number_alone, number_behind, number_first};
+ghost use Rattle.std.specs.Prelude.{◌≡◌, ◌<◌, ◌^◌, [], ◌∷◌, IfNone, IfSome, MatchOption, None, Some, length};
+ghost use Rattle.std.specs.List.{list_all};
+ghost use Rattle.job_trace.specs.Words.{begins_comment, is_name, is_name_byte, is_skipped, words};
+ghost use Rattle.job_trace.specs.Steps.{behind, has_word, kept, kept_in, kept_signed_in, number_alone, number_behind, number_first};
 
+use sched_base::MAX_NAME_BYTES;
 use text_forms::{first_word, number_in};
 
 /// The bytes that part words.
@@ -12,7 +13,7 @@ pub(crate) const BLANKS: [u8; 3] = [b' ', b'\t', b'\r'];
 
 /// The first word of a line, and the line behind it.
 #[tactic(auto, unfolding(crate::specs::Words::words))]
-fn next_word(line: &[u8]) -> Option<(&[u8], &[u8])>
+pub(crate) fn next_word(line: &[u8]) -> Option<(&[u8], &[u8])>
     ensures none { IfNone result (words line.now ≡ []) }
     ensures word { IfSome result (λ found. words line.now ≡ found.0.now ∷ words found.1.now) }
     ensures shorter { IfSome result (λ found. length found.1.now < length line.now) }
@@ -49,79 +50,110 @@ fn begins_comment(word: &[u8]) -> bool
     }
 }
 
-/// Whether the line is of a form that isn't read yet.
-pub(crate) fn is_unbuilt(line: &[u8]) -> bool
-    ensures { result ≡ is_unbuilt (words line.now) }
+/// Whether the word may name an attribute.
+pub(crate) fn is_name(word: &[u8]) -> bool
+    ensures { result ≡ is_name word.now }
 {
-    match next_word(line) {
-        Some((first, rest)) if first == b"thread".as_slice() => has_late_part(rest),
-        Some((first, _rest)) => is_late_kind(first),
-        None => false,
-    }
-}
-
-fn has_late_part(line: &[u8]) -> bool
-    ensures { result ≡ list_any is_late_part (words line.now) }
-{
-    let mut rest = line;
-    while let Some((word, behind)) = next_word(rest) {
-        if is_late_part(word) {
-            return true;
+    match word {
+        [first, rest @ ..] => {
+            first.is_ascii_alphabetic()
+                && (are_name_bytes(rest) && rest.len() < MAX_NAME_BYTES as usize)
         }
-        rest = behind;
+        [] => false,
     }
-    false
 }
 
-fn is_late_kind(word: &[u8]) -> bool
-    ensures { result ≡ is_late_kind word.now }
+fn are_name_bytes(bytes: &[u8]) -> bool
+    ensures { result ≡ list_all is_name_byte bytes.now }
 {
-    word == b"entries".as_slice() || word == b"core".as_slice() || word == b"order".as_slice()
+    bytes.iter().all(|byte| is_name_byte(*byte))
 }
 
-fn is_late_part(word: &[u8]) -> bool
-    ensures { result ≡ is_late_part word.now }
+fn is_name_byte(byte: u8) -> bool
+    ensures { result ≡ is_name_byte byte }
 {
-    word == b"weight".as_slice() || word == b"yield".as_slice() || word == b"block".as_slice()
+    byte.is_ascii_alphanumeric() || byte == b'_'
 }
 
 /// The line behind its first word, where that is this word.
 #[tactic(auto, unfolding(crate::specs::Steps::behind))]
 pub(crate) fn behind<'a>(line: &'a [u8], word: &[u8]) -> Option<&'a [u8]>
-    ensures { MatchOption result
+    ensures found { MatchOption result
         (behind word.now (words line.now) ≡ None)
         (λ rest. behind word.now (words line.now) ≡ Some (words rest.now)) }
+    ensures shorter { IfSome result (λ rest. length rest.now < length line.now) }
 {
     let (first, rest) = next_word(line)?;
     if first == word { Some(rest) } else { None }
 }
 
+/// The number, or the greatest that is kept where it is more.
+fn kept(number: u64) -> u32
+    ensures kept { result ≡ kept number }
+    ensures few { result < 2 ^ 31 }
+{
+    if number > i32::MAX as u64 {
+        i32::MAX as u32
+    } else {
+        number as u32
+    }
+}
+
+/// The number that the word spells, as it is kept.
+#[tactic(auto, unfolding(crate::specs::Steps::kept_in))]
+pub(crate) fn kept_in(word: &[u8]) -> Option<u32>
+    ensures kept { result ≡ kept_in word.now }
+    ensures few { IfSome result (λ number. number < 2 ^ 31) }
+{
+    Some(kept(number_in(word)?))
+}
+
+/// The same, where a sign may stand.
+#[tactic(auto, unfolding(crate::specs::Steps::kept_signed_in))]
+pub(crate) fn kept_signed_in(word: &[u8]) -> Option<i32>
+    ensures { result ≡ kept_signed_in word.now }
+{
+    match word {
+        [first, digits @ ..] => {
+            if *first == b'-' {
+                Some(-(kept_in(digits)? as i32))
+            } else {
+                Some(kept_in(word)? as i32)
+            }
+        }
+        [] => None,
+    }
+}
+
 /// The number with which the line begins, and the line behind it.
-fn number_first(line: &[u8]) -> Option<(u64, &[u8])>
-    ensures { MatchOption result
+#[tactic(auto, unfolding(crate::specs::Steps::number_first))]
+pub(crate) fn number_first(line: &[u8]) -> Option<(u32, &[u8])>
+    ensures found { MatchOption result
         (number_first (words line.now) ≡ None)
         (λ found. number_first (words line.now) ≡ Some (found.0, words found.1.now)) }
+    ensures shorter { IfSome result (λ found. length found.1.now < length line.now) }
 {
     let (first, rest) = next_word(line)?;
-    let number = number_in(first)?;
+    let number = kept_in(first)?;
     Some((number, rest))
 }
 
 /// The number behind that word, with which the line begins, and the line behind the number.
 #[tactic(auto, unfolding(crate::specs::Steps::number_behind))]
-pub(crate) fn number_behind<'a>(line: &'a [u8], word: &[u8]) -> Option<(u64, &'a [u8])>
-    ensures { MatchOption result
+pub(crate) fn number_behind<'a>(line: &'a [u8], word: &[u8]) -> Option<(u32, &'a [u8])>
+    ensures found { MatchOption result
         (number_behind word.now (words line.now) ≡ None)
         (λ found. number_behind word.now (words line.now) ≡ Some (found.0, words found.1.now)) }
+    ensures shorter { IfSome result (λ found. length found.1.now < length line.now) }
 {
     number_first(behind(line, word)?)
 }
 
-/// The number behind that word, where the line is the two and no more.
+/// The number that the line is.
 #[tactic(auto, unfolding(crate::specs::Steps::number_alone))]
-pub(crate) fn number_alone(line: &[u8], word: &[u8]) -> Option<u64>
-    ensures { result ≡ number_alone word.now (words line.now) }
+pub(crate) fn number_alone(line: &[u8]) -> Option<u32>
+    ensures { result ≡ number_alone (words line.now) }
 {
-    let (number, rest) = number_behind(line, word)?;
-    if has_word(rest) { None } else { Some(number) }
+    let (word, rest) = next_word(line)?;
+    if has_word(rest) { None } else { kept_in(word) }
 }

@@ -1,6 +1,6 @@
 //! A syntax, printed and read again.
 
-ghost use Rattle.std.specs.Prelude.{◌≡◌, ◌<◌, ℕ, List, length, IfOk, IfErr};
+ghost use Rattle.std.specs.Prelude.{◌≡◌, ◌<◌, ℕ, List, IfOk, IfErr};
 ghost use Rattle.sched_base.specs.declared.limits.TheConstants.{MAX_POLICY_BYTES};
 ghost use Rattle.policy_tree.specs.SyntaxTrees.{syntax_tree};
 ghost use Rattle.policy_printer.specs.Printed.{IsTextOf, printed};
@@ -23,8 +23,8 @@ pub enum Unread {
     Memory,
 }
 
-/// The syntax of the printed text of a syntax. Where some text has the syntax, the two are the same, and the printed text
-/// is refused by none of the calls.
+/// The syntax of the printed text of a syntax. Where some text has the syntax, the two are the
+/// same, and the printed text is refused by none of the calls.
 pub fn read_again(alloc: Global, syntax: &Syntax) -> Result<Syntax, Unread>
     requires { (text : List ℕ) × IsTextOf text (syntax_tree syntax.now) }
     ensures same { IfOk result (λ again. syntax_tree again ≡ syntax_tree syntax.now) }

@@ -1,4 +1,5 @@
--- A column of rows: the coefficients of one variable, or the bounds. What multipliers make of it is a sum of whole numbers.
+-- A column of rows: the coefficients of one variable, or the bounds. What multipliers make of it is a sum of whole
+-- numbers.
 use Rattle.std.specs.Prelude.{ℕ, ◌≤◌, ◌==◌, if◌then◌else◌, List, length, take, Option, Some, None, ℤ, pos, ◌*ℤ◌, FitsSigned}
 use Rattle.std.specs.Int.{w128}
 use Rattle.linear_form.specs.declared.form.Term.{Term}
@@ -38,6 +39,7 @@ PartialSumsFit column bounds rows mults =
     (k : ℕ) → k ≤ length mults → FitsSigned w128 (column_sum column bounds rows (take k mults))
 
 -- the partial sums of a column fit, and its sum is such a number
-pub record AddsUp (IsSum : ℤ → Type 0) (column : Column) (bounds : List Bound) (rows : List Row) (mults : List Mult) : Type 0 where
+pub record AddsUp (IsSum : ℤ → Type 0) (column : Column) (bounds : List Bound) (rows : List Row)
+    (mults : List Mult) : Type 0 where
   pub fits : PartialSumsFit column bounds rows mults
   pub sum : IsSum (column_sum column bounds rows mults)

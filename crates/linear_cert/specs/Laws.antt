@@ -7,4 +7,5 @@ use Rattle.linear_cert.specs.Right.{CertTree, IsRight}
 
 -- Bounds and rows for which a certificate is right have no solution, whoever found it.
 abbrev pub RightIsSound : Type 0
-RightIsSound = (bounds : List Bound) (rows : List Row) (cert : CertTree) → IsRight bounds rows cert → HasNoSolution bounds rows
+RightIsSound = (bounds : List Bound) (rows : List Row) (cert : CertTree) → IsRight bounds rows cert →
+    HasNoSolution bounds rows

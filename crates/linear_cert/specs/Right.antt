@@ -2,7 +2,7 @@
 use Rattle.std.specs.Prelude.{◌≡◌, ℕ, ◌-◌, ◌<◌, List, length, slice_index_or, slice_set, All, ℤ, pos, ◌+ℤ◌, ◌≤ℤ◌, ◌<ℤ◌}
 use Rattle.linear_form.specs.declared.form.Row.{Row}
 use Rattle.linear_form.specs.declared.form.Bound.{Bound}
-use Rattle.linear_cert.specs.declared.cert.TheConstants.{MAX_SPLITS}
+use Rattle.sched_base.specs.declared.limits.TheConstants.{MAX_SPLITS}
 use Rattle.linear_cert.specs.declared.cert.Cert.{Cert, Leaf, Split'}
 use Rattle.linear_cert.specs.declared.cert.Mult.{Mult}
 use Rattle.linear_cert.specs.declared.rows.Column.TheVariants.{Variable, RightSide}

@@ -15,9 +15,6 @@ pub struct Mult {
 /// Rows with their multipliers, in the order in which they are added up.
 pub type MultList = Items<Mult>;
 
-/// The most splits that stand one within another in a certificate that is written or read.
-pub const MAX_SPLITS: u32 = 128;
-
 /// A reason why a system has no solution.
 #[derive(Drop)]
 pub enum Cert {

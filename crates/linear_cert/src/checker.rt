@@ -1,6 +1,6 @@
 //! The checker: whether a certificate is right.
 
-ghost use Rattle.std.specs.Prelude.{◌≡◌, ◌↔◌, ◌<◌, ℕ, length, IsTrue, All, SomeIff, pos, ◌+ℤ◌, ◌*ℤ◌, ◌<ℤ◌, FitsSigned};
+ghost use Rattle.std.specs.Prelude.{◌≡◌, ◌↔◌, ◌<◌, IsTrue, All, SomeIff, pos, ◌+ℤ◌, ◌*ℤ◌, ◌<ℤ◌, FitsSigned};
 ghost use Rattle.std.specs.Int.{w128};
 ghost use Rattle.linear_form.specs.Solution.{HasNoSolution};
 ghost use Rattle.linear_form.specs.System.{IsSystem};

@@ -7,8 +7,11 @@
 mod cert;
 mod checker;
 mod laws;
+mod memory;
 mod rows;
 
-pub use cert::{Cert, MAX_SPLITS, Mult, MultList};
+pub use cert::{Cert, Mult, MultList};
 pub use checker::check;
 pub use laws::law_sound;
+pub use memory::SolveMemory;
+pub use rows::{Column, entry};

@@ -18,7 +18,8 @@ pub enum Column {
     RightSide,
 }
 
-// What the row with this number has in the column.
+/// What the row with this number has in the column. Of a system with m rows, its own are 0 to m - 1;
+/// rows m + 2i and m + 2i + 1 say the range of variable i.
 pub fn entry(bounds: &[Bound], rows: &[Row], number: u32, column: Column) -> i64
     requires system { IsSystem (record { bounds = bounds.now; rows = rows.now }) }
     requires named { number < length rows.now + 2 * length bounds.now }

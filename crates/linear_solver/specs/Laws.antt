@@ -9,5 +9,6 @@ use Rattle.linear_solver.specs.Elimination.{IsRefutedByElimination}
 -- A system that elimination refutes has no solution.
 abbrev pub EliminationIsSound : Type 0
 EliminationIsSound =
-    (bounds : List Bound) (rows : List Row) → IsSystem (record { bounds = bounds; rows = rows }) → IsRefutedByElimination bounds rows
+    (bounds : List Bound) (rows : List Row) → IsSystem (record { bounds = bounds; rows = rows }) →
+    IsRefutedByElimination bounds rows
     → HasNoSolution bounds rows

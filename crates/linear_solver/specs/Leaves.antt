@@ -10,4 +10,5 @@ times_row number multiplier = record { row = number; by = unsigned_abs multiplie
 abbrev pub multipliers_from : ℕ → List ℤ → List Mult
 multipliers_from number [] = []
 multipliers_from number (m ∷ mults) =
-    if unsigned_abs m == 0 then multipliers_from (suc number) mults else times_row number m ∷ multipliers_from (suc number) mults
+    if unsigned_abs m == 0 then multipliers_from (suc number) mults else
+    times_row number m ∷ multipliers_from (suc number) mults

@@ -7,8 +7,8 @@ use Rattle.linear_solver.specs.declared.probe.Reduced.{Reduced}
 use Rattle.linear_solver.specs.declared.probe.Reduced.TheVariants.{Leaf, Lists, Passed}
 use Rattle.linear_solver.specs.declared.probe.Reduction.{Reduction}
 use Rattle.linear_solver.specs.declared.probe.Reduction.TheVariants.{Closed, Rows, Stuck}
-use Rattle.linear_solver.specs.declared.probe.Sums.{Sums}
-use Rattle.linear_solver.specs.declared.probe.Sums.TheVariants.{Shut, More, Full}
+use Rattle.linear_solver.specs.declared.open_sums.Sums.{Sums}
+use Rattle.linear_solver.specs.declared.open_sums.Sums.TheVariants.{Shut, More, Full}
 use Rattle.linear_solver.specs.Follows.{IsSumRow}
 
 -- a leaf is right

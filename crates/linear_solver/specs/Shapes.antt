@@ -34,6 +34,12 @@ pub record IsList (shape : Shape) (list : List Derived) : Type 0 where
   pub few : length list ≤ MAX_DERIVED
   pub shapes : All (HasShape shape) list
 
+-- a list, one of its rows, and the sums so far
+pub record CanBeAdded (shape : Shape) (list : List Derived) (row : Derived) (sums : List Derived) : Type 0 where
+  pub of_list : IsList shape list
+  pub of_row : HasShape shape row
+  pub of_sums : IsList shape sums
+
 -- what is given for a list and more rows: both, or nothing where that passes a size
 abbrev pub Extends : Shape → List Derived → List Derived → Option (Vec Derived Global) → Type 0
 Extends shape list more None = IsWithinSizes (list ++ more) → ⊥

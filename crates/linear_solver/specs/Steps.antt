@@ -16,13 +16,15 @@ use Rattle.linear_solver.specs.Boxes.{IsImplied, HoldsPartly, IsRefuted, IsWide,
 
 -- what the rows say of a box is so
 abbrev pub IsLook : List Bound → List Row → Look → Type 0
-IsLook bounds rows (Refuted number) = (number < length rows) × ((d : Row) → IsRefuted bounds (slice_index_or rows number d))
+IsLook bounds rows (Refuted number) = (number < length rows)
+    × ((d : Row) → IsRefuted bounds (slice_index_or rows number d))
 IsLook bounds rows Implied = All (IsImplied bounds) rows
 IsLook bounds rows (Open' choice) = IsWide bounds choice.wide
 
 -- the row is open
 abbrev pub IsTight : List Bound → List Row → Tight → Type 0
-IsTight bounds rows tight = (tight.row < length rows) × ((d : Row) → HoldsPartly bounds (slice_index_or rows tight.row d))
+IsTight bounds rows tight = (tight.row < length rows) ×
+    ((d : Row) → HoldsPartly bounds (slice_index_or rows tight.row d))
 
 -- where the row holds is so
 abbrev pub IsReach : List Bound → Row → Reach → Type 0

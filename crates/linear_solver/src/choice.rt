@@ -109,10 +109,11 @@ fn reach_of(bounds: &[Bound], row: &Row) -> Reach
 {
     let bound = i128::from(row.bound);
     let low = least(bounds, row.terms.as_slice());
-    let high = greatest(bounds, row.terms.as_slice());
     if bound < low {
-        Reach::Nowhere
-    } else if high <= bound {
+        return Reach::Nowhere;
+    }
+    let high = greatest(bounds, row.terms.as_slice());
+    if high <= bound {
         Reach::Everywhere
     } else {
         Reach::Partly {
@@ -182,13 +183,16 @@ fn better_cut(
     terms: &[Term],
     slack: u128,
 ) -> Option<Cut>
-    requires { All (IsTerm (length bounds.now)) terms.now }
+    requires bounds { All IsBound bounds.now }
+    requires terms { All (IsTerm (length bounds.now)) terms.now }
 {
     let mut best = cut;
     for term in terms {
-        let next = cut_of(*term, bounds[term.var as usize], row, slack);
-        if gain_of(best) < gain_of(next) {
-            best = next;
+        if closes_half(bounds, *term, slack) {
+            let next = cut_of(*term, bounds[term.var as usize], row, slack);
+            if gain_of(best) < next.gain {
+                best = Some(next);
+            }
         }
     }
     best
@@ -198,16 +202,24 @@ fn gain_of(cut: Option<Cut>) -> u128 {
     cut.map_or(0, |cut| cut.gain)
 }
 
-// The cut past which the row holds nowhere, if it leaves at most half of the range. A row that has `slack`
-// left lets its term grow by that much over the range's end, and no more.
-fn cut_of(term: Term, range: Bound, row: u32, slack: u128) -> Option<Cut>
+// Whether a row that has `slack` left holds nowhere in at least half of the term's range. The test is quick:
+// most terms don't pass it, and what passes it is divided.
+fn closes_half(bounds: &[Bound], term: Term, slack: u128) -> bool
+    requires bounds { All IsBound bounds.now }
+    requires term { IsTerm (length bounds.now) term }
+{
+    let range = bounds[term.var as usize];
+    let width = range.hi.abs_diff(range.lo);
+    slack < u128::from(term.coef.unsigned_abs()) * u128::from(width - width / 2)
+}
+
+// The cut past which the row holds nowhere. A row that has `slack` left lets its term grow by that much over
+// the range's end, and no more.
+fn cut_of(term: Term, range: Bound, row: u32, slack: u128) -> Cut
     requires { term.coef ≢ pos 0 }
 {
     let size = u128::from(term.coef.unsigned_abs());
     let len = u128::from(range.hi.abs_diff(range.lo)) + 1;
-    if slack >= size.saturating_mul(len / 2) {
-        return None;
-    }
     let kept = (slack / size).min(MAX_KEPT);
     let gain = len / (kept + 1);
     let closes_low = term.coef < 0;
@@ -216,11 +228,11 @@ fn cut_of(term: Term, range: Bound, row: u32, slack: u128) -> Option<Cut>
     } else {
         range.lo.saturating_add(kept as i64)
     };
-    Some(Cut {
+    Cut {
         variable: term.var,
         at,
         row,
         closes_low,
         gain,
-    })
+    }
 }

@@ -2,25 +2,26 @@
 
 ghost use Rattle.std.specs.Prelude.{◌≡◌, ◌≤◌, ◌^◌, ◌<◌, false, IfOk, IsSomeAnd, IsTrue, ◌↔◌};
 ghost use Rattle.linear_form.specs.Points.{points_of};
-ghost use Rattle.linear_cert.specs.declared.cert.TheConstants.{MAX_SPLITS};
+ghost use Rattle.sched_base.specs.declared.limits.TheConstants.{MAX_SPLITS};
 ghost use Rattle.linear_solver.specs.Decides.{Decides, DecidesUnlessOpen, HoldsIfRefuted, HoldsShallowly, IsNumberOfPoints, IsUndecided};
 ghost use Rattle.linear_solver.specs.Found.{IsDecided, IsFound};
 
-use crate::answer::{Answer, SolveMemory};
+use crate::answer::Answer;
 use crate::elimination::eliminate;
 use crate::local_search::local_point;
 use crate::parts::Part;
 use crate::searching::{Effort, Found, search};
-use linear_cert::{Cert, MAX_SPLITS};
+use linear_cert::{Cert, SolveMemory};
 use linear_form::System;
+use sched_base::MAX_SPLITS;
 use std::alloc::Global;
 
 /// The terms that a search past the budget may look at. Of 1,500 hard systems made by chance it leaves
 /// 90 open, against 115 with a quarter of it and 71 with four times as many.
 pub const MAX_TERMS: u64 = 1 << 20;
 
-/// The sums that the probes of a search may make. A third of it or ten times as many decide as much.
-pub const MAX_SUMS: u32 = 3_000;
+/// The sums that the probes of a search may make. Three or thirty times as many decide as much and take longer.
+pub const MAX_SUMS: u32 = 1_000;
 
 // The budget under which nothing is tried.
 const NO_BUDGET: u64 = 0;
@@ -56,9 +57,9 @@ fn tried(alloc: Global, system: &System, points: Option<u128>) -> Result<Answer,
     ensures shallow { IfOk result HoldsShallowly }
     ensures open { IfOk result (HoldsIfRefuted system.now.bounds system.now.rows) }
 {
-    match local_point(alloc, system.bounds(), system.rows())? {
-        Some(point) if system.satisfies(&point) => Ok(Answer::Fails(point)),
-        Some(_) | None => eliminated(alloc, system, points),
+    match local_point(alloc, system)? {
+        Some(point) => Ok(Answer::Fails(point)),
+        None => eliminated(alloc, system, points),
     }
 }
 

@@ -5,8 +5,8 @@ ghost use Rattle.linear_solver.specs.Elimination.{IsSmall, coef_of, has_no_term,
 ghost use Rattle.linear_solver.specs.Shapes.{HasShape, IsKept};
 ghost use Rattle.linear_solver.specs.Sums.{IsAtMost, added};
 
-use crate::answer::SolveMemory;
 use crate::factors::{MAX_NUMBER, added, gcd, weighted, within};
+use linear_cert::SolveMemory;
 use lists::Items;
 use std::alloc::Global;
 

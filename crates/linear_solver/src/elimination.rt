@@ -4,13 +4,12 @@ ghost use Rattle.std.specs.Prelude.{◌≡◌, ◌<◌, ◌≤◌, ◌<ℤ◌, [
 ghost use Rattle.linear_form.specs.System.{IsSystem};
 ghost use Rattle.linear_cert.specs.Right.{IsRightLeaf};
 ghost use Rattle.linear_solver.specs.Elimination.{HasNoContradiction, IsUnrefuted, coef_of, lacks, next_list, sums_in, sums_of, sums_of_pair, sums_with};
-ghost use Rattle.linear_solver.specs.Shapes.{Extends, HasShape, IsList, LeafIn, RefutesAt};
+ghost use Rattle.linear_solver.specs.Shapes.{CanBeAdded, Extends, HasShape, IsList, LeafIn, RefutesAt};
 
-use crate::answer::SolveMemory;
 use crate::derived::{Combined, Derived, MAX_DERIVED, Shape, coefficient, combine, has_no_term};
 use crate::first::{first_list, shape_of};
 use crate::leaf::leaf_of;
-use linear_cert::MultList;
+use linear_cert::{MultList, SolveMemory};
 use linear_form::{Bound, Row};
 use std::alloc::{AllocError, Global};
 
@@ -77,9 +76,7 @@ fn with_sums_of(
     sums: Vec<Derived>,
 ) -> Result<Option<Vec<Derived>>, SolveMemory>
     requires known { variable < shape.variables }
-    requires list { IsList shape list.now }
-    requires p { HasShape shape p.now }
-    requires sums { IsList shape sums.items }
+    requires rows { CanBeAdded shape list.now p.now sums.items }
     ensures { IfOk result (Extends shape sums.items (sums_of variable list.now p.now)) }
 {
     if coefficient(p, variable) > 0 {
@@ -98,10 +95,8 @@ fn with_sums(
     sums: Vec<Derived>,
 ) -> Result<Option<Vec<Derived>>, SolveMemory>
     requires known { variable < shape.variables }
-    requires list { IsList shape list.now }
-    requires p { HasShape shape p.now }
+    requires rows { CanBeAdded shape list.now p.now sums.items }
     requires positive { pos 0 <ℤ coef_of variable p.now }
-    requires sums { IsList shape sums.items }
     ensures { IfOk result (Extends shape sums.items (sums_with variable list.now p.now)) }
 {
     let mut sums = sums;

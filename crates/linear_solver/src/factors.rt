@@ -1,6 +1,6 @@
 //! Whole numbers: greatest common divisors, and sums of two numbers times factors.
 
-ghost use Rattle.std.specs.Prelude.{◌≡◌, ◌^◌, ◌<◌, ◌≤◌, ◌/◌, ◌+ℤ◌, ◌*ℤ◌, pos, length, unsigned_abs, All, IfOk, SomeIff};
+ghost use Rattle.std.specs.Prelude.{◌≡◌, ◌^◌, ◌<◌, ◌≤◌, ◌+ℤ◌, ◌*ℤ◌, pos, length, unsigned_abs, All, IfOk, SomeIff};
 ghost use Rattle.linear_solver.specs.Sums.{AddedWithin, IsAtMost, gcd};
 
 use lists::Items;

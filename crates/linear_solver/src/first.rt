@@ -1,15 +1,13 @@
 //! The first list of elimination: the numbered rows, each with multiplier 1 for itself.
 
-ghost use Rattle.std.specs.Prelude.{◌≡◌, ◌^◌, ◌<◌, ◌≤◌, length, map, All, IfOk};
+ghost use Rattle.std.specs.Prelude.{◌≡◌, ◌<◌, map, All, IfOk};
 ghost use Rattle.std.specs.List.{range_with_len};
 ghost use Rattle.linear_form.specs.System.{IsSystem};
-ghost use Rattle.linear_cert.specs.declared.rows.Column.TheVariants.{Variable};
 ghost use Rattle.linear_solver.specs.Elimination.{coefs_in, first_list, first_row, numbered_count, once};
 ghost use Rattle.linear_solver.specs.Shapes.{HasShape, shape_of};
 
-use crate::answer::SolveMemory;
 use crate::derived::{Derived, Shape};
-use crate::numbered::{bound_in, coefficient_in};
+use linear_cert::{Column, SolveMemory, entry};
 use linear_form::{Bound, Row};
 use lists::Items;
 use std::alloc::{AllocError, Global};
@@ -58,7 +56,7 @@ pub fn first_row(
 {
     Ok(Derived {
         coefs: coefficients(alloc, bounds, rows, number)?,
-        bound: bound_in(bounds, rows, number),
+        bound: entry(bounds, rows, number, Column::RightSide),
         mults: once(alloc, number, shape.numbered)?,
     })
 }
@@ -75,7 +73,7 @@ fn coefficients(
 {
     let mut coefs = Vec::with_capacity(alloc, bounds.len())?;
     for variable in 0..bounds.len() as u32 {
-        coefs.push(coefficient_in(bounds, rows, number, variable))?;
+        coefs.push(entry(bounds, rows, number, Column::Variable(variable)))?;
     }
     Ok(Items::from_vec(coefs))
 }

@@ -3,6 +3,7 @@
 
 mod answer;
 mod choice;
+mod closing;
 mod decider;
 mod derived;
 mod elimination;
@@ -12,13 +13,15 @@ mod first;
 mod laws;
 mod leaf;
 mod local_search;
-mod numbered;
+mod open_sums;
 mod parts;
 mod probe;
 mod probing;
+mod rows_at;
 mod searching;
 mod walk_back;
 
-pub use answer::{Answer, SolveMemory};
+pub use answer::Answer;
 pub use decider::decide;
 pub use laws::law_elimination_sound;
+pub use linear_cert::SolveMemory;

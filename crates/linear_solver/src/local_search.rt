@@ -1,9 +1,14 @@
 //! A local search for a point of a system that the search over boxes left open. It starts in the middle of the
 //! ranges, takes a row that doesn't hold, and changes the one value that lets the rows fail by the least,
-//! each row weighed by how often it was taken. Nothing is promised of what it finds: each point is tested.
+//! each row weighed by how often it was taken. What it finds is tested; nothing is promised of how often.
 
-use linear_form::{Bound, Point, Row};
+ghost use Rattle.std.specs.Prelude.{IfOk, IfSome};
+ghost use Rattle.linear_form.specs.Solution.{Solves};
+
+use crate::rows_at::{Columns, State, columns_of, failure, states_of};
+use linear_form::{Bound, Point, Row, System};
 use lists::Items;
+use sched_base::MAX_VARIABLES;
 use std::alloc::{AllocError, Global};
 
 // The rows that it may look at.
@@ -12,122 +17,107 @@ const MAX_LOOKS: u64 = 1 << 19;
 // The seed of chance, always the same.
 const SEED: u64 = 0x9E37_79B9_7F4A_7C15;
 
-/// A point at which the rows seem to hold.
-pub fn local_point(
-    alloc: Global,
-    bounds: &[Bound],
-    rows: &[Row],
-) -> Result<Option<Point>, AllocError> {
+/// A solution of the system, if the search comes to one.
+pub fn local_point(alloc: Global, system: &System) -> Result<Option<Point>, AllocError>
+    ensures { IfOk result (λ found. IfSome found (λ point.
+        Solves system.now.bounds system.now.rows point.vals)) }
+{
+    let (bounds, rows) = (system.bounds(), system.rows());
+    let mut values = middle(alloc, bounds)?;
+    let mut states = states_of(alloc, rows, values.as_slice())?;
+    let columns = columns_of(alloc, bounds.len(), rows)?;
+    let moves = Moves {
+        bounds,
+        rows,
+        columns: columns.as_slice(),
+    };
+    if settles(moves, states.as_mut_slice(), values.as_mut_slice()) {
+        Ok(solution_of(system, values))
+    } else {
+        Ok(None)
+    }
+}
+
+// The point of these values, if it solves the system.
+fn solution_of(system: &System, values: Vec<i64>) -> Option<Point>
+    ensures { IfSome result (λ point. Solves system.now.bounds system.now.rows point.vals) }
+{
+    if values.len() > MAX_VARIABLES {
+        return None;
+    }
+    let point = Point {
+        vals: Items::from_vec(values),
+    };
+    if system.satisfies(&point) {
+        Some(point)
+    } else {
+        None
+    }
+}
+
+// The middle of each range.
+fn middle(alloc: Global, bounds: &[Bound]) -> Result<Vec<i64>, AllocError> {
     let mut values = Vec::with_capacity(alloc, bounds.len())?;
     for range in bounds {
         values.push(range.lo.midpoint(range.hi))?;
     }
-    let mut states = Vec::with_capacity(alloc, rows.len())?;
-    for row in rows {
-        states.push(State {
-            over: excess(row, values.as_slice()),
-            weight: 1,
-        })?;
-    }
-    let columns = columns_of(alloc, bounds.len(), rows)?;
-    if settles(
-        bounds,
-        rows,
-        columns.as_slice(),
-        states.as_mut_slice(),
-        values.as_mut_slice(),
-    ) {
-        return Ok(point_of(values));
-    }
-    Ok(None)
+    Ok(values)
 }
 
-// How a row stands.
+// What the search moves in: the system, row by row and column by column.
 #[derive(Clone, Copy)]
-struct State {
-    // By how much its left side is over its bound.
-    over: i128,
-    // One more than how often it was taken.
-    weight: u64,
+struct Moves<'a> {
+    bounds: &'a [Bound],
+    rows: &'a [Row],
+    columns: Columns<'a>,
 }
 
-// For each variable its coefficient in each row.
-fn columns_of(alloc: Global, variables: usize, rows: &[Row]) -> Result<Vec<Vec<i64>>, AllocError> {
-    let mut columns = Vec::with_capacity(alloc, variables)?;
-    for variable in 0..variables {
-        match columns.push(column_of(alloc, variable, rows)?) {
-            Ok(()) => {}
-            Err(failed) => return Err(failed.into()),
-        }
-    }
-    Ok(columns)
+// A value for a variable.
+#[derive(Clone, Copy)]
+struct Change {
+    variable: usize,
+    value: i64,
 }
-
-fn column_of(alloc: Global, variable: usize, rows: &[Row]) -> Result<Vec<i64>, AllocError> {
-    let mut column = Vec::with_capacity(alloc, rows.len())?;
-    for row in rows {
-        let mut coef = 0;
-        for term in row.terms.as_slice() {
-            if term.var as usize == variable {
-                coef = term.coef;
-            }
-        }
-        column.push(coef)?;
-    }
-    Ok(column)
-}
-
-fn point_of(values: Vec<i64>) -> Option<Point> {
-    if values.len() > MAX_VALUES {
-        return None;
-    }
-    Some(Point {
-        vals: Items::from_vec(values),
-    })
-}
-
-// The most values of a point.
-const MAX_VALUES: usize = 1 << 10;
 
 // Changes values until every row holds, or the effort is spent.
-fn settles(
-    bounds: &[Bound],
-    rows: &[Row],
-    columns: &[Vec<i64>],
-    states: &mut [State],
-    values: &mut [i64],
-) -> bool {
+fn settles(moves: Moves, states: &mut [State], values: &mut [i64]) -> bool {
     let mut chance = SEED;
     let mut looks: u64 = 0;
     for _step in 0..MAX_LOOKS {
         chance = next_chance(chance);
-        let number = match failing(states, chance) {
-            Some(number) => number,
+        match failing(states, chance) {
             None => return true,
-        };
-        if number >= rows.len() || number >= states.len() || looks > MAX_LOOKS {
-            return false;
+            Some(number) if looks < MAX_LOOKS => {
+                looks = looks.saturating_add(improve(moves, states, values, number, chance));
+            }
+            Some(_) => return false,
         }
-        let row = &rows[number];
-        if let Some(change) = best_change(
-            bounds,
-            columns,
-            states,
-            values,
-            row,
-            states[number].over,
-            chance,
-        ) {
-            make(change, columns, states, values);
-        }
-        states[number].weight = states[number].weight.saturating_add(1);
-        let terms = u64::from(row.terms.len()).saturating_add(1);
-        looks = looks.saturating_add((rows.len() as u64).saturating_mul(terms));
     }
     false
 }
 
-fn make(change: Change, columns: &[Vec<i64>], states: &mut [State], values: &mut [i64]) {
+// Makes the best change for a row, and weighs it more from now on. Gives the number of rows that it looked at.
+fn improve(
+    moves: Moves,
+    states: &mut [State],
+    values: &mut [i64],
+    number: usize,
+    chance: u64,
+) -> u64 {
+    if number >= moves.rows.len() || number >= states.len() {
+        return MAX_LOOKS;
+    }
+    let row = &moves.rows[number];
+    let over = states[number].over;
+    if let Some(change) = best_change(moves, states, values, row, over, chance) {
+        make(change, moves.columns, states, values);
+    }
+    states[number].weight = states[number].weight.saturating_add(1);
+    let terms = u64::from(row.terms.len()).saturating_add(1);
+    (states.len() as u64).saturating_mul(terms)
+}
+
+fn make(change: Change, columns: Columns, states: &mut [State], values: &mut [i64]) {
     if change.variable >= values.len() || change.variable >= columns.len() {
         return;
     }
@@ -159,17 +149,9 @@ fn failing(states: &[State], chance: u64) -> Option<usize> {
     found
 }
 
-// A value for a variable.
-#[derive(Clone, Copy)]
-struct Change {
-    variable: usize,
-    value: i64,
-}
-
 // The change by which the row comes to hold, or nearly so, that lets the rows fail by the least.
 fn best_change(
-    bounds: &[Bound],
-    columns: &[Vec<i64>],
+    moves: Moves,
     states: &[State],
     values: &[i64],
     row: &Row,
@@ -181,12 +163,18 @@ fn best_change(
     let mut dice = chance;
     for term in row.terms.as_slice() {
         let variable = term.var as usize;
-        if variable < bounds.len() && variable < values.len() && variable < columns.len() {
+        if variable < moves.bounds.len()
+            && variable < values.len()
+            && variable < moves.columns.len()
+        {
             let old = values[variable];
-            let value = moved(bounds[variable], old, term.coef, over);
+            let value = moved(moves.bounds[variable], old, term.coef, over);
             let by = i128::from(value).saturating_sub(i128::from(old));
             dice = next_chance(dice);
-            let cost = shaken(failure(states, columns[variable].as_slice(), by), dice);
+            let cost = shaken(
+                failure(states, moves.columns[variable].as_slice(), by),
+                dice,
+            );
             if value != old && cost < least {
                 least = cost;
                 best = Some(Change { variable, value });
@@ -216,30 +204,6 @@ fn moved(range: Bound, value: i64, coef: i64, over: i128) -> i64 {
 
 // More than any range has values.
 const MAX_STEPS: u128 = 1 << 60;
-
-// By how much the left side of a row is over its bound.
-fn excess(row: &Row, values: &[i64]) -> i128 {
-    let mut sum: i128 = 0;
-    for term in row.terms.as_slice() {
-        if let Some(value) = values.get(term.var as usize) {
-            sum = sum.saturating_add(i128::from(term.coef).saturating_mul(i128::from(*value)));
-        }
-    }
-    sum.saturating_sub(i128::from(row.bound))
-}
-
-// By how much the rows fail, times their weights, once a variable with this column grows so much.
-fn failure(states: &[State], column: &[i64], by: i128) -> i128 {
-    let mut sum: i128 = 0;
-    for (state, coef) in states.iter().zip(column.iter()) {
-        let over = state
-            .over
-            .saturating_add(i128::from(*coef).saturating_mul(by))
-            .max(0);
-        sum = sum.saturating_add(over.saturating_mul(i128::from(state.weight)));
-    }
-    sum
-}
 
 // The number, by chance up to a tenth greater.
 fn shaken(number: i128, chance: u64) -> i128 {

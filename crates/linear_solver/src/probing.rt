@@ -5,13 +5,12 @@ ghost use Rattle.std.specs.Prelude.{IfOk, IfSome};
 ghost use Rattle.linear_form.specs.System.{IsSystem};
 ghost use Rattle.linear_solver.specs.Insides.{IsInside, IsPartOf, IsProbe};
 
-use crate::answer::SolveMemory;
 use crate::choice::{Look, look_over};
 use crate::derived::Derived;
 use crate::ends::low_ends;
 use crate::probe::{Reduced, reduce};
 use crate::walk_back::walk;
-use linear_cert::MultList;
+use linear_cert::{MultList, SolveMemory};
 use linear_form::{Bound, Point, Row};
 use std::alloc::{AllocError, Global};
 

@@ -9,14 +9,14 @@ ghost use Rattle.linear_solver.specs.Found.{GoesOn, IsDecided, IsFound, IsStep, 
 ghost use Rattle.linear_solver.specs.Insides.{IsProbe};
 ghost use Rattle.linear_solver.specs.Steps.{IsPart, IsSystemPart};
 
-use crate::answer::SolveMemory;
 use crate::choice::{Choice, Look, look_over};
 use crate::ends::low_ends;
 use crate::leaf::row_leaf;
 use crate::parts::{Part, Partition, cut_off, halved};
 use crate::probing::{Probe, probe_box};
-use linear_cert::{Cert, MAX_SPLITS};
+use linear_cert::{Cert, SolveMemory};
 use linear_form::{Bound, Point, Row};
+use sched_base::MAX_SPLITS;
 use std::alloc::{AllocError, Global};
 
 /// The values that the walk back may try at the whole system, and at a part of it. 20 to 200 at the parts found the
@@ -121,7 +121,7 @@ fn look_at(
     ensures decides { effort.old.limited ≡ false → height bounds.now ≤ room → IfOk result GoesOn }
     ensures limited { effort.new.limited ≡ effort.old.limited }
 {
-    if !spends(effort, cost_of(bounds, rows)) {
+    if !spends(effort, bounds, rows) {
         return Ok(Step::Done(Found::Stopped));
     }
     match look_over(bounds, rows) {
@@ -203,15 +203,19 @@ fn cut_in_two(
     Ok(Step::Cut(halved(alloc, bounds, choice.wide)?))
 }
 
-// Whether the effort reaches for so many terms more. They are taken from it.
-fn spends(effort: &mut Effort, terms: u64) -> bool
+// Whether the effort reaches for one more look. What that takes is taken from it.
+fn spends(effort: &mut Effort, bounds: &[Bound], rows: &[Row]) -> bool
     ensures decides { effort.old.limited ≡ false → IsTrue result }
     ensures limited { effort.new.limited ≡ effort.old.limited }
 {
-    if effort.limited && effort.terms < terms {
+    if !effort.limited {
+        return true;
+    }
+    let terms = cost_of(bounds, rows);
+    if effort.terms < terms {
         return false;
     }
-    effort.terms = effort.terms.saturating_sub(terms);
+    effort.terms -= terms;
     true
 }
 

@@ -1,5 +1,7 @@
 //! A walk back through the lists of an elimination, which picks a value for one variable after another,
-//! the last first. Nothing is promised of what it finds: each point is tested.
+//! the last first. Nothing is promised of what it finds but that it ends: each point is tested.
+
+ghost use Rattle.std.specs.Prelude.{◌≤◌};
 
 use crate::derived::Derived;
 use linear_form::Bound;
@@ -16,7 +18,9 @@ pub fn walk(
     values: &mut [i64],
     left: usize,
     picks: &mut u32,
-) -> bool {
+) -> bool
+    ensures { picks.new ≤ picks.old }
+{
     if left == 0 {
         return true;
     }

@@ -76,7 +76,8 @@ pub record Saturates : Type 0 where
 
 -- three cores, where the order line has numbers of cores whose turn is over
 abbrev pub long_order : Plan
-long_order = plan_of 3 1 (endless 1 ∷ endless 2 ∷ []) (in_order (0 ∷ 0 ∷ 0 ∷ 0 ∷ 0 ∷ 0 ∷ 0 ∷ 1 ∷ 1 ∷ 2 ∷ 2 ∷ 1 ∷ 0 ∷ 1 ∷ 2 ∷ []))
+long_order = plan_of 3 1 (endless 1 ∷ endless 2 ∷ [])
+    (in_order (0 ∷ 0 ∷ 0 ∷ 0 ∷ 0 ∷ 0 ∷ 0 ∷ 1 ∷ 1 ∷ 2 ∷ 2 ∷ 1 ∷ 0 ∷ 1 ∷ 2 ∷ []))
 
 -- such a number is passed over
 abbrev pub OverNumbersArePassedOver : Type 0

@@ -30,7 +30,14 @@ in_order cores = record { round = 1; cores = cores } ∷ []
 
 abbrev pub plan_of : (cores rounds : ℕ) → List Planned → List OrderLine → Plan
 plan_of cores rounds threads orders =
-    record { cores = cores; rounds = rounds; limit = 8192; consts = replicate cores no_attributes; threads = threads; orders = orders }
+    record {
+      cores = cores;
+      rounds = rounds;
+      limit = 8192;
+      consts = replicate cores no_attributes;
+      threads = threads;
+      orders = orders;
+    }
 
 -- one core and a thread of two units
 abbrev pub one_core : Plan
@@ -46,8 +53,10 @@ stale_read = plan_of 3 1 (endless 1 ∷ endless 2 ∷ []) (in_order (0 ∷ 0 ∷
 
 -- eight threads on the first of four cores, let in once the other cores' turns are over
 abbrev pub eight_threads : Plan
-eight_threads = plan_of 4 4 (map endless (1 ∷ 2 ∷ 3 ∷ 4 ∷ 5 ∷ 6 ∷ 7 ∷ 8 ∷ [])) (in_order (1 ∷ 1 ∷ 1 ∷ 2 ∷ 2 ∷ 2 ∷ 3 ∷ 3 ∷ 3 ∷ []))
+eight_threads = plan_of 4 4 (map endless (1 ∷ 2 ∷ 3 ∷ 4 ∷ 5 ∷ 6 ∷ 7 ∷ 8 ∷ []))
+    (in_order (1 ∷ 1 ∷ 1 ∷ 2 ∷ 2 ∷ 2 ∷ 3 ∷ 3 ∷ 3 ∷ []))
 
 -- a thread that blocks and wakes, and one without end
 abbrev pub block_and_wake : Plan
-block_and_wake = plan_of 2 2 (thread 1 3 (run 1 (ending.Block 1) ∷ run 1 ending.End ∷ []) ∷ thread 2 5 (run 1 ending.Forever ∷ []) ∷ []) []
+block_and_wake = plan_of 2 2 (thread 1 3 (run 1 (ending.Block 1) ∷ run 1 ending.End ∷ [])
+    ∷ thread 2 5 (run 1 ending.Forever ∷ []) ∷ []) []

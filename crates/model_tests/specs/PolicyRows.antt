@@ -38,10 +38,14 @@ pub record PolicyMisses : Type 0 where
   pub gap_of_one_takes_the_last_thread : ¬ VictimIsOverloaded (with_filter (gap_of 1))
   pub gap_of_one_keeps_the_gap : ¬ MoveNarrowsGap (with_filter (gap_of 1))
   pub victim_without_threads_keeps_the_gap : ¬ MoveNarrowsGap (with_filter always)
-  pub two_cases_overlap : ¬ NoOverlap (with_tick (record { guard = always; sets = []; put = put.Keep } ∷ whenever [] put.Queue)) event.Tick
+  pub two_cases_overlap : ¬ NoOverlap (with_tick (record { guard = always; sets = []; put = put.Keep }
+      ∷ whenever [] put.Queue)) event.Tick
   pub no_case_leaves_a_gap : ¬ NoGap (with_tick []) event.Tick
   pub product_of_variables : ¬ IsResolved (with_filter (test cmp.Ge (times (variable 2) (variable 0)) (number (pos 2))))
   pub weight_in_a_filter : ¬ IsResolved (with_filter (test cmp.Ge (variable 4) (number (pos 2))))
   pub wide_number : ¬ IsResolved (with_filter (test cmp.Ge (variable 2) (number (pos 1099511627777))))
-  pub queue_in_a_block : ¬ IsResolved (record basic { handlers = record basic.handlers { on_block = whenever [] put.Queue } })
+  pub queue_in_a_block : ¬ IsResolved (record basic {
+    handlers =
+        record basic.handlers { on_block = whenever [] put.Queue };
+  })
   pub no_cores : ¬ Fits basic (plan_of 0 1 [] [])

@@ -35,7 +35,8 @@ abbrev pub phases_of_1 : List ℕ → List Phase
 phases_of_1 positions = map (λ k. phase_of 1 (take k block_and_wake_history)) positions
 
 abbrev pub stands_at : ℕ → ℕ × ℕ
-stands_at k = let m = after fair block_and_wake (take k block_and_wake_history) in (places_of block_and_wake m 1, blocked_places_of block_and_wake m 1)
+stands_at k = let m = after fair block_and_wake (take k block_and_wake_history) in
+    (places_of block_and_wake m 1, blocked_places_of block_and_wake m 1)
 
 pub record ThreadPhases : Type 0 where
   pub phases : phases_of_1 (1 ∷ 2 ∷ 4 ∷ 9 ∷ 10 ∷ []) ≡ outside ∷ live ∷ waiting ∷ live ∷ over ∷ []
@@ -44,7 +45,11 @@ pub record ThreadPhases : Type 0 where
 -- what each core owes before the first round, as rounds begin, and on the way
 pub record OwedEntries : Type 0 where
   pub at_first : map (owed basic eight_threads []) (core_numbers eight_threads) ≡ 0 ∷ 0 ∷ 0 ∷ 0 ∷ []
-  pub in_round_1 : map (owed basic eight_threads (take 1 eight_threads_history)) (core_numbers eight_threads) ≡ 10 ∷ 2 ∷ 2 ∷ 2 ∷ []
-  pub in_round_2 : map (owed basic eight_threads (take 20 eight_threads_history)) (core_numbers eight_threads) ≡ 0 ∷ 2 ∷ 2 ∷ 2 ∷ []
-  pub at_the_end : map (owed basic eight_threads eight_threads_history) (core_numbers eight_threads) ≡ 0 ∷ 0 ∷ 0 ∷ 0 ∷ []
-  pub one_to_wake : map (owed fair block_and_wake (take 8 block_and_wake_history)) (core_numbers block_and_wake) ≡ 3 ∷ 2 ∷ []
+  pub in_round_1 : map (owed basic eight_threads (take 1 eight_threads_history))
+      (core_numbers eight_threads) ≡ 10 ∷ 2 ∷ 2 ∷ 2 ∷ []
+  pub in_round_2 : map (owed basic eight_threads (take 20 eight_threads_history))
+      (core_numbers eight_threads) ≡ 0 ∷ 2 ∷ 2 ∷ 2 ∷ []
+  pub at_the_end : map (owed basic eight_threads eight_threads_history)
+      (core_numbers eight_threads) ≡ 0 ∷ 0 ∷ 0 ∷ 0 ∷ []
+  pub one_to_wake : map (owed fair block_and_wake (take 8 block_and_wake_history))
+      (core_numbers block_and_wake) ≡ 3 ∷ 2 ∷ []

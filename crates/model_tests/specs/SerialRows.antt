@@ -22,7 +22,8 @@ FairBlocksAndWakes = serial_history fair block_and_wake ≡ block_and_wake_histo
 
 -- the loads of all cores after the first k entries
 abbrev pub loads_at : ℕ → List ℕ
-loads_at k = map (λ c. load_of (after basic eight_threads (take k eight_threads_history) c)) (core_numbers eight_threads)
+loads_at k = map (λ c. load_of (after basic eight_threads (take k eight_threads_history) c))
+    (core_numbers eight_threads)
 
 -- the eight threads, as the rounds 2, 3 and 4 begin
 pub record EightThreadsSpread : Type 0 where
@@ -31,4 +32,5 @@ pub record EightThreadsSpread : Type 0 where
   pub second : loads_at 17 ≡ 8 ∷ 0 ∷ 0 ∷ 0 ∷ []
   pub third : loads_at 26 ≡ 5 ∷ 1 ∷ 1 ∷ 1 ∷ []
   pub fourth : loads_at 35 ≡ 2 ∷ 2 ∷ 2 ∷ 2 ∷ []
-  pub spreads : map (λ k. spread eight_threads (after basic eight_threads (take k eight_threads_history))) (17 ∷ 26 ∷ 35 ∷ []) ≡ 24 ∷ 12 ∷ 0 ∷ []
+  pub spreads : map (λ k. spread eight_threads (after basic eight_threads (take k eight_threads_history)))
+      (17 ∷ 26 ∷ 35 ∷ []) ≡ 24 ∷ 12 ∷ 0 ∷ []

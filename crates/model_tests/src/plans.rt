@@ -3,7 +3,7 @@
 ghost use Rattle.std.specs.Prelude.{◌≡◌, [], IfOk, IsTrue, ◌↔◌};
 ghost use Rattle.policy_tree.specs.Meaning.{meaning_of};
 ghost use Rattle.round_model.specs.Legal.{LegalNext};
-ghost use Rattle.round_model.specs.Past.{IsPastOf, StandsFor};
+ghost use Rattle.round_model.specs.Code.Past.{IsPastOf, StandsFor};
 ghost use Rattle.model_tests.specs.Plans.{endless as endless_thread, two_cores as two_cores_plan};
 ghost use Rattle.model_tests.specs.Policies.{basic};
 

@@ -217,11 +217,16 @@ fn chain(alloc: Global, first: &str, joint: &str, links: u32) -> Result<String, 
     Ok(text)
 }
 
+// As many cases as an obligation may have.
+const EIGHT_UNEQUAL: &str = "self.nr != 0 and self.nr != 0 and self.nr != 0 and self.nr != 0 and \
+    self.nr != 0 and self.nr != 0 and self.nr != 0 and self.nr != 0";
+
 #[test]
 fn counts_and_limits(rt: HostRuntime) -> Result<(), Fail> {
     let alloc = rt.alloc();
-    let built: [(&str, &str, u32, u32, u32); 5] = [
+    let built: [(&str, &str, u32, u32, u32); 6] = [
         ("self.nr != 0", " and self.nr != 0", 7, 8, 256),
+        (EIGHT_UNEQUAL, " and always", 5_940, 8, 256),
         ("always", " and always", 5_952, 0, 1),
         ("self.nr != 0", " and not always", 1, 2, 0),
         ("self.nr != 0", " or always", 254, 0, 256),

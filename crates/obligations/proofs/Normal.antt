@@ -10,8 +10,7 @@ use Rattle.policy_tree.specs.Trees.{ExprTree, minus, CondTree, always, negated, 
 use Rattle.policy_eval.specs.Forms.{EachSide, IsLinear, coefficient_of}
 use Rattle.policy_eval.specs.Ranges.{least_weight}
 use Rattle.policy_eval.specs.Values.{Assignment, compared, holds, value_of, variable_of}
-use Rattle.policy_eval.proofs.Forms.{value_of-form, weighted}
-use Rattle.obligations.proofs.Expressions.{weighted_minus, weighted_negated}
+use Rattle.policy_eval.proofs.Forms.{value_of-form, weighted, weighted_minus, weighted_negated}
 use Rattle.policy_tree.specs.declared.variables.TheConstants.{WEIGHT}
 use Rattle.obligations.specs.Forms.{LinearForm, at_most, at_weight, form_of, opposite, plain_form, weighs_one}
 use Rattle.obligations.specs.Cases.{asked, below, cases_of, cases_of_test, complement, not_above}

@@ -6,7 +6,7 @@ use Rattle.std.proofs.lemmas.Int.{ints, to_z-of_z}
 use Rattle.std.proofs.lemmas.Bool.{eqb-false}
 use Rattle.policy_tree.specs.Trees.{ExprTree, times}
 use Rattle.policy_eval.specs.Forms.{IsLinear, IsSmall, coefficient_of, constant_of, has_reference}
-use Rattle.obligations.proofs.Expressions.{and_none, coefficient_none}
+use Rattle.policy_eval.proofs.Forms.{and_none, coefficient_none}
 
 none_small : IsSmall (pos 0)
 none_small = record { above = omega (arith, ints); below = omega (arith, ints) }

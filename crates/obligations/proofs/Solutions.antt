@@ -93,7 +93,7 @@ module _ (p : Meaning) (is : IsResolved p) (keeps : ℕ → Bool) where
   pub values_of : List ℤ → Assignment
   values_of point = first_values (spread point) 30
 
-  values_of-agrees : (point : List ℤ) → Agrees keeps point (values_of point)
+  pub values_of-agrees : (point : List ℤ) → Agrees keeps point (values_of point)
   unfolding values_of
   values_of-agrees point v kept =
       sym (first_values-at (spread point) 30 v (pos 0) kept.1 ∙ ap (λ b. cond b (value_at point (place_of keeps v)) (get_or (variable_ranges p) v none).low) kept.0)

@@ -1,5 +1,5 @@
--- The conjunctive cases of a condition: it has an outcome exactly where all rows of one of its cases hold. The variables
--- of the rows are those of the policy.
+-- The conjunctive cases of a condition: it has an outcome exactly where all rows of one of its cases hold. The
+-- variables of the rows are those of the policy.
 use Rattle.std.specs.Prelude.{pos, negsuc, Bool, true, false, not, List, [], ◌∷◌, ◌++◌, map}
 use Rattle.policy_tree.specs.declared.trees.Cmp.{Cmp}
 use Rattle.policy_tree.specs.declared.trees.Cmp.TheVariants as cmp

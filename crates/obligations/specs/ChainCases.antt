@@ -13,7 +13,8 @@ use Rattle.obligations.specs.Cases.{cases_of, crossed}
 -- the cases to the left of a link with the link's own: crossed, or joined
 abbrev pub link_cases : Load → Bool → Link → List (List Row) → List (List Row)
 link_cases load outcome link left =
-    cond link.crosses (crossed left (cases_of load outcome (cond_tree link.right.now))) (left ++ cases_of load outcome (cond_tree link.right.now))
+    cond link.crosses (crossed left (cases_of load outcome (cond_tree link.right.now)))
+    (left ++ cases_of load outcome (cond_tree link.right.now))
 
 -- the cases of a chain whose left end has these, the outermost link first
 abbrev pub along : Load → Bool → List Link → List (List Row) → List (List Row)
@@ -45,7 +46,8 @@ end_nodes (Some end) = nodes_of (cond_tree end.now)
 
 -- the condition is a link of a chain, with that condition to its left
 pub record SplitsOff (outcome : Bool) (whole : Cond) (left : Cond) (link : Link) : Type 0 where
-  pub cases : (load : Load) → link_cases load outcome link (cases_of load outcome (cond_tree left)) ≡ cases_of load outcome (cond_tree whole)
+  pub cases : (load : Load) → link_cases load outcome link (cases_of load outcome (cond_tree left))
+      ≡ cases_of load outcome (cond_tree whole)
   pub nodes : nodes_of (cond_tree left) + nodes_of (cond_tree link.right.now) < nodes_of (cond_tree whole)
   pub left_linear : EachSide IsLinear (cond_tree whole) → EachSide IsLinear (cond_tree left)
   pub right_linear : EachSide IsLinear (cond_tree whole) → IsLinearLink link

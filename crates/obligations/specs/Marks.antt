@@ -45,7 +45,8 @@ up_to high = record { lo = pos 0; hi = high }
 -- the range of an attribute, 0 alone where none is declared
 abbrev pub declared_bound : List Attr → ℕ → Bound
 declared_bound attrs at =
-    let r : Range = slice_index_or (map declared_range attrs) at (range (pos 0) (pos 0)) in record { lo = r.low; hi = r.high }
+    let r : Range = slice_index_or (map declared_range attrs) at (range (pos 0) (pos 0)) in
+    record { lo = r.low; hi = r.high }
 
 -- nothing is marked
 abbrev pub IsUnmarked : List Bool → Type 0

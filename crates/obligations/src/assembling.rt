@@ -1,6 +1,6 @@
 //! Systems from the rows of cases.
 
-ghost use Rattle.std.specs.Prelude.{◌≡◌, ℕ, ◌<◌, ◌≤◌, ◌++◌, ◌∷◌, [], IfOk, OnOk, All, length, map};
+ghost use Rattle.std.specs.Prelude.{◌≡◌, ◌<◌, ◌≤◌, ◌++◌, ◌∷◌, [], IfOk, All, length, map};
 ghost use Rattle.std.specs.List.{AllByRecursion};
 ghost use Rattle.linear_form.specs.System.{IsBound, IsRow};
 ghost use Rattle.policy_tree.specs.Meaning.{meaning_of};

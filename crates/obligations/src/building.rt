@@ -3,7 +3,7 @@
 ghost use Rattle.std.specs.Prelude.{◌≡◌, ◌<◌, ◌≤◌, [], List, IfOk, All, MatchOption, false, true};
 ghost use Rattle.policy_tree.specs.declared.typed.Load.{Load};
 ghost use Rattle.policy_tree.specs.Chains.{is_link, nodes_of};
-ghost use Rattle.policy_tree.specs.Trees.{always, cond_tree, expr_tree, minus};
+ghost use Rattle.policy_tree.specs.Trees.{cond_tree};
 ghost use Rattle.policy_eval.specs.Forms.{EachSide, IsLinear};
 ghost use Rattle.policy_eval.specs.Resolved.{IsWeightRange};
 ghost use Rattle.linear_form.specs.declared.form.Row.{Row};
@@ -145,7 +145,7 @@ fn linked(
     }
     let right = cases_of(alloc, load, link.right, outcome)?;
     if link.crosses {
-        crossed(alloc, left, right.as_slice())
+        crossed(alloc, left, right)
     } else {
         joined(left, right)
     }

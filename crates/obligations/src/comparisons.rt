@@ -1,6 +1,6 @@
 //! Comparisons of which an outcome is asked.
 
-ghost use Rattle.std.specs.Prelude.{◌≡◌, ◌≤◌, [], ◌∷◌, IfOk, ℕ, unsigned_abs};
+ghost use Rattle.std.specs.Prelude.{◌≡◌, ◌≤◌, [], ◌∷◌, IfOk, unsigned_abs};
 ghost use Rattle.policy_tree.specs.Trees.{expr_tree, minus};
 ghost use Rattle.policy_eval.specs.Forms.{IsLinear};
 ghost use Rattle.policy_eval.specs.Resolved.{IsWeightRange};

@@ -1,6 +1,6 @@
 //! Lists of cases, joined and crossed.
 
-ghost use Rattle.std.specs.Prelude.{◌≡◌, ◌++◌, IfOk, OnOk, map};
+ghost use Rattle.std.specs.Prelude.{◌≡◌, [], ◌∷◌, ◌++◌, IfOk, map, true};
 ghost use Rattle.obligations.specs.Cases.{cases_of, crossed};
 ghost use Rattle.policy_tree.specs.declared.typed.Load.{Load};
 ghost use Rattle.policy_tree.specs.Trees.{always};
@@ -29,8 +29,31 @@ pub fn joined(mut left: Vec<Rows>, right: Vec<Rows>) -> Result<Vec<Rows>, AllocE
     Ok(left)
 }
 
+/// Each case of the left list with each of the right list. Beside one case without rows the other list stays as it is.
+pub fn crossed(alloc: Global, left: Vec<Rows>, right: Vec<Rows>) -> Result<Vec<Rows>, AllocError>
+    ensures { IfOk result (λ all. all.items ≡ crossed left.items right.items) }
+{
+    if is_unit(right.as_slice()) {
+        return Ok(left);
+    }
+    if is_unit(left.as_slice()) {
+        return Ok(right);
+    }
+    each_with_each(alloc, left, right.as_slice())
+}
+
+/// Whether there is one case alone, and it has no row.
+fn is_unit(cases: &[Rows]) -> bool
+    ensures { result ≡ true → cases.now ≡ [] ∷ [] }
+{
+    match cases {
+        [only] => only.as_slice().is_empty(),
+        _ => false,
+    }
+}
+
 /// Each case of the left list with each of the right list. A left case is copied for each right case but the last.
-pub fn crossed(alloc: Global, left: Vec<Rows>, right: &[Rows]) -> Result<Vec<Rows>, AllocError>
+fn each_with_each(alloc: Global, left: Vec<Rows>, right: &[Rows]) -> Result<Vec<Rows>, AllocError>
     ensures { IfOk result (λ all. all.items ≡ crossed left.items right.now) }
 {
     let mut all = Vec::new(alloc);

@@ -1,6 +1,6 @@
 //! Linear forms, and the rows that they give.
 
-ghost use Rattle.std.specs.Prelude.{◌≡◌, ◌≤◌, ◌<◌, ℤ, ◌+ℤ◌, ◌*ℤ◌, pos, unsigned_abs, IfOk, IfSome, length};
+ghost use Rattle.std.specs.Prelude.{◌≡◌, ◌≤◌, ◌<◌, ℤ, ◌+ℤ◌, ◌*ℤ◌, unsigned_abs, IfOk, IfSome};
 ghost use Rattle.policy_tree.specs.Trees.{expr_tree, minus};
 ghost use Rattle.policy_eval.specs.Forms.{IsLinear, IsSmall, coefficient_of, constant_of};
 ghost use Rattle.policy_eval.specs.Resolved.{IsWeightRange};

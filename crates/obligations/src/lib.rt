@@ -20,6 +20,6 @@ mod rows;
 mod statements;
 
 pub use counts::MAX_COUNT;
-pub use making::{ObligeFault, oblige};
+pub use making::{ObligeFault, oblige, oblige_one};
 pub use names::{OB_NAME_ROOM, ObName, ob_name, ob_names};
 pub use obligation::{Obligation, Obligations, SystemList, VarList};

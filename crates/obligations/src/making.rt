@@ -1,6 +1,6 @@
 //! The obligations of a policy as systems.
 
-ghost use Rattle.std.specs.Prelude.{◌≡◌, ℕ, ◌↔◌, ◌<◌, ◌≤◌, Err, IfOk, Some, OnOk, All, None, length, map, nat_lt, slice_index_or, vec_len};
+ghost use Rattle.std.specs.Prelude.{◌≡◌, ℕ, ◌↔◌, ◌<◌, ◌≤◌, Err, IfOk, Some, All, None, length, map, nat_lt, slice_index_or, vec_len};
 ghost use Rattle.std.specs.List.{AllByRecursion};
 ghost use Rattle.linear_form.specs.System.{IsBound};
 ghost use Rattle.policy_tree.specs.Meaning.{meaning_of};
@@ -42,7 +42,8 @@ pub enum ObligeFault {
 /// The obligations of a resolved policy, each with its variables and systems.
 ///
 /// All cases are counted before one of them is made, and counting takes no memory. Time and memory are linear in the
-/// rows that come out, and in the text of the policy.
+/// rows that come out and in the policy's text, up to a factor that limits bound: a condition is gone over again for
+/// each level of parentheses and `not`s round it, and a guard for each other guard of its handler.
 pub fn oblige(alloc: Global, policy: &Policy) -> Result<Obligations, ObligeFault>
     requires { IsResolved (meaning_of policy.now) }
     ensures crowded { (name : ObName) (count : ℕ) → (result ≡ Err (Cases name count)) ↔
@@ -55,6 +56,22 @@ pub fn oblige(alloc: Global, policy: &Policy) -> Result<Obligations, ObligeFault
     }
     match obligations_of(alloc, policy) {
         Ok(all) => Ok(all),
+        Err(_unmade) => Err(ObligeFault::Memory),
+    }
+}
+
+/// One obligation of a resolved policy. The cases of all obligations are counted before one of it is made.
+pub fn oblige_one(alloc: Global, policy: &Policy, name: ObName) -> Result<Obligation, ObligeFault>
+    requires { IsResolved (meaning_of policy.now) }
+    ensures crowded { (crowd : ObName) (count : ℕ) → (result ≡ Err (Cases crowd count)) ↔
+        (first_crowded (meaning_of policy.now) ob_names ≡ Some (crowd, count)) }
+    ensures ok { IfOk result (λ ob. ob ≡ obligation_of (meaning_of policy.now) name) }
+{
+    if let Some((crowd, count)) = first_crowded(policy) {
+        return Err(ObligeFault::Cases(crowd, count));
+    }
+    match obligation_of(alloc, policy, name) {
+        Ok(ob) => Ok(ob),
         Err(_unmade) => Err(ObligeFault::Memory),
     }
 }

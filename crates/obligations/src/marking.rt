@@ -1,9 +1,8 @@
 //! Which variables occur in rows, and the place of each of them.
 
-ghost use Rattle.std.specs.Prelude.{◌≡◌, ℕ, ◌<◌, ◌≤◌, ◌||◌, ◌==◌, List, IfOk, OnOk, map, length, slice_index_or, false};
-ghost use Rattle.std.specs.List.{AllByRecursion, list_any};
-ghost use Rattle.obligations.specs.Marks.{HasSmallTerms, IsMarked, kept_of, occurs_in_case, occurs_in_row};
-ghost use Rattle.obligations.specs.Systems.{kept_below, occurs, place_of};
+ghost use Rattle.std.specs.List.{AllByRecursion};
+ghost use Rattle.obligations.specs.Marks.{HasSmallTerms, IsMarked, occurs_in_case, occurs_in_row};
+ghost use Rattle.obligations.specs.Systems.{occurs};
 
 use crate::rows::Rows;
 use linear_form::Row;

@@ -1,6 +1,6 @@
 //! The names of the obligations.
 
-ghost use Rattle.std.specs.Prelude.{◌≡◌, ◌≤◌, ◌↔◌, length, Some, MatchOption, All, ◌≢◌};
+ghost use Rattle.std.specs.Prelude.{◌≡◌, ◌≤◌, ◌↔◌, length, Some};
 ghost use Rattle.obligations.specs.Names.{ob_names, ob_text};
 
 /// An obligation by its name in the output.

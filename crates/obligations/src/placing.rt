@@ -1,6 +1,6 @@
 //! Rows over the places of the variables that are kept.
 
-ghost use Rattle.std.specs.Prelude.{◌≡◌, ℕ, ◌<◌, ◌≤◌, IfOk, length, slice_index_or, vec_len};
+ghost use Rattle.std.specs.Prelude.{◌≡◌, ℕ, ◌<◌, ◌≤◌, IfOk, slice_index_or, vec_len};
 ghost use Rattle.obligations.specs.Marks.{HasSmallTerms, kept_of, placed_by};
 ghost use Rattle.obligations.specs.Systems.{kept_below, place_of};
 

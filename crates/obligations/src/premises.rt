@@ -1,7 +1,7 @@
 //! What a statement on a pair of cores supposes, as a condition.
 
-ghost use Rattle.std.specs.Prelude.{◌≡◌, IfOk, pos};
-ghost use Rattle.policy_tree.specs.Trees.{both, cond_tree, expr_tree, plus, test, times, variable};
+ghost use Rattle.std.specs.Prelude.{◌≡◌, IfOk};
+ghost use Rattle.policy_tree.specs.Trees.{both, cond_tree, expr_tree, plus, times, variable};
 ghost use Rattle.policy_eval.specs.Ranges.{greatest_weight, least_weight};
 ghost use Rattle.obligations.specs.Refutations.{cores_fit, gap_is_small, has_thread, idle_and_overloaded, load_fits, victim_has_one, whole};
 

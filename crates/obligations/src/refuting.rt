@@ -1,9 +1,9 @@
 //! The cases in which a statement fails.
 
-ghost use Rattle.std.specs.Prelude.{◌≡◌, ◌++◌, [], List, IfOk, All, map, true, false};
+ghost use Rattle.std.specs.Prelude.{◌≡◌, ◌++◌, IfOk, map, true, false};
 ghost use Rattle.std.specs.List.{AllByRecursion};
 ghost use Rattle.policy_tree.specs.Meaning.{case_tree, meaning_of};
-ghost use Rattle.policy_tree.specs.Trees.{CondTree, both, cond_tree, negated};
+ghost use Rattle.policy_tree.specs.Trees.{both, cond_tree, negated};
 ghost use Rattle.policy_eval.specs.Forms.{EachSide, IsLinear};
 ghost use Rattle.policy_eval.specs.Resolved.{IsResolved, IsWeightRange};
 ghost use Rattle.obligations.specs.Cases.{cases_of, crossed};
@@ -67,11 +67,7 @@ fn with_filter(
         crossed (cases_of load true (cond_tree premise.now)) (cases_of load outcome (cond_tree filter.now))) }
 {
     let given = cases_of(alloc, load, premise, true)?;
-    crossed(
-        alloc,
-        given,
-        cases_of(alloc, load, filter, outcome)?.as_slice(),
-    )
+    crossed(alloc, given, cases_of(alloc, load, filter, outcome)?)
 }
 
 /// The cases in which two guards hold together.
@@ -102,7 +98,8 @@ fn with_later(
     requires guard { EachSide IsLinear (cond_tree guard.now) }
     requires linear { AllByRecursion (EachSide IsLinear) (guards_of (map case_tree later.now)) }
     ensures { IfOk result (λ more. more.items ≡ all.items ++
-        cases_of load true (any_of (map both_of (map (λ h. (cond_tree guard.now, h)) (guards_of (map case_tree later.now)))))) }
+        cases_of load true (any_of (map both_of (map (λ h. (cond_tree guard.now, h))
+        (guards_of (map case_tree later.now)))))) }
 {
     for case in later {
         all = joined(all, pair_cases(alloc, load, guard, &case.guard)?)?;
@@ -115,13 +112,14 @@ fn pair_cases(alloc: Global, load: Load, left: &Cond, right: &Cond) -> Result<Ve
     requires load { IsWeightRange load }
     requires left { EachSide IsLinear (cond_tree left.now) }
     requires right { EachSide IsLinear (cond_tree right.now) }
-    ensures { IfOk result (λ cases. cases.items ≡ cases_of load true (both (cond_tree left.now) (cond_tree right.now))) }
+    ensures { IfOk result (λ cases. cases.items ≡ cases_of load true
+        (both (cond_tree left.now) (cond_tree right.now))) }
 {
     if count(left, true) == 0 || count(right, true) == 0 {
         return Ok(Vec::new(alloc));
     }
     let cases = cases_of(alloc, load, left, true)?;
-    crossed(alloc, cases, cases_of(alloc, load, right, true)?.as_slice())
+    crossed(alloc, cases, cases_of(alloc, load, right, true)?)
 }
 
 /// The cases in which no guard holds.
@@ -137,7 +135,7 @@ fn gap_cases(alloc: Global, load: Load, cases: &[Case]) -> Result<Vec<Rows>, All
     let mut all = cases_of_always(alloc, true)?;
     for case in cases {
         let fails = cases_of(alloc, load, &case.guard, false)?;
-        all = crossed(alloc, all, fails.as_slice())?;
+        all = crossed(alloc, all, fails)?;
     }
     Ok(all)
 }

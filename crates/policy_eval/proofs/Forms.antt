@@ -16,11 +16,11 @@ weighted_plus : (c d : ℕ → ℤ) (i : ℕ) (xs : List ℤ) → weighted (λ v
 weighted_plus c d i [] = refl
 weighted_plus c d i (x ∷ xs) = let rest = weighted_plus c d (suc i) xs in let here = +ℤ-*ℤ (c i) (d i) x in omega (arith, ints)
 
-weighted_minus : (c d : ℕ → ℤ) (i : ℕ) (xs : List ℤ) → weighted (λ v. c v -ℤ d v) i xs ≡ weighted c i xs -ℤ weighted d i xs
+pub weighted_minus : (c d : ℕ → ℤ) (i : ℕ) (xs : List ℤ) → weighted (λ v. c v -ℤ d v) i xs ≡ weighted c i xs -ℤ weighted d i xs
 weighted_minus c d i [] = refl
 weighted_minus c d i (x ∷ xs) = let rest = weighted_minus c d (suc i) xs in let here = -ℤ-*ℤ (c i) (d i) x in omega (arith, ints)
 
-weighted_negated : (c : ℕ → ℤ) (i : ℕ) (xs : List ℤ) → weighted (λ v. neg_ℤ (c v)) i xs ≡ neg_ℤ (weighted c i xs)
+pub weighted_negated : (c : ℕ → ℤ) (i : ℕ) (xs : List ℤ) → weighted (λ v. neg_ℤ (c v)) i xs ≡ neg_ℤ (weighted c i xs)
 weighted_negated c i [] = refl
 weighted_negated c i (x ∷ xs) = let rest = weighted_negated c (suc i) xs in let here = neg_ℤ-*ℤ (c i) x in omega (arith, ints)
 
@@ -68,12 +68,12 @@ or_none : (a b : Bool) → (a || b) ≡ false → (a ≡ false) × (b ≡ false)
 or_none true b e = absurd (cc)
 or_none false b e = (refl, e)
 
-and_none : (a b : Bool) → (a && b) ≡ false → (a ≡ false) ⊎ (b ≡ false)
+pub and_none : (a b : Bool) → (a && b) ≡ false → (a ≡ false) ⊎ (b ≡ false)
 and_none true b e = inr e
 and_none false b e = inl refl
 
 -- an expression without variables has no coefficient
-coefficient_none : (e : ExprTree) → has_reference e ≡ false → (v : ℕ) → coefficient_of e v ≡ pos 0
+pub coefficient_none : (e : ExprTree) → has_reference e ≡ false → (v : ℕ) → coefficient_of e v ≡ pos 0
 coefficient_none (number n) none v = refl
 coefficient_none (variable at) none v = absurd (cc)
 coefficient_none (negation e) none v = ap neg_ℤ (coefficient_none e none v)

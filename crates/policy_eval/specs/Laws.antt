@@ -25,7 +25,8 @@ BestLaw = (keys : List KeyTree) (xs : List Assignment) (best : Assignment) →
     best_of (precedes keys) xs ≡ Some best → IsBest keys xs best
 
 -- the first is the best, and the others are the list without the place where it stands
-pub record IsBestAndRest (keys : List KeyTree) (xs : List Assignment) (best : Assignment) (others : List Assignment) : Type 0 where
+pub record IsBestAndRest (keys : List KeyTree) (xs : List Assignment) (best : Assignment)
+    (others : List Assignment) : Type 0 where
   pub first : IsBest keys xs best
   pub rest : others ≡ remove xs first.at
 

@@ -1,6 +1,6 @@
 //! What an event does to the thread that meets it.
 
-ghost use Rattle.std.specs.Prelude.{◌≡◌, ◌<◌, ◌≤ℤ◌, [], ◌∷◌, fold, length, map};
+ghost use Rattle.std.specs.Prelude.{◌≡◌, ◌≤ℤ◌, [], ◌∷◌, fold, length, map};
 ghost use Rattle.std.specs.List.{AllByRecursion};
 ghost use Rattle.policy_tree.specs.Meaning.{meaning_of, set_tree};
 ghost use Rattle.policy_eval.specs.Events.{IsSettable, holding_cases, outcomes_of, saturated, task_after_set};

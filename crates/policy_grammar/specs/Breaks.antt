@@ -56,7 +56,8 @@ after_term operators t = after_times (operators + t.first.signs) t.rest
 
 abbrev pub breaks_term : Limits → ℕ → ℕ → TermSyntax → Option ParseFault
 breaks_term limits depth operators t =
-    first_of (breaks_factor limits depth operators t.first) (breaks_times limits depth (operators + t.first.signs) t.rest)
+    first_of (breaks_factor limits depth operators t.first)
+    (breaks_times limits depth (operators + t.first.signs) t.rest)
 
 abbrev pub after_added : ℕ → List AddedSyntax → ℕ
 after_added operators [] = operators
@@ -113,7 +114,8 @@ abbrev mutual
 abbrev pub breaks_keys : Limits → ℕ → List KeySyntax → Option ParseFault
 breaks_keys limits count [] = None
 breaks_keys limits count (k ∷ rest) =
-    first_of (many limits.keys k.at count) (first_of (breaks_expr limits 0 k.value) (breaks_keys limits (count + 1) rest))
+    first_of (many limits.keys k.at count) (first_of (breaks_expr limits 0 k.value)
+    (breaks_keys limits (count + 1) rest))
 
 abbrev pub breaks_order : Limits → OrderSyntax → Option ParseFault
 breaks_order limits order = breaks_keys limits 0 order.keys
@@ -122,7 +124,8 @@ breaks_order limits order = breaks_keys limits 0 order.keys
 abbrev pub breaks_sets : Limits → ℕ → List SetSyntax → Option ParseFault
 breaks_sets limits count [] = None
 breaks_sets limits count (s ∷ rest) =
-    first_of (many limits.sets s.at count) (first_of (breaks_expr limits 0 s.value) (breaks_sets limits (count + 1) rest))
+    first_of (many limits.sets s.at count) (first_of (breaks_expr limits 0 s.value)
+    (breaks_sets limits (count + 1) rest))
 
 -- cases behind so many
 abbrev pub breaks_cases : Limits → ℕ → List CaseSyntaxTree → Option ParseFault

@@ -33,7 +33,8 @@ pub data IsRange (ts : List Lexeme) : ℕ → RangeSyntax → ℕ → Type 0 whe
 
 -- ref = ("self" | "victim" | "core" | "t") "." WORD
 pub data IsOperand (text : List ℕ) (ts : List Lexeme) : ℕ → OperandSyntax → ℕ → Type 0 where
-  operand_number : {at : ℕ} → kind_at ts at ≡ code Number → IsOperand text ts at (operand.Number (value_at ts at)) (at + 1)
+  operand_number : {at : ℕ} → kind_at ts at ≡ code Number →
+      IsOperand text ts at (operand.Number (value_at ts at)) (at + 1)
   operand_reference : {at : ℕ} (owner : Owner) →
       kind_at ts at ≡ owner_word owner → kind_at ts (at + 1) ≡ code Dot → is_word (kind_at ts (at + 2)) ≡ true →
       IsOperand text ts at (operand.Reference owner (word_at text ts (at + 2))) (at + 3)

@@ -82,7 +82,8 @@ module _ (limits : Limits) where
       if kind == code Always then goes None (state count below) else
       if kind == code Not then goes (deep limits at depth) (state count (unit (depth + 1) ∷ below)) else
       if kind == code Open then
-      goes (deep limits at depth) (state count (unit (depth + 1) ∷ ands (depth + 1) ∷ ors (depth + 1) ∷ close ∷ below)) else
+      goes (deep limits at depth) (state count (unit (depth + 1) ∷ ands (depth + 1) ∷ ors (depth + 1) ∷ close ∷
+      below)) else
       factor_move count depth depth 0 at (compare depth ∷ below) kind
 
   abbrev pub key_move : ℕ → ℕ → List Symbol → ℕ → Move
@@ -93,7 +94,8 @@ module _ (limits : Limits) where
   abbrev pub case_move : ℕ → ℕ → List Symbol → ℕ → Move → Move
   case_move before at below kind outer =
       if kind == code When then
-      goes (many limits.cases at before) (state 0 (condition ∷ the Colon ∷ actions 0 ∷ cases (before + 1) ∷ below)) else outer
+      goes (many limits.cases at before) (state 0 (condition ∷ the Colon ∷ actions 0 ∷ cases (before + 1)
+      ∷ below)) else outer
 
   abbrev pub attr_move : ℕ → ℕ → ℕ → List Symbol → ℕ → Move → Move
   attr_move cores threads at below kind outer =
@@ -102,10 +104,12 @@ module _ (limits : Limits) where
       (state 0 (the Name ∷ the In ∷ int ∷ the Range ∷ int ∷ the Start ∷ int ∷ attrs (cores + 1) threads ∷ below)) else
       if kind == code Thread then
       goes (many limits.attrs at threads)
-      (state 0 (the Name ∷ the In ∷ int ∷ the Range ∷ int ∷ the Start ∷ int ∷ attrs cores (threads + 1) ∷ below)) else outer
+      (state 0 (the Name ∷ the In ∷ int ∷ the Range ∷ int ∷ the Start ∷ int ∷ attrs cores (threads + 1)
+      ∷ below)) else outer
 
   abbrev pub symbol_move : ℕ → ℕ → Symbol → List Symbol → ℕ → Move → Move
-  symbol_move count at (the terminal) below kind outer = if kind == code terminal then goes None (state 0 below) else refuses
+  symbol_move count at (the terminal) below kind outer =
+      if kind == code terminal then goes None (state 0 below) else refuses
   symbol_move count at load_rule below kind outer =
       if kind == code Count then goes None (state 0 below) else
       if kind == code Weight then goes None (state 0 (int ∷ the Range ∷ int ∷ below)) else refuses
@@ -113,11 +117,13 @@ module _ (limits : Limits) where
       if kind == code Number then goes None (state 0 below) else
       if kind == code Minus then goes None (state 0 (the Number ∷ below)) else refuses
   symbol_move count at (attrs cores threads) below kind outer = attr_move cores threads at below kind outer
-  symbol_move count at place below kind outer = if kind == code Place then goes None (state 0 (place_rule ∷ below)) else outer
+  symbol_move count at place below kind outer = if kind == code Place then goes None
+      (state 0 (place_rule ∷ below)) else outer
   symbol_move count at place_rule below kind outer =
       if kind == code Here then goes None (state 0 below) else
       if kind == code Min then goes None (state 0 (operand 0 0 0 ∷ below)) else refuses
-  symbol_move count at elect below kind outer = if kind == code Elect then goes None (state 0 (order ∷ below)) else outer
+  symbol_move count at elect below kind outer = if kind == code Elect then goes None
+      (state 0 (order ∷ below)) else outer
   symbol_move count at handlers below kind outer =
       if kind == code On then
       goes None (state 0 (event ∷ the Begin ∷ case 0 ∷ the Finish ∷ handlers ∷ below)) else outer

@@ -10,4 +10,5 @@ IsOnlySyntax text ts syntax = (other : SyntaxTree) → IsPolicy text ts other �
 
 -- of no tokens the grammar has two syntaxes that differ
 abbrev pub HasOneTree : Type 0
-HasOneTree = (text : List ℕ) (ts : List Lexeme) (syntax : SyntaxTree) → IsPolicy text ts syntax → IsOnlySyntax text ts syntax
+HasOneTree = (text : List ℕ) (ts : List Lexeme) (syntax : SyntaxTree) → IsPolicy text ts syntax →
+    IsOnlySyntax text ts syntax

@@ -19,8 +19,10 @@ pub record Reaches (text : List ℕ) (at : ℕ) : Type 0 where
 abbrev pub IsBroken : List ℕ → LexFault → Type 0
 IsBroken text (NotAscii at) = Reaches text at × (128 ≤ slice_index text at)
 IsBroken text (BadByte at) = Reaches text at × (slice_index text at < 128) × HasNoPiece (drop at text)
-IsBroken text (LongName at) = Reaches text at × ((size : ℕ) × IsFirstPiece (drop at text) size (token Word) × (MAX_NAME_BYTES < size))
-IsBroken text (WideNumber at) = Reaches text at × ((size : ℕ) × (value : ℕ) × IsFirstPiece (drop at text) size (token (Number value)) × (2 ^ 64 ≤ value))
+IsBroken text (LongName at) = Reaches text at × ((size : ℕ) × IsFirstPiece (drop at text) size (token Word)
+    × (MAX_NAME_BYTES < size))
+IsBroken text (WideNumber at) = Reaches text at × ((size : ℕ) × (value : ℕ)
+    × IsFirstPiece (drop at text) size (token (Number value)) × (2 ^ 64 ≤ value))
 IsBroken text Memory = ⊥
 
 abbrev pub HasTokens : List ℕ → Type 0

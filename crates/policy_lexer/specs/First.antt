@@ -26,8 +26,10 @@ size_of_step (Token kind size) = size
 abbrev pub IsFirstFault : List ℕ → ℕ → LexFault → Type 0
 IsFirstFault text at (NotAscii place) = (place ≡ at) × (128 ≤ slice_index text 0)
 IsFirstFault text at (BadByte place) = (place ≡ at) × (slice_index text 0 < 128) × HasNoPiece text
-IsFirstFault text at (LongName place) = (place ≡ at) × ((size : ℕ) × IsFirstPiece text size (token Word) × (MAX_NAME_BYTES < size))
-IsFirstFault text at (WideNumber place) = (place ≡ at) × ((size : ℕ) × (value : ℕ) × IsFirstPiece text size (token (Number value)) × (2 ^ 64 ≤ value))
+IsFirstFault text at (LongName place) = (place ≡ at) ×
+    ((size : ℕ) × IsFirstPiece text size (token Word) × (MAX_NAME_BYTES < size))
+IsFirstFault text at (WideNumber place) = (place ≡ at)
+    × ((size : ℕ) × (value : ℕ) × IsFirstPiece text size (token (Number value)) × (2 ^ 64 ≤ value))
 IsFirstFault text at Memory = ⊥
 
 -- the byte begins no word, no number, no blanks and no comment

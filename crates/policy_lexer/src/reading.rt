@@ -1,6 +1,6 @@
 //! Reads a text from its start, piece after piece.
 
-ghost use Rattle.std.specs.Prelude.{◌≡◌, ◌≤◌, List, Ok, Err, IfOk, IfErr, length};
+ghost use Rattle.std.specs.Prelude.{◌≤◌, List, Ok, Err, IfOk, IfErr, length};
 ghost use Rattle.sched_base.specs.declared.limits.TheConstants.{MAX_POLICY_BYTES};
 ghost use Rattle.policy_lexer.specs.declared.token.Token.{Token};
 ghost use Rattle.policy_lexer.specs.declared.fault.LexFault.{LexFault};

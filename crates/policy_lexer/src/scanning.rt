@@ -8,7 +8,8 @@ ghost use Rattle.policy_lexer.specs.First.{size_of_step};
 use crate::fault::LexFault;
 use crate::piece::{Step, first_step};
 
-/// The first fault of a text, `None` where it has tokens. It takes no memory, so that every text has one of these answers.
+/// The first fault of a text, `None` where it has tokens. It takes no memory, so that every text
+/// has one of these answers.
 pub fn fault_of(text: &[u8]) -> Option<LexFault>
     requires { length text.now ≤ MAX_POLICY_BYTES }
     ensures { MatchOption result (HasTokens text.now) (IsRealFault text.now) }

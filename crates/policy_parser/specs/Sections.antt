@@ -21,7 +21,8 @@ pub record IsHeader (text : List ℕ) (ts : List Lexeme) (name : List ℕ) (load
   pub loads : IsLoad ts 2 load to
 
 -- the rules that may be left out
-pub record IsRules (text : List ℕ) (ts : List Lexeme) (at : ℕ) (place : Option PlaceSyntax) (elect : Option ElectSyntax) (to : ℕ) : Type 0 where
+pub record IsRules (text : List ℕ) (ts : List Lexeme) (at : ℕ) (place : Option PlaceSyntax)
+    (elect : Option ElectSyntax) (to : ℕ) : Type 0 where
   pub mid : ℕ
   pub places : IsPlace text ts at place mid
   pub elects : IsElect text ts mid elect to
@@ -36,14 +37,16 @@ pub record IsFront (text : List ℕ) (ts : List Lexeme) (name : List ℕ) (load 
   pub rules : IsRules text ts rules_at place elect to
 
 -- the two orders at the end
-pub record IsChoices (text : List ℕ) (ts : List Lexeme) (at : ℕ) (choose : OrderSyntax) (steal_at : ℕ) (steal : OrderSyntax) : Type 0 where
+pub record IsChoices (text : List ℕ) (ts : List Lexeme) (at : ℕ) (choose : OrderSyntax) (steal_at : ℕ)
+    (steal : OrderSyntax) : Type 0 where
   pub begins : kind_at ts at ≡ code Choose
   pub chooses : IsOrder text ts (at + 1) choose steal_at
   pub follows : kind_at ts steal_at ≡ code Steal
   pub steals : IsOrder text ts (steal_at + 1) steal (length ts)
 
 -- the handlers and all behind them
-pub record IsBack (text : List ℕ) (ts : List Lexeme) (at : ℕ) (handlers : List HandlerSyntaxTree) (filter_at : ℕ) (filter : ConditionTree)
+pub record IsBack (text : List ℕ) (ts : List Lexeme) (at : ℕ) (handlers : List HandlerSyntaxTree) (filter_at : ℕ)
+    (filter : ConditionTree)
     (choose_at : ℕ) (choose : OrderSyntax) (steal_at : ℕ) (steal : OrderSyntax) : Type 0 where
   pub are : IsHandlers text ts at handlers filter_at
   pub begins : kind_at ts filter_at ≡ code Filter

@@ -1,6 +1,6 @@
 //! Reads conditions.
 
-ghost use Rattle.std.specs.Prelude.{◌≡◌, ◌==◌, ◌<◌, ◌≤◌, ◌+◌, ◌∷◌, ℕ, List, length, IfOk, IfSome, IfNone, false};
+ghost use Rattle.std.specs.Prelude.{◌≡◌, ◌<◌, ◌≤◌, ◌+◌, ◌∷◌, List, length, IfOk, IfSome, IfNone, false};
 ghost use Rattle.policy_tree.specs.SyntaxTrees.{condition_tree};
 ghost use Rattle.policy_grammar.specs.Terminals.{code, kind_at};
 ghost use Rattle.policy_grammar.specs.declared.terminal.Terminal.TheVariants.{Not, Open};
@@ -58,7 +58,8 @@ impl<'a> Source<'a> {
         requires within { at ≤ length self.now.lexemes.now }
         requires opens { depth ≤ self.now.limits.nesting }
         ensures later { IfOk result (λ x. (at < x.1) × (x.1 ≤ length self.now.lexemes.now)) }
-        ensures is { IfOk result (λ x. IsConjunction self.now.text.now self.now.lexemes.now at (condition_tree x.0) x.1) }
+        ensures is { IfOk result (λ x. IsConjunction self.now.text.now self.now.lexemes.now at
+            (condition_tree x.0) x.1) }
         ensures reads { (below : List Symbol) →
             Answers (go self.now.limits self.now.lexemes.now at count (unit depth ∷ ands depth ∷ below))
             (λ x. go self.now.limits self.now.lexemes.now x.1 x.2 below) result }

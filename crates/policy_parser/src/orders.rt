@@ -1,12 +1,12 @@
 //! Reads orders.
 
-ghost use Rattle.std.specs.Prelude.{◌≡◌, ◌==◌, ◌<◌, ◌≤◌, ◌+◌, ◌∷◌, ℕ, List, length, IfOk, IfSome, IfNone, false};
-ghost use Rattle.policy_grammar.specs.Terminals.{code, kind_at};
+ghost use Rattle.std.specs.Prelude.{◌≡◌, ◌<◌, ◌≤◌, ◌+◌, ◌∷◌, List, length, IfOk, IfSome, IfNone, false};
+ghost use Rattle.policy_grammar.specs.Terminals.{kind_at};
 ghost use Rattle.policy_grammar.specs.declared.terminal.Terminal.TheVariants.{Comma};
 ghost use Rattle.policy_grammar.specs.Words.{key_word};
 ghost use Rattle.policy_grammar.specs.Expressions.{IsKey, IsOrder};
 ghost use Rattle.policy_grammar.specs.Machine.{Symbol, order, key, keys, is_key, go};
-ghost use Rattle.policy_parser.specs.Answers.{Answers, IsOver};
+ghost use Rattle.policy_parser.specs.Answers.{Answers};
 
 use crate::source::Source;
 use lists::Items;

@@ -100,7 +100,8 @@ impl<'a> Source<'a> {
         ensures is { IfOk result (λ x. IsAttr self.now.text.now self.now.lexemes.now at x.0 x.1) }
         ensures kind { IfOk result (λ x. x.0.of_cores ≡ of_cores) }
         ensures reads { (below : List Symbol) →
-            Answers (go self.now.limits self.now.lexemes.now (at + 1) 0 (the Name ∷ the In ∷ int ∷ the Range ∷ int ∷ the Start ∷ int ∷ below))
+            Answers (go self.now.limits self.now.lexemes.now (at + 1) 0
+            (the Name ∷ the In ∷ int ∷ the Range ∷ int ∷ the Start ∷ int ∷ below))
             (λ x. go self.now.limits self.now.lexemes.now x.1 0 below) result }
     {
         let (name, in_at) = self.name_at(at + 1)?;
@@ -176,9 +177,11 @@ impl<'a> Source<'a> {
     fn set(&self, at: u32) -> Result<(SetSyntax, u32), ParseFault>
         requires within { at < length self.now.lexemes.now }
         ensures later { IfOk result (λ x. (at < x.1) × (x.1 ≤ length self.now.lexemes.now)) }
-        ensures is { kind_at self.now.lexemes.now at ≡ code Task → IfOk result (λ x. IsSets self.now.text.now self.now.lexemes.now at (x.0 ∷ []) x.1) }
+        ensures is { kind_at self.now.lexemes.now at ≡ code Task →
+            IfOk result (λ x. IsSets self.now.text.now self.now.lexemes.now at (x.0 ∷ []) x.1) }
         ensures reads { (below : List Symbol) →
-            Answers (go self.now.limits self.now.lexemes.now (at + 1) 0 (the Dot ∷ field ∷ the Gets ∷ operand 0 0 0 ∷ the Comma ∷ below))
+            Answers (go self.now.limits self.now.lexemes.now (at + 1) 0
+            (the Dot ∷ field ∷ the Gets ∷ operand 0 0 0 ∷ the Comma ∷ below))
             (λ x. go self.now.limits self.now.lexemes.now x.1 0 below) result }
     {
         let word_at = self.expect(at + 1, Terminal::Dot)?;
@@ -350,7 +353,8 @@ impl<'a> Source<'a> {
         requires within { at < length self.now.lexemes.now }
         requires begins { kind_at self.now.lexemes.now at ≡ code On }
         ensures later { IfOk result (λ x. (at < x.1) × (x.1 ≤ length self.now.lexemes.now)) }
-        ensures is { IfOk result (λ x. IsHandler self.now.text.now self.now.lexemes.now at (handler_syntax_tree x.0) x.1) }
+        ensures is { IfOk result (λ x. IsHandler self.now.text.now self.now.lexemes.now at
+            (handler_syntax_tree x.0) x.1) }
         ensures reads { (below : List Symbol) →
             Answers (go self.now.limits self.now.lexemes.now at 0 (handlers ∷ below))
             (λ x. go self.now.limits self.now.lexemes.now x.1 0 (handlers ∷ below)) result }
@@ -388,7 +392,8 @@ impl<'a> Source<'a> {
     pub(crate) fn handlers(&self, at: u32) -> Result<(Items<HandlerSyntax>, u32), ParseFault>
         requires within { at ≤ length self.now.lexemes.now }
         ensures later { IfOk result (λ x. (at ≤ x.1) × (x.1 ≤ length self.now.lexemes.now)) }
-        ensures is { IfOk result (λ x. IsHandlers self.now.text.now self.now.lexemes.now at (map handler_syntax_tree x.0) x.1) }
+        ensures is { IfOk result (λ x. IsHandlers self.now.text.now self.now.lexemes.now at
+            (map handler_syntax_tree x.0) x.1) }
         ensures reads { (below : List Symbol) →
             Answers (go self.now.limits self.now.lexemes.now at 0 (handlers ∷ below))
             (λ x. go self.now.limits self.now.lexemes.now x.1 0 below) result }

@@ -1,6 +1,6 @@
 //! The syntax of a text.
 
-ghost use Rattle.std.specs.Prelude.{◌≡◌, ◌≤◌, length, IfOk, IfErr};
+ghost use Rattle.std.specs.Prelude.{◌≤◌, length, IfOk, IfErr};
 ghost use Rattle.policy_tree.specs.SyntaxTrees.{SyntaxTree, syntax_tree};
 ghost use Rattle.policy_lexer.specs.Tokens.{SpellsTokens};
 ghost use Rattle.sched_base.specs.declared.limits.TheConstants.{MAX_POLICY_BYTES};
@@ -21,7 +21,8 @@ use std::alloc::Global;
 pub fn parse(alloc: Global, text: &[u8], tokens: &[Token]) -> Result<Syntax, ParseFault>
     requires small { length text.now ≤ MAX_POLICY_BYTES }
     requires spells { SpellsTokens text.now tokens.now }
-    ensures syntax { IfOk result (λ s. IsWithin POLICY_LIMITS text.now (lexemes_of text.now tokens.now) (syntax_tree s)) }
+    ensures syntax { IfOk result (λ s. IsWithin POLICY_LIMITS text.now (lexemes_of text.now tokens.now)
+        (syntax_tree s)) }
     ensures only { IfOk result
         (λ s. IsOnlySyntax text.now (lexemes_of text.now tokens.now) (syntax_tree s)) }
     ensures fault { IfErr result (IsParseFault POLICY_LIMITS text.now (lexemes_of text.now tokens.now)) }

@@ -69,7 +69,8 @@ impl<'a> Source<'a> {
         ensures within { IfOk result (λ x. x.1 ≤ length self.now.lexemes.now) }
         ensures is { IfOk result (λ x. IsFront self.now.text.now self.now.lexemes.now x.0.name x.0.load x.0.attrs x.0.place x.0.elect x.1) }
         ensures reads { (below : List Symbol) →
-            Answers (go self.now.limits self.now.lexemes.now 0 0 (the Policy ∷ the Name ∷ the Load ∷ load_rule ∷ attrs 0 0 ∷ place ∷ elect ∷ below))
+            Answers (go self.now.limits self.now.lexemes.now 0 0
+            (the Policy ∷ the Name ∷ the Load ∷ load_rule ∷ attrs 0 0 ∷ place ∷ elect ∷ below))
             (λ x. go self.now.limits self.now.lexemes.now x.1 0 below) result }
     {
         let (name, load, attrs_at) = self.header()?;
@@ -119,8 +120,10 @@ impl<'a> Source<'a> {
     fn back(&self, at: u32) -> Result<Back, ParseFault>
         requires within { at ≤ length self.now.lexemes.now }
         ensures is { IfOk result (λ b. IsBack self.now.text.now self.now.lexemes.now at
-            (map handler_syntax_tree b.handlers) b.filter_at (condition_tree b.filter) b.choose_at b.choose b.steal_at b.steal) }
-        ensures reads { Answers (go self.now.limits self.now.lexemes.now at 0 (handlers ∷ the Filter ∷ condition ∷ the Choose ∷ order ∷ the Steal ∷ order ∷ []))
+            (map handler_syntax_tree b.handlers) b.filter_at
+            (condition_tree b.filter) b.choose_at b.choose b.steal_at b.steal) }
+        ensures reads { Answers (go self.now.limits self.now.lexemes.now at 0
+            (handlers ∷ the Filter ∷ condition ∷ the Choose ∷ order ∷ the Steal ∷ order ∷ []))
             (λ b. None) result }
     {
         let (handlers, filter_at) = self.handlers(at)?;

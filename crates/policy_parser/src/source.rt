@@ -2,7 +2,7 @@
 
 ghost use Rattle.std.specs.Prelude.{◌≡◌, ◌==◌, ◌<◌, ◌≤◌, ◌+◌, ◌^◌, ◌∷◌, ℕ, List, length, All, Ok, Err, IfOk, IfErr, IsTrue, true, false};
 ghost use Rattle.policy_grammar.specs.Terminals.{code, kind_at, lexeme_at, word_at, is_word};
-ghost use Rattle.policy_grammar.specs.Machine.{Symbol, the, field, go};
+ghost use Rattle.policy_grammar.specs.Machine.{Symbol, the, go};
 ghost use Rattle.policy_grammar.specs.declared.fault.ParseFault.TheVariants.{Memory, Unexpected};
 ghost use Rattle.policy_parser.specs.Answers.{Answers, LiesIn, IsWordFault};
 

@@ -1,8 +1,8 @@
 //! Tells the tokens of a text apart as the grammar does.
 
-ghost use Rattle.std.specs.Prelude.{◌≡◌, ◌<◌, ◌^◌, List, map, length, All, IfOk};
+ghost use Rattle.std.specs.Prelude.{◌≡◌, ◌<◌, ◌^◌, length, All, IfOk};
 ghost use Rattle.policy_parser.specs.Answers.{LiesIn};
-ghost use Rattle.policy_grammar.specs.Lexemes.{lexeme_of, lexemes_of, reserved_words, symbol_terminal, terminal_among, word_terminal};
+ghost use Rattle.policy_grammar.specs.Lexemes.{lexeme_of, lexemes_of, symbol_terminal, terminal_among, word_terminal};
 
 use policy_grammar::{Lexeme, Terminal};
 use policy_lexer::{Symbol, Token, TokenKind};

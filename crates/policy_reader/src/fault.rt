@@ -65,8 +65,8 @@ impl FaultKind {
 pub struct TextFault {
     /// What is wrong.
     pub kind: FaultKind,
-    /// The offset of the byte where it stands, counted from 0: where it is a token, of the token's first byte, and where
-    /// the text stops too soon, its length.
+    /// The offset of the byte where it stands, counted from 0: where it is a token, of the token's
+    /// first byte, and where the text stops too soon, its length.
     pub at: u32,
 }
 

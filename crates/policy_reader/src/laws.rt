@@ -18,7 +18,8 @@ pub fn law_spells_resolved()
     ensures { SpellsResolved }
 {}
 
-/// A text within the limit spells a policy or has a fault. So none is lost: for no text is want of memory the only answer.
+/// A text within the limit spells a policy or has a fault. So none is lost: for no text is want of
+/// memory the only answer.
 pub fn law_each_has_answer(text: &[u8])
     requires { length text.now ≤ MAX_POLICY_BYTES }
     ensures { HasAnswer text.now }

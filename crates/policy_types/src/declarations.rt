@@ -1,6 +1,6 @@
 //! What a syntax declares.
 
-ghost use Rattle.std.specs.Prelude.{◌≡◌, ◌<◌, ◌≤◌, ◌^◌, ◌++◌, ◌+◌, ◌-◌, [], ◌∷◌, IfOk, IfErr, length, true, unsigned_abs};
+ghost use Rattle.std.specs.Prelude.{◌≡◌, ◌<◌, ◌^◌, ◌++◌, ◌+◌, ◌-◌, [], ◌∷◌, IfOk, IfErr, length, true, unsigned_abs};
 ghost use Rattle.policy_types.specs.Declarations.{attr_faults, attr_meaning, attrs_faults, int_meaning, is_attribute_range, load_faults, load_meaning, nothing_declared, scope_after};
 ghost use Rattle.policy_types.specs.Faults.{IsFirst};
 

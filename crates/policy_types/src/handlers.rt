@@ -1,8 +1,8 @@
 //! Which handlers a syntax is.
 
-ghost use Rattle.std.specs.Prelude.{◌≡◌, ◌<◌, ◌^◌, length, [], IfOk, IfErr, Option, List, map, option_map, is_some, if◌then◌else◌, Some};
+ghost use Rattle.std.specs.Prelude.{◌≡◌, ◌<◌, ◌^◌, length, [], IfOk, IfErr, Option, map, option_map, is_some, if◌then◌else◌, Some};
 ghost use Rattle.policy_tree.specs.declared.typed.Event.{Event};
-ghost use Rattle.policy_tree.specs.Meaning.{CaseTree, case_tree, handler_trees, set_tree};
+ghost use Rattle.policy_tree.specs.Meaning.{case_tree, handler_trees, set_tree};
 ghost use Rattle.policy_tree.specs.SyntaxTrees.{case_syntax_tree, handler_syntax_tree};
 ghost use Rattle.policy_types.specs.Faults.{IsFirst};
 ghost use Rattle.policy_types.specs.Given.{cases_or, given_cases, given_or_default};

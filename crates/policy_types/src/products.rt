@@ -1,10 +1,8 @@
 //! The linear form of a term: a number times at most one variable.
 
-ghost use Rattle.std.specs.Prelude.{◌≡◌, ◌*◌, ◌&&◌, ℕ, pos, IsOk, IfOk, IfErr, MatchOption, true, Some, None, ⊤};
+ghost use Rattle.std.specs.Prelude.{◌≡◌, ◌*◌, ◌&&◌, ℕ, pos, MatchOption, true, Some, None, ⊤};
 ghost use Rattle.policy_tree.specs.Trees.{ExprTree, number, variable, negation, times};
 ghost use Rattle.policy_eval.specs.Forms.{has_reference};
-ghost use Rattle.policy_types.specs.Faults.{IsFirst};
-ghost use Rattle.policy_types.specs.Expressions.{product_faults};
 ghost use Rattle.policy_types.specs.Forms.{has_small_form};
 ghost use Rattle.policy_types.specs.Products.{IsKnown, IsProduct, IsScaledBy, IsSize};
 

@@ -1,6 +1,6 @@
 //! The linear form of a sum.
 
-ghost use Rattle.std.specs.Prelude.{◌≡◌, ℕ, ℤ, ◌+ℤ◌, pos, unsigned_abs, ◌<◌, ◌^◌, MatchOption, true, false};
+ghost use Rattle.std.specs.Prelude.{◌≡◌, ℕ, ℤ, ◌+ℤ◌, unsigned_abs, ◌<◌, ◌^◌, MatchOption, true, false};
 ghost use Rattle.policy_tree.specs.Trees.{ExprTree};
 ghost use Rattle.policy_types.specs.Expressions.{joined};
 ghost use Rattle.policy_types.specs.Forms.{has_small_form, is_small};

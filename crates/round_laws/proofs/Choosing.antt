@@ -19,7 +19,7 @@ use Rattle.round_model.specs.Attempts.{attempt_of, attempt_with, present_values,
 use Rattle.round_model.specs.Choices.{candidates_of, choice_of, is_candidate, prefers}
 use Rattle.round_model.specs.Cores.{Cores, thread_count}
 use Rattle.round_model.specs.Legal.{LegalNext}
-use Rattle.round_model.specs.Outcomes.{values_at}
+use Rattle.round_model.specs.Code.Outcomes.{values_at}
 use Rattle.round_model.specs.Reads.{ReadsFit, round_start}
 use Rattle.round_model.specs.Rows.{Row}
 use Rattle.round_model.specs.Scenes.{scene_of}

@@ -25,7 +25,7 @@ use Rattle.round_model.specs.declared.state.ModelCore.{ModelCore}
 use Rattle.round_model.specs.After.{after, moved, round_of}
 use Rattle.round_model.specs.Cores.{seen_of}
 use Rattle.round_model.specs.Fits.{Fits}
-use Rattle.round_model.specs.Kept.{Holds}
+use Rattle.round_model.specs.Code.Kept.{Holds}
 use Rattle.round_model.specs.Kinds.{is_steal}
 use Rattle.round_model.specs.Legal.{Legal, LegalNext}
 use Rattle.round_model.specs.Moves.{core_after_event, with_outcome, with_task}

@@ -20,11 +20,11 @@ use Rattle.round_model.specs.After.{after, moved, round_of}
 use Rattle.round_model.specs.Attempts.{present_values}
 use Rattle.round_model.specs.Cores.{Cores, load_of, seen_of, thread_count}
 use Rattle.round_model.specs.Fits.{Fits}
-use Rattle.round_model.specs.Kept.{Holds}
+use Rattle.round_model.specs.Code.Kept.{Holds}
 use Rattle.round_model.specs.Legal.{Legal, LegalNext}
 use Rattle.round_model.specs.Moves.{handed, is_task, queued_of, received}
-use Rattle.round_model.specs.Outcomes.{values_at}
-use Rattle.round_model.specs.Updates.{updated}
+use Rattle.round_model.specs.Code.Outcomes.{values_at}
+use Rattle.round_model.specs.Code.Updates.{updated}
 use Rattle.round_model.specs.Work.{before}
 use Rattle.round_model.proofs.Bounded.{bounds_law, stays}
 use Rattle.round_model.proofs.Grows.{legal_prefix}

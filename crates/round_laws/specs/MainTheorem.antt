@@ -16,8 +16,8 @@ pub record KeepsLaws (p : Meaning) (plan : Plan) (history : List Entry) : Type 0
   pub one_place : (k : ℕ) → k ≤ length history → OnePlace p plan (take k history)
   -- each failed steal follows a change of its thief or victim in its round
   pub fails_explained : FailsExplained p plan history
-  -- bad rounds are paid for by steals, and no core is idle beside an overloaded one N rounds after the first or later, for
-  -- each N with 2 N at least the first spread
+  -- bad rounds are paid for by steals, and no core is idle beside an overloaded one N rounds after the first or later,
+  -- for each N with 2 N at least the first spread
   pub still_rounds : StillRounds p plan history
 
 -- Under the policy every legal history of every plan that fits it keeps them.

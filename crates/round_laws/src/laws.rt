@@ -22,14 +22,15 @@ pub fn law_failed_steals()
 {}
 
 /// In still rounds each bad round has a steal, each steal lowers the spread of the loads by 2 at least, and no core is
-/// idle beside an overloaded one from the Round on that comes N rounds after the first, for each N with 2 N at least the
-/// first spread.
+/// idle beside an overloaded one from the Round on that comes N rounds after the first, for each N
+/// with 2 N at least the first spread.
 pub fn law_still_rounds()
     ensures { StillRoundsLaw }
 {}
 
-/// A policy that meets its obligations wastes no core in still rounds, in every legal history of every plan that fits it:
-/// for 1 to 32 cores, up to 1,023 threads and 4,096 rounds, and every interleaving of the cores' turns within a round.
+/// A policy that meets its obligations wastes no core in still rounds, in every legal history of
+/// every plan that fits it: for 1 to 32 cores, up to 1,023 threads and 4,096 rounds, and every
+/// interleaving of the cores' turns within a round.
 pub fn law_main_theorem()
     ensures { MainTheorem }
 {}

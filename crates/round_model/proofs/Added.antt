@@ -21,11 +21,11 @@ use Rattle.round_model.specs.Cores.{core_numbers, listed}
 use Rattle.round_model.specs.Entries.{acting_core, acts, ends, is_ended}
 use Rattle.round_model.specs.Kinds.{is_attempt, is_round, is_work}
 use Rattle.round_model.specs.Legal.{LegalNext, has_ended, rounds_begun}
-use Rattle.round_model.specs.Past.{IsPastOf, StandsFor, is_flagged, turn_of}
+use Rattle.round_model.specs.Code.Past.{IsPastOf, StandsFor, is_flagged, turn_of}
 use Rattle.round_model.specs.Rows.{Row}
 use Rattle.round_model.specs.Scenes.{own_entries, scene_of}
-use Rattle.round_model.specs.Steps.{MayBeSaid}
-use Rattle.round_model.specs.Additions.{IsAdded, ended_after, ended_by, turn_after}
+use Rattle.round_model.specs.Code.Steps.{MayBeSaid}
+use Rattle.round_model.specs.Code.Additions.{IsAdded, ended_after, ended_by, turn_after}
 use Rattle.round_model.proofs.Grows.{one_more}
 use Rattle.round_model.proofs.Keeping.{some_at}
 use Rattle.round_model.proofs.Longer.{begun_more, done_more, own_more, round_of_more}

@@ -15,10 +15,10 @@ use Rattle.round_model.specs.Entries.{acting_core, acts, lets_in}
 use Rattle.round_model.specs.Kinds.{is_round}
 use Rattle.round_model.specs.Legal.{LegalNext}
 use Rattle.round_model.specs.Moves.{without_first}
-use Rattle.round_model.specs.Past.{Awaits, arrival_of, arrives_at}
+use Rattle.round_model.specs.Code.Past.{Awaits, arrival_of, arrives_at}
 use Rattle.round_model.specs.Rows.{Row}
 use Rattle.round_model.specs.Scenes.{entering_next, is_entering, own_entries, scene_of}
-use Rattle.round_model.specs.Additions.{arrivals_after}
+use Rattle.round_model.specs.Code.Additions.{arrivals_after}
 use Rattle.round_model.proofs.Added.{acts_is, round_stays}
 use Rattle.round_model.proofs.Longer.{done_more, own_more, round_of_more}
 

@@ -25,14 +25,14 @@ use Rattle.round_model.specs.After.{round_of}
 use Rattle.round_model.specs.Bounds.{CoreInBounds, standing_count}
 use Rattle.round_model.specs.Cores.{opening_state, seen_of, tasks_of}
 use Rattle.round_model.specs.Entries.{acting_core, touches}
-use Rattle.round_model.specs.Kept.{Holds}
+use Rattle.round_model.specs.Code.Kept.{Holds}
 use Rattle.round_model.specs.Legal.{LegalNext}
-use Rattle.round_model.specs.Lists.{Lists}
-use Rattle.round_model.specs.Past.{IsPastOf, StandsFor, arrival_of, arrives_at, seen_in}
+use Rattle.round_model.specs.Code.Lists.{Lists}
+use Rattle.round_model.specs.Code.Past.{IsPastOf, StandsFor, arrival_of, arrives_at, seen_in}
 use Rattle.round_model.specs.Rows.{Row}
 use Rattle.round_model.specs.Scenes.{entering_next, own_entries, scene_of}
-use Rattle.round_model.specs.Steps.{comes}
-use Rattle.round_model.specs.Additions.{IsAdded, arrivals_after, ended_after, ended_by, turn_after}
+use Rattle.round_model.specs.Code.Steps.{comes}
+use Rattle.round_model.specs.Code.Additions.{IsAdded, arrivals_after, ended_after, ended_by, turn_after}
 use Rattle.round_model.proofs.Keeping.{All-append, All-one, All-without, all_hold, length-without, some_at}
 use Rattle.round_model.proofs.Pasts.{arriving_next}
 

@@ -12,9 +12,9 @@ use Rattle.round_model.specs.After.{after}
 use Rattle.round_model.specs.Cores.{listed, opening_state, seen_of}
 use Rattle.round_model.specs.Entries.{touches}
 use Rattle.round_model.specs.Kinds.{is_round}
-use Rattle.round_model.specs.Past.{Shows, StandsFor, seen_in}
+use Rattle.round_model.specs.Code.Past.{Shows, StandsFor, seen_in}
 use Rattle.round_model.specs.Reads.{round_start, value_read}
-use Rattle.round_model.specs.Additions.{IsAdded}
+use Rattle.round_model.specs.Code.Additions.{IsAdded}
 use Rattle.round_model.proofs.Grows.{untouched}
 use Rattle.round_model.proofs.Keeping.{some_at}
 use Rattle.round_model.proofs.Longer.{start_stays}

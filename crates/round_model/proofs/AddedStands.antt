@@ -7,8 +7,8 @@ use Rattle.round_model.specs.declared.plan.Plan.{Plan}
 use Rattle.round_model.specs.Entries.{acting_core}
 use Rattle.round_model.specs.Fits.{Fits}
 use Rattle.round_model.specs.Legal.{LegalNext}
-use Rattle.round_model.specs.Past.{Awaits, IsPastOf, StandsFor}
-use Rattle.round_model.specs.Additions.{IsAdded}
+use Rattle.round_model.specs.Code.Past.{Awaits, IsPastOf, StandsFor}
+use Rattle.round_model.specs.Code.Additions.{IsAdded}
 use Rattle.round_model.proofs.Added.{counts_added, ended_added, no_round, state_added, turns_added}
 use Rattle.round_model.proofs.AddedArrivals.{arrivals_added}
 use Rattle.round_model.proofs.AddedRows.{rows_added}

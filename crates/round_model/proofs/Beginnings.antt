@@ -18,8 +18,8 @@ use Rattle.round_model.specs.After.{after, after_from}
 use Rattle.round_model.specs.Bounds.{CoreInBounds, standing_count}
 use Rattle.round_model.specs.Cores.{core_numbers, listed, opening_state, seen_of}
 use Rattle.round_model.specs.Fits.{Fits}
-use Rattle.round_model.specs.Lists.{Lists}
-use Rattle.round_model.specs.Past.{IsPastOf, StandsFor, is_flagged, seen_in, turn_of}
+use Rattle.round_model.specs.Code.Lists.{Lists}
+use Rattle.round_model.specs.Code.Past.{IsPastOf, StandsFor, is_flagged, seen_in, turn_of}
 use Rattle.round_model.specs.Reads.{value_read}
 use Rattle.round_model.proofs.Openings.{opening_core}
 use Rattle.round_model.proofs.Walks.{nothing_legal}

@@ -18,10 +18,10 @@ use Rattle.round_model.specs.Cores.{core_numbers, seen_of}
 use Rattle.round_model.specs.Entries.{acting_core, ends}
 use Rattle.round_model.specs.Kinds.{is_attempt, is_work}
 use Rattle.round_model.specs.Legal.{IsDue, LegalNext, LegalRound, has_ended, is_due, rounds_begun}
-use Rattle.round_model.specs.Past.{StandsFor, arrival_of, arrives_at, is_flagged, seen_in, turn_of}
+use Rattle.round_model.specs.Code.Past.{StandsFor, arrival_of, arrives_at, is_flagged, seen_in, turn_of}
 use Rattle.round_model.specs.Reads.{round_start, value_read}
 use Rattle.round_model.specs.Scenes.{is_entering}
-use Rattle.round_model.specs.Additions.{IsBegun}
+use Rattle.round_model.specs.Code.Additions.{IsBegun}
 use Rattle.round_model.proofs.Grows.{legal_grows, one_more}
 use Rattle.round_model.proofs.Keeping.{some_at}
 use Rattle.round_model.proofs.Longer.{begun_more, own_none, round_of_more, start_of_round}

@@ -14,9 +14,9 @@ use Rattle.round_model.specs.declared.plan.Planned.{Planned}
 use Rattle.round_model.specs.declared.state.CountAndLoad.{CountAndLoad}
 use Rattle.round_model.specs.Bounds.{CoreInBounds, standing_count}
 use Rattle.round_model.specs.Fits.{Fits}
-use Rattle.round_model.specs.Past.{IsPastOf, arrival_of, seen_in}
-use Rattle.round_model.specs.Additions.{IsBegun}
-use Rattle.round_model.specs.Lists.{Lists}
+use Rattle.round_model.specs.Code.Past.{IsPastOf, arrival_of, seen_in}
+use Rattle.round_model.specs.Code.Additions.{IsBegun}
+use Rattle.round_model.specs.Code.Lists.{Lists}
 use Rattle.round_model.proofs.Keeping.{All-append, All-one, some_at}
 
 -- a test of order, counted

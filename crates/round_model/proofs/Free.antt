@@ -13,10 +13,10 @@ use Rattle.round_model.specs.After.{round_of}
 use Rattle.round_model.specs.Bounds.{standing_count}
 use Rattle.round_model.specs.Fits.{Fits}
 use Rattle.round_model.specs.Legal.{LegalNext}
-use Rattle.round_model.specs.Past.{IsPastOf, StandsFor, arrival_of, arrives_at}
+use Rattle.round_model.specs.Code.Past.{IsPastOf, StandsFor, arrival_of, arrives_at}
 use Rattle.round_model.specs.Rows.{Row}
 use Rattle.round_model.specs.Scenes.{entering_next, own_entries, scene_of}
-use Rattle.round_model.specs.Steps.{comes}
+use Rattle.round_model.specs.Code.Steps.{comes}
 use Rattle.round_model.proofs.Pasts.{arriving_next}
 
 some_found : (test : Arrival → Bool) (arrivals : List Arrival) (found : Option Planned) (id : ℕ) → find test arrivals ≡ option_map arrival_of found

@@ -18,11 +18,11 @@ use Rattle.round_model.specs.After.{entered, moved}
 use Rattle.round_model.specs.BoundsLaws.{named_count}
 use Rattle.round_model.specs.Cores.{Cores}
 use Rattle.round_model.specs.Fits.{Fits}
-use Rattle.round_model.specs.Kept.{Holds}
+use Rattle.round_model.specs.Code.Kept.{Holds}
 use Rattle.round_model.specs.Moves.{admitted, blocked_of, core_after_event, handed, is_blocked_task, is_task, queued_of, received, released}
 use Rattle.round_model.specs.Programs.{entering_task, planned_of}
-use Rattle.round_model.specs.Steps.{AreThere}
-use Rattle.round_model.specs.Updates.{updated}
+use Rattle.round_model.specs.Code.Steps.{AreThere}
+use Rattle.round_model.specs.Code.Updates.{updated}
 use Rattle.round_model.specs.Work.{core_after_work}
 use Rattle.round_model.proofs.BegunBounds.{counted}
 use Rattle.round_model.proofs.Directories.{is_thread}

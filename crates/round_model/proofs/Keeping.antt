@@ -28,11 +28,11 @@ use Rattle.round_model.specs.declared.unit.Unit.TheVariants as unit
 use Rattle.round_model.specs.Bounds.{CoreInBounds, standing_count}
 use Rattle.round_model.specs.Cores.{Cores, listed}
 use Rattle.round_model.specs.Fits.{Fits, ThreadFits}
-use Rattle.round_model.specs.Kept.{Holds, IsKept}
+use Rattle.round_model.specs.Code.Kept.{Holds, IsKept}
 use Rattle.round_model.specs.Moves.{admitted, blocked_of, core_after_event, handed, is_blocked_task, is_task, queued_of, received, released, with_task, without_first}
-use Rattle.round_model.specs.Updates.{updated}
-use Rattle.round_model.specs.Units.{HasTask, IsUnit, core_after_unit, without}
-use Rattle.round_model.specs.Outcomes.{IsCountable}
+use Rattle.round_model.specs.Code.Updates.{updated}
+use Rattle.round_model.specs.Code.Units.{HasTask, IsUnit, core_after_unit, without}
+use Rattle.round_model.specs.Code.Outcomes.{IsCountable}
 use Rattle.round_model.specs.Programs.{entering_task, planned_of, start_of}
 use Rattle.round_model.proofs.Directories.{is_thread}
 use Rattle.round_model.proofs.Finding.{find-All, find-append}

@@ -14,7 +14,7 @@ use Rattle.round_model.specs.declared.plan.Plan.{Plan}
 use Rattle.round_model.specs.Attempts.{attempt_on, present_values, steal_or_fail}
 use Rattle.round_model.specs.Choices.{candidates_of, choice_of, is_candidate, is_less, no_values, prefers, target_by, target_of, values_in}
 use Rattle.round_model.specs.Cores.{Cores}
-use Rattle.round_model.specs.Outcomes.{entry_with}
+use Rattle.round_model.specs.Code.Outcomes.{entry_with}
 use Rattle.round_model.specs.Work.{before}
 
 steal-entry : (by from : ℕ) (reads : List ℕ) (best : Option Task) → steal_or_fail by from reads best ≡ entry_with by from reads (option_map (λ t. t.id) best)

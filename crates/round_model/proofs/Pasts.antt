@@ -13,7 +13,7 @@ use Rattle.round_model.specs.declared.plan.Planned.{Planned}
 use Rattle.round_model.specs.After.{round_of}
 use Rattle.round_model.specs.Cores.{core_numbers}
 use Rattle.round_model.specs.Legal.{has_ended, is_complete, is_due, rounds_begun}
-use Rattle.round_model.specs.Past.{Awaits, StandsFor, arrival_of, arrives_at, is_flagged, turn_of}
+use Rattle.round_model.specs.Code.Past.{Awaits, StandsFor, arrival_of, arrives_at, is_flagged, turn_of}
 use Rattle.round_model.specs.Scenes.{entering_next, has_attempted, is_entering, own_entries}
 
 -- an alternative, and a condition more, by their first part

@@ -9,8 +9,8 @@ use Rattle.round_model.specs.declared.past.Past.{Past}
 use Rattle.round_model.specs.declared.plan.Plan.{Plan}
 use Rattle.round_model.specs.Choices.{values_in}
 use Rattle.round_model.specs.Fits.{Fits}
-use Rattle.round_model.specs.Outcomes.{ReadIn}
-use Rattle.round_model.specs.Past.{IsPastOf, StandsFor, seen_in}
+use Rattle.round_model.specs.Code.Outcomes.{ReadIn}
+use Rattle.round_model.specs.Code.Past.{IsPastOf, StandsFor, seen_in}
 use Rattle.round_model.specs.Reads.{read_values, round_start, value_read, values_of}
 
 -- of each core below that one the values are those of the row that was read

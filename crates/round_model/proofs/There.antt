@@ -16,7 +16,7 @@ use Rattle.round_model.specs.Legal.{LegalNext}
 use Rattle.round_model.specs.Reads.{read_values}
 use Rattle.round_model.specs.Rows.{Row}
 use Rattle.round_model.specs.Scenes.{scene_of}
-use Rattle.round_model.specs.Steps.{AreThere}
+use Rattle.round_model.specs.Code.Steps.{AreThere}
 use Rattle.round_model.specs.Work.{before}
 use Rattle.round_model.proofs.Outcomes.{choice_there, target_there}
 

@@ -6,7 +6,7 @@ use Rattle.std.proofs.lemmas.List.FromFn.{get_or-map-range_with_len}
 use Rattle.std.proofs.lemmas.List.Sums.{get_or-le-sum_by, sum-map, sum_by-cons, sum_by-set}
 use Rattle.round_model.specs.declared.state.ModelCore.{ModelCore}
 use Rattle.round_model.specs.Cores.{Cores, listed}
-use Rattle.round_model.specs.Updates.{updated}
+use Rattle.round_model.specs.Code.Updates.{updated}
 use Rattle.round_model.proofs.States.{listed_length, listed_same, listed_updated}
 
 -- sums of sums

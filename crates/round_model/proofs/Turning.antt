@@ -22,17 +22,17 @@ use Rattle.round_model.specs.Attempts.{attempt_of}
 use Rattle.round_model.specs.Choices.{target_of}
 use Rattle.round_model.specs.FreshReads.{fresh_reads, placement_reads}
 use Rattle.round_model.specs.Legal.{LegalInRound, LegalNext, rounds_begun}
-use Rattle.round_model.specs.Outcomes.{ReadIn, entry_of_attempt, values_at}
-use Rattle.round_model.specs.Past.{StandsFor}
-use Rattle.round_model.specs.Progress.{HasLetIn, OwesAttempt, OwesUnit}
+use Rattle.round_model.specs.Code.Outcomes.{ReadIn, entry_of_attempt, values_at}
+use Rattle.round_model.specs.Code.Past.{StandsFor}
+use Rattle.round_model.specs.Code.Progress.{HasLetIn, OwesAttempt, OwesUnit}
 use Rattle.round_model.specs.Reads.{ReadsFit, round_start}
 use Rattle.round_model.specs.Rows.{PlacementReads}
 use Rattle.round_model.specs.Scenes.{Scene, entering_next, has_attempted, has_worked, own_entries, scene_of, waking_next}
 use Rattle.round_model.specs.Serial.{attempt_step, enter_step, late_step, step_of, wake_step, with_entry, with_placed, with_work}
-use Rattle.round_model.specs.Turns.{IsLateStepOf, IsStepOf, MayAdd, placement_by, step_of_dids, with_step}
+use Rattle.round_model.specs.Code.Turns.{IsLateStepOf, IsStepOf, MayAdd, placement_by, step_of_dids, with_step}
 use Rattle.round_model.specs.Bursts.{HasBurst, HaveBursts, LiesIn}
 use Rattle.round_model.specs.Fits.{Fits}
-use Rattle.round_model.specs.Units.{IsUnit, dids_of_unit}
+use Rattle.round_model.specs.Code.Units.{IsUnit, dids_of_unit}
 use Rattle.round_model.specs.Work.{worked}
 use Rattle.round_model.proofs.Bursts.{elects_burst, have_bursts}
 use Rattle.round_model.proofs.Judging.{attempt_legal, enter_legal, some_blocked, some_named, wake_legal, work_legal}

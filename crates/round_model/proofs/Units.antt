@@ -24,8 +24,8 @@ use Rattle.round_model.specs.Cores.{tasks_of}
 use Rattle.round_model.specs.Fits.{Fits, IsLast, IsMiddle, IsProgram, ThreadFits}
 use Rattle.round_model.specs.Moves.{admitted, core_after_event, with_outcome, with_task}
 use Rattle.round_model.specs.Programs.{blocking, burst_of, ending_now, is_last_unit, meeting_at_end, meeting_of, place_after, planned_of, tick}
-use Rattle.round_model.specs.UnitSteps.{IsIdleCore, IsMet, Runs}
-use Rattle.round_model.specs.Units.{HasTask, IsUnit, core_after_unit, dids_of_unit, left_by, without}
+use Rattle.round_model.specs.Code.UnitSteps.{IsIdleCore, IsMet, Runs}
+use Rattle.round_model.specs.Code.Units.{HasTask, IsUnit, core_after_unit, dids_of_unit, left_by, without}
 use Rattle.round_model.specs.Work.{IsOutcomeOfWork, Worked, after_meeting, after_unit, before, core_after_work, did_of, elected, elected_over, met, run_over, with_current, worked}
 use Rattle.round_model.proofs.Directories.{is_thread}
 use Rattle.round_model.proofs.Finding.{find-All}

@@ -29,4 +29,5 @@ pub record HaveBursts (plan : Plan) (core : ModelCore) : Type 0 where
 
 -- so it is after every history, legal or not
 abbrev pub BurstsLaw : Type 0
-BurstsLaw = (p : Meaning) (plan : Plan) (history : List Entry) (c : ℕ) → Fits p plan → HaveBursts plan (after p plan history c)
+BurstsLaw = (p : Meaning) (plan : Plan) (history : List Entry) (c : ℕ) → Fits p plan →
+    HaveBursts plan (after p plan history c)

@@ -8,13 +8,13 @@ ghost use Rattle.round_model.specs.Bounds.{CoreInBounds, standing_count};
 ghost use Rattle.round_model.specs.Cores.{Cores, listed};
 ghost use Rattle.round_model.specs.Fits.{Fits};
 ghost use Rattle.round_model.specs.Legal.{LegalNext};
-ghost use Rattle.round_model.specs.Lists.{Lists};
-ghost use Rattle.round_model.specs.Past.{IsPastOf, IsWindow, OfEach, StandsFor};
-ghost use Rattle.round_model.specs.Kept.{Holds, IsKept};
-ghost use Rattle.round_model.specs.Steps.{comes, AreThere, IsNextAfter, MayBeSaid};
-ghost use Rattle.round_model.specs.Additions.{IsAdded, IsBegun, IsNoted};
-ghost use Rattle.round_model.specs.Outcomes.{IsCountable};
-ghost use Rattle.round_model.specs.Units.{IsSmallCore};
+ghost use Rattle.round_model.specs.Code.Lists.{Lists};
+ghost use Rattle.round_model.specs.Code.Past.{IsPastOf, IsWindow, OfEach, StandsFor};
+ghost use Rattle.round_model.specs.Code.Kept.{Holds, IsKept};
+ghost use Rattle.round_model.specs.Code.Steps.{comes, AreThere, IsNextAfter, MayBeSaid};
+ghost use Rattle.round_model.specs.Code.Additions.{IsAdded, IsBegun, IsNoted};
+ghost use Rattle.round_model.specs.Code.Outcomes.{IsCountable};
+ghost use Rattle.round_model.specs.Code.Units.{IsSmallCore};
 
 use crate::changes::{enter, steal, wake, work};
 use crate::directory::Directory;
@@ -129,7 +129,8 @@ fn change(
     ensures ok { OnOk result ((n : ℕ) (m : Cores) → state.old ≡ listed n m → AreThere n entry.now →
         MayBeSaid (meaning_of policy.now) plan.now round m entry.now →
         state.new ≡ listed n (moved (meaning_of policy.now) plan.now round entry.now m)) }
-    ensures kept { OnOk result (All (Holds (meaning_of policy.now)) state.old → IsKept (meaning_of policy.now) 0 (comes entry.now) state.old state.new) }
+    ensures kept { OnOk result (All (Holds (meaning_of policy.now)) state.old →
+        IsKept (meaning_of policy.now) 0 (comes entry.now) state.old state.new) }
     ensures err { OnErr result (state.new ≡ state.old) }
 {
     match *entry {

@@ -12,7 +12,7 @@ ghost use Rattle.round_model.specs.Attempts.{attempt_on, attempt_with, present_v
 ghost use Rattle.round_model.specs.Bounds.{CoreInBounds};
 ghost use Rattle.round_model.specs.Cores.{Cores, listed};
 ghost use Rattle.round_model.specs.Fits.{Fits};
-ghost use Rattle.round_model.specs.Outcomes.{IsCountable, entry_of_attempt, entry_with};
+ghost use Rattle.round_model.specs.Code.Outcomes.{IsCountable, entry_of_attempt, entry_with};
 ghost use Rattle.round_model.specs.Work.{before};
 ghost use Rattle.round_model.specs.declared.state.ModelCore.{ModelCore};
 
@@ -99,7 +99,8 @@ fn filter_holds(policy: &Policy, plan: &Plan, state: &State, core: CoreId, victi
     requires core { core < plan.now.cores }
     requires victim { victim < plan.now.cores }
     ensures { (m : Cores) → state.now ≡ listed plan.now.cores m → result
-        ≡ holds_at (pair_values (present_values plan.now m core) (present_values plan.now m victim)) (cond_tree policy.now.filter) }
+        ≡ holds_at (pair_values (present_values plan.now m core) (present_values plan.now m victim))
+        (cond_tree policy.now.filter) }
 {
     let own = present(plan, state, core);
     let other = present(plan, state, victim);

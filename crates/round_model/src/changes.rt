@@ -11,10 +11,10 @@ ghost use Rattle.round_model.specs.After.{moved};
 ghost use Rattle.round_model.specs.Bounds.{CoreInBounds};
 ghost use Rattle.round_model.specs.Cores.{Cores, listed};
 ghost use Rattle.round_model.specs.Fits.{Fits};
-ghost use Rattle.round_model.specs.Kept.{Holds, IsKept};
-ghost use Rattle.round_model.specs.Lists.{Lists};
+ghost use Rattle.round_model.specs.Code.Kept.{Holds, IsKept};
+ghost use Rattle.round_model.specs.Code.Lists.{Lists};
 ghost use Rattle.round_model.specs.Programs.{entering_task as task_entering, starting_attrs as attrs_at_start};
-ghost use Rattle.round_model.specs.Units.{IsSmallCore};
+ghost use Rattle.round_model.specs.Code.Units.{IsSmallCore};
 ghost use Rattle.round_model.specs.Work.{IsOutcomeOfWork};
 
 use crate::directory::{Directory, planned};
@@ -76,7 +76,8 @@ pub(crate) fn wake(
     requires room { All IsSmallCore state.old }
     requires by { by < length state.old }
     requires at { at < length state.old }
-    ensures ok { OnOk result ((n : ℕ) (m : Cores) (plan : Plan) (round : ℕ) (reads : List ℕ) → state.old ≡ listed n m → by < n → at < n →
+    ensures ok { OnOk result ((n : ℕ) (m : Cores) (plan : Plan) (round : ℕ) (reads : List ℕ) → state.old ≡ listed n m →
+        by < n → at < n →
         state.new ≡ listed n (moved (meaning_of policy.now) plan round (entry.Wake thread by at reads) m)) }
     ensures kept { OnOk result (IsKept (meaning_of policy.now) 0 0 state.old state.new) }
     ensures err { OnErr result (state.new ≡ state.old) }
@@ -132,7 +133,8 @@ pub(crate) fn steal(
     requires room { All IsSmallCore state.old }
     requires by { by < length state.old }
     requires from { from < length state.old }
-    ensures ok { OnOk result ((n : ℕ) (m : Cores) (p : Meaning) (plan : Plan) (round : ℕ) (reads : List ℕ) → state.old ≡ listed n m → by < n → from < n →
+    ensures ok { OnOk result ((n : ℕ) (m : Cores) (p : Meaning) (plan : Plan) (round : ℕ) (reads : List ℕ) →
+        state.old ≡ listed n m → by < n → from < n →
         state.new ≡ listed n (moved p plan round (entry.Steal by from thread reads) m)) }
     ensures kept { OnOk result ((p : Meaning) → All (Holds p) state.old → IsKept p 0 0 state.old state.new) }
     ensures err { OnErr result (state.new ≡ state.old) }

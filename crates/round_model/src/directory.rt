@@ -3,7 +3,7 @@
 ghost use Rattle.std.specs.Prelude.{◌≡◌, IfOk, MatchOption, None, Some};
 ghost use Rattle.policy_tree.specs.Meaning.{Meaning};
 ghost use Rattle.round_model.specs.Fits.{Fits};
-ghost use Rattle.round_model.specs.Lists.{Lists};
+ghost use Rattle.round_model.specs.Code.Lists.{Lists};
 ghost use Rattle.round_model.specs.Programs.{burst_of as next_burst, planned_of};
 
 use crate::memory::ModelMemory;

@@ -3,7 +3,7 @@
 ghost use Rattle.std.specs.Prelude.{◌≡◌, ◌<◌, ◌^◌, All, MatchOption, Some, [], length, slice_get};
 ghost use Rattle.policy_tree.specs.Meaning.{order_tree};
 ghost use Rattle.policy_eval.specs.Evaluable.{IsEvaluableOrder};
-ghost use Rattle.round_model.specs.UnitSteps.{IsBestPlace, IsSeenTask};
+ghost use Rattle.round_model.specs.Code.UnitSteps.{IsBestPlace, IsSeenTask};
 ghost use Rattle.round_model.specs.Work.{before as comes_before};
 
 use policy_eval::{Env, better};

@@ -7,8 +7,8 @@ ghost use Rattle.round_model.specs.After.{after};
 ghost use Rattle.round_model.specs.Attempts.{attempt_of};
 ghost use Rattle.round_model.specs.Choices.{choice_of, target_of, values_in};
 ghost use Rattle.round_model.specs.Fits.{Fits};
-ghost use Rattle.round_model.specs.Outcomes.{IsAttemptBy, IsPlacedBy, ReadIn, entry_of_attempt, values_at};
-ghost use Rattle.round_model.specs.Past.{IsPastOf, IsWindow, OfEach, seen_in};
+ghost use Rattle.round_model.specs.Code.Outcomes.{IsAttemptBy, IsPlacedBy, ReadIn, entry_of_attempt, values_at};
+ghost use Rattle.round_model.specs.Code.Past.{IsPastOf, IsWindow, OfEach, seen_in};
 ghost use Rattle.round_model.specs.Reads.{ReadsFit, round_start, values_of};
 
 use crate::attempts::{Attempt, outcome};

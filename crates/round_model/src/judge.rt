@@ -1,15 +1,15 @@
 //! Whether an entry is legal next.
 
-ghost use Rattle.std.specs.Prelude.{◌≡◌, ◌↔◌, ◌-◌, ◌<◌, ◌^◌, IsTrue};
+ghost use Rattle.std.specs.Prelude.{◌↔◌, ◌-◌, ◌<◌, ◌^◌, IsTrue};
 ghost use Rattle.sched_base.specs.declared.limits.TheConstants.{MAX_ENTRIES};
 ghost use Rattle.policy_tree.specs.Meaning.{Meaning, meaning_of};
 ghost use Rattle.policy_eval.specs.Obligations.{MeetsHandlerObligations};
 ghost use Rattle.round_model.specs.declared.entry.Entry.TheVariants as entry;
 ghost use Rattle.round_model.specs.Fits.{Fits};
 ghost use Rattle.round_model.specs.Legal.{LegalInRound, LegalNext, LegalRound};
-ghost use Rattle.round_model.specs.Outcomes.{entry_of_attempt};
-ghost use Rattle.round_model.specs.Past.{IsPastOf, OfEach};
-ghost use Rattle.round_model.specs.Steps.{IsNextAfter};
+ghost use Rattle.round_model.specs.Code.Outcomes.{entry_of_attempt};
+ghost use Rattle.round_model.specs.Code.Past.{IsPastOf, OfEach};
+ghost use Rattle.round_model.specs.Code.Steps.{IsNextAfter};
 
 use crate::attempts::Attempt;
 use crate::entry::{Did, Entry};
@@ -73,7 +73,8 @@ fn is_legal(policy: &Policy, plan: &Plan, past: &Past, entry: &Entry) -> bool
 /// Whether the round of that number may begin.
 fn may_begin(plan: &Plan, past: &Past, number: u32) -> bool
     requires { past.now.rounds < 2 ^ 32 - 1 }
-    ensures { (p : Meaning) → OfEach p plan.now past.now (λ history. IsTrue result ↔ LegalRound plan.now history number) }
+    ensures { (p : Meaning) → OfEach p plan.now past.now
+        (λ history. IsTrue result ↔ LegalRound plan.now history number) }
 {
     past.is_complete() && round_due(plan, past) && number == past.rounds + 1
 }

@@ -8,10 +8,10 @@ ghost use Rattle.policy_eval.specs.Resolved.{IsResolved};
 ghost use Rattle.round_model.specs.Bounds.{CoreInBounds};
 ghost use Rattle.round_model.specs.Cores.{Cores, listed};
 ghost use Rattle.round_model.specs.declared.state.ModelCore.{ModelCore};
-ghost use Rattle.round_model.specs.Kept.{IsKept};
+ghost use Rattle.round_model.specs.Code.Kept.{IsKept};
 ghost use Rattle.round_model.specs.Moves.{admitted, blocked_of, handed, is_blocked_task, is_task, queued_of, received, released, with_task};
-ghost use Rattle.round_model.specs.Units.{IsSmallCore};
-ghost use Rattle.round_model.specs.Updates.{IsFirstPlace, updated};
+ghost use Rattle.round_model.specs.Code.Units.{IsSmallCore};
+ghost use Rattle.round_model.specs.Code.Updates.{IsFirstPlace, updated};
 
 use crate::memory::ModelMemory;
 use crate::state::{Blocked, ModelCore, State};

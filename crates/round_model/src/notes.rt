@@ -4,10 +4,10 @@ ghost use Rattle.std.specs.Prelude.{◌≡◌, ◌||◌, ◌<◌, ◌≤◌, All
 ghost use Rattle.round_model.specs.declared.past.Turn.{Turn};
 ghost use Rattle.round_model.specs.Kinds.{is_attempt as makes_attempt, is_work as runs_unit};
 ghost use Rattle.round_model.specs.Moves.{without_first};
-ghost use Rattle.round_model.specs.Outcomes.{IsCountable};
-ghost use Rattle.round_model.specs.Updates.{IsFirstPlace};
-ghost use Rattle.round_model.specs.Past.{arrives_at};
-ghost use Rattle.round_model.specs.Notes.{IsLook};
+ghost use Rattle.round_model.specs.Code.Outcomes.{IsCountable};
+ghost use Rattle.round_model.specs.Code.Updates.{IsFirstPlace};
+ghost use Rattle.round_model.specs.Code.Past.{arrives_at};
+ghost use Rattle.round_model.specs.Code.Notes.{IsLook};
 
 use crate::entry::Entry;
 use crate::past::{Arrival, Row, Turn};

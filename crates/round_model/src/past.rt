@@ -9,7 +9,7 @@ ghost use Rattle.round_model.specs.Cores.{listed, opening_state};
 ghost use Rattle.round_model.specs.Fits.{Fits};
 ghost use Rattle.std.specs.List.{list_all, list_any};
 ghost use Rattle.round_model.specs.Legal.{is_complete as is_complete_after, is_due as is_due_after};
-ghost use Rattle.round_model.specs.Past.{IsPastOf, IsWindow, StandsFor, is_flagged};
+ghost use Rattle.round_model.specs.Code.Past.{IsPastOf, IsWindow, StandsFor, is_flagged};
 
 use crate::directory::{Directory, directory_of};
 use crate::memory::ModelMemory;

@@ -1,12 +1,12 @@
 //! How far the cores have come in the open round.
 
-ghost use Rattle.std.specs.Prelude.{◌≡◌, ◌↔◌, ◌<◌, IsTrue, List, find, length, option_map};
+ghost use Rattle.std.specs.Prelude.{◌≡◌, ◌↔◌, ◌<◌, IsTrue, find, length, option_map};
 ghost use Rattle.policy_tree.specs.Meaning.{Meaning};
 ghost use Rattle.round_model.specs.declared.plan.Plan.{Plan};
 ghost use Rattle.round_model.specs.declared.state.Blocked.{Blocked};
 ghost use Rattle.round_model.specs.After.{after, round_of};
-ghost use Rattle.round_model.specs.Past.{OfEach, arrives_at};
-ghost use Rattle.round_model.specs.Progress.{HasLetIn, OwesAttempt, OwesUnit};
+ghost use Rattle.round_model.specs.Code.Past.{OfEach, arrives_at};
+ghost use Rattle.round_model.specs.Code.Progress.{HasLetIn, OwesAttempt, OwesUnit};
 ghost use Rattle.round_model.specs.Scenes.{entering_next, is_due_blocked, own_entries, waking_next};
 
 use crate::past::{Arrival, Past};

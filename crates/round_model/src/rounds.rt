@@ -3,7 +3,7 @@
 ghost use Rattle.std.specs.Prelude.{◌≡◌, ◌+◌, ◌==◌, ◌<◌, ℕ, List, [], ◌∷◌, IfOk, Some, false, filter, length, map, replicate, slice_get};
 ghost use Rattle.round_model.specs.declared.state.CountAndLoad.{CountAndLoad};
 ghost use Rattle.round_model.specs.declared.plan.Planned.{Planned};
-ghost use Rattle.round_model.specs.Past.{arrival_of};
+ghost use Rattle.round_model.specs.Code.Past.{arrival_of};
 
 use crate::memory::ModelMemory;
 use crate::past::{Arrival, Row, Turn};

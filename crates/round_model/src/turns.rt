@@ -10,12 +10,12 @@ ghost use Rattle.round_model.specs.Choices.{target_of};
 ghost use Rattle.round_model.specs.Entries.{acting_core};
 ghost use Rattle.round_model.specs.Fits.{Fits};
 ghost use Rattle.round_model.specs.Legal.{LegalNext, rounds_begun};
-ghost use Rattle.round_model.specs.Outcomes.{ReadIn, values_at};
-ghost use Rattle.round_model.specs.Past.{IsPastOf, OfEach};
+ghost use Rattle.round_model.specs.Code.Outcomes.{ReadIn, values_at};
+ghost use Rattle.round_model.specs.Code.Past.{IsPastOf, OfEach};
 ghost use Rattle.round_model.specs.Scenes.{has_attempted, own_entries};
-ghost use Rattle.round_model.specs.Progress.{HasLetIn, OwesAttempt};
+ghost use Rattle.round_model.specs.Code.Progress.{HasLetIn, OwesAttempt};
 ghost use Rattle.round_model.specs.Work.{worked};
-ghost use Rattle.round_model.specs.Turns.{ActsBy, HasWoken, IsLateStepOf, IsStepOf, MayAdd, placement_by, step_of_dids};
+ghost use Rattle.round_model.specs.Code.Turns.{ActsBy, HasWoken, IsLateStepOf, IsStepOf, MayAdd, placement_by, step_of_dids};
 
 use crate::attempts::Attempt;
 use crate::entry::Entry;
@@ -147,7 +147,8 @@ fn work_step(policy: &Policy, plan: &Plan, past: &Past, core: CoreId) -> NextSte
     requires past { IsPastOf (meaning_of policy.now) plan.now past.now }
     requires core { core < plan.now.cores }
     ensures step { OfEach (meaning_of policy.now) plan.now past.now (λ history. result ≡ step_of_dids core
-        (worked (meaning_of policy.now) plan.now (round_of history) (after (meaning_of policy.now) plan.now history core)).dids) }
+        (worked (meaning_of policy.now) plan.now (round_of history)
+        (after (meaning_of policy.now) plan.now history core)).dids) }
     ensures acts { ActsBy core result }
     ensures looks { result ≢ next.Looks }
     ensures runs { OfEach (meaning_of policy.now) plan.now past.now (λ history. result ≢ next.Over) }
@@ -166,8 +167,10 @@ fn attempt_entry(policy: &Policy, plan: &Plan, past: &Past, core: CoreId, reads:
     requires core { core < plan.now.cores }
     requires read { ReadIn plan.now past.now reads }
     ensures acts { acting_core result ≡ Some core }
-    ensures attempt { OfEach (meaning_of policy.now) plan.now past.now (λ history. result ≡ attempt_of (meaning_of policy.now)
-        plan.now (after (meaning_of policy.now) plan.now history) (values_at (meaning_of policy.now) plan.now history reads) core reads) }
+    ensures attempt { OfEach (meaning_of policy.now) plan.now past.now
+        (λ history. result ≡ attempt_of (meaning_of policy.now)
+        plan.now (after (meaning_of policy.now) plan.now history)
+        (values_at (meaning_of policy.now) plan.now history reads) core reads) }
     ensures legal { OfEach (meaning_of policy.now) plan.now past.now (λ history. 0 < rounds_begun history →
         OwesAttempt history core → LegalNext (meaning_of policy.now) plan.now history result) }
 {

@@ -8,10 +8,10 @@ ghost use Rattle.policy_eval.specs.Ranges.{AreIn, attribute_ranges};
 ghost use Rattle.policy_eval.specs.Resolved.{IsResolved};
 ghost use Rattle.round_model.specs.Bounds.{CoreInBounds};
 ghost use Rattle.round_model.specs.Fits.{Fits};
-ghost use Rattle.round_model.specs.Lists.{Lists};
+ghost use Rattle.round_model.specs.Code.Lists.{Lists};
 ghost use Rattle.round_model.specs.Programs.{is_endless as has_no_end, is_last_unit as is_last, meeting_of as meeting_at, place_after as next_place};
-ghost use Rattle.round_model.specs.UnitSteps.{IsIdleCore, IsMeeting, IsMet, Runs};
-ghost use Rattle.round_model.specs.Units.{HasTask, IsSmallCore, IsUnit, Stands, core_after_unit, dids_of_unit, with_listed, without};
+ghost use Rattle.round_model.specs.Code.UnitSteps.{IsIdleCore, IsMeeting, IsMet, Runs};
+ghost use Rattle.round_model.specs.Code.Units.{HasTask, IsSmallCore, IsUnit, Stands, core_after_unit, dids_of_unit, with_listed, without};
 
 use crate::directory::{Directory, next_burst_of};
 use crate::election::best_place;

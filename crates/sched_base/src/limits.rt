@@ -79,6 +79,9 @@ pub const MAX_ROW_COEFFICIENT: u64 = 4_398_046_511_104;
 /// The greatest magnitude of the right side of a row of a system.
 pub const MAX_ROW_BOUND: u64 = 4_611_686_018_427_387_904;
 
+/// The most splits that stand one within another in a certificate that is written or read.
+pub const MAX_SPLITS: u32 = 128;
+
 /// The most points of a system that the checker promises to decide.
 pub const CHECK_BUDGET: u64 = 65_536;
 

@@ -39,10 +39,12 @@ NamesThread (did.Ended thread) = IsThreadNumber thread
 -- all numbers of the entry are in their ranges
 abbrev pub IsPrintable : Entry → Type 0
 IsPrintable (entry.Round number) = IsRoundNumber number
-IsPrintable (entry.Enter thread by at reads) = IsThreadNumber thread × IsCoreNumber by × IsCoreNumber at × AreReads reads
+IsPrintable (entry.Enter thread by at reads) = IsThreadNumber thread × IsCoreNumber by × IsCoreNumber at
+    × AreReads reads
 IsPrintable (entry.Wake thread by at reads) = IsThreadNumber thread × IsCoreNumber by × IsCoreNumber at × AreReads reads
 IsPrintable (entry.Work by what) = IsCoreNumber by × NamesThread what
-IsPrintable (entry.Steal by from thread reads) = IsCoreNumber by × IsCoreNumber from × IsThreadNumber thread × AreReads reads
+IsPrintable (entry.Steal by from thread reads) = IsCoreNumber by × IsCoreNumber from × IsThreadNumber thread
+    × AreReads reads
 IsPrintable (entry.Fail by from reads) = IsCoreNumber by × IsCoreNumber from × AreReads reads
 IsPrintable (entry.Pass by reads) = IsCoreNumber by × AreReads reads
 

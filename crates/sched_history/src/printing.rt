@@ -1,6 +1,6 @@
 //! How an entry is written.
 
-ghost use Rattle.std.specs.Prelude.{◌≡◌, ◌+◌, ◌≤◌, ℕ, List, [], ◌++◌, All, codes, length};
+ghost use Rattle.std.specs.Prelude.{◌≡◌, ◌+◌, ◌≤◌, [], ◌++◌, All, codes, length};
 ghost use Rattle.sched_io.specs.Puts.{Puts};
 ghost use Rattle.sched_history.specs.Ranges.{IsPrintable};
 ghost use Rattle.sched_history.specs.Spelling.{line_of_entry, lines_of_history, spaced, spaced_number, words_of_entry, words_of_work};

@@ -21,7 +21,8 @@ pub record StopsBehind (count : ℕ) (lines : List (List ℕ)) (before after : S
   pub bytes : Adds (joined (take count lines)) before.written after.written
   pub pieces : Grows (take (count + 1) lines) before.offered after.offered
 
--- A put failed, and not all of the lines was written: where the sink tells its pieces just the lines before the failing put.
+-- A put failed, and not all of the lines was written: where the sink tells its pieces just the lines before the failing
+-- put.
 pub record WritesPart (lines : List (List ℕ)) (before after : Shown) : Type 0 where
   pub bytes : AddsPart (joined lines) before.written after.written
   pub stops : WhereTold after.offered ((count : ℕ) × StopsBehind count lines before after)
@@ -29,4 +30,5 @@ pub record WritesPart (lines : List (List ℕ)) (before after : Shown) : Type 0 
 
 -- what a call did that puts these lines
 abbrev pub Puts : {T E : Type 0} → List (List ℕ) → Result T E → Shown → Shown → Type 0
-Puts lines result before after = MatchResult result (λ done. WritesAll lines before after) (λ fault. WritesPart lines before after)
+Puts lines result before after = MatchResult result (λ done. WritesAll lines before after)
+    (λ fault. WritesPart lines before after)

@@ -1,8 +1,8 @@
-//! The real files. They tell nothing of what they hold, and no proof speaks of what the system does: how a file that was
-//! opened is read is proved, and failures are counted.
+//! The real files. They tell nothing of what they hold, and no proof speaks of what the system
+//! does: how a file that was opened is read is proved, and failures are counted.
 
-ghost use Rattle.std.specs.Prelude.{◌≡◌, ◌<◌, ◌≤◌, ℕ, List, IfOk, IfSome, IsErrOf, None, Option, length, vec_len};
-ghost use Rattle.sched_io.specs.Told.{Told, untold};
+ghost use Rattle.std.specs.Prelude.{◌≡◌, ◌<◌, ◌≤◌, IfOk, IfSome, IsErrOf, None, length, vec_len};
+ghost use Rattle.sched_io.specs.Told.{untold};
 
 use crate::faults::LoadFault;
 use crate::sources::Files;

@@ -1,6 +1,6 @@
 //! Files in memory.
 
-ghost use Rattle.std.specs.Prelude.{◌≡◌, ◌≢◌, ℕ, ◌<◌, ◌≤◌, ◌⊎◌, List, [], ◌∷◌, Contains, IfOk, IsErrOf, MatchOption, None, Some, length, map, min, ◌+◌, string_bytes, vec_len};
+ghost use Rattle.std.specs.Prelude.{◌≡◌, ℕ, ◌<◌, ◌≤◌, ◌⊎◌, List, [], ◌∷◌, Contains, IfOk, IsErrOf, MatchOption, None, Some, length, map, min, ◌+◌, string_bytes, vec_len};
 ghost use Rattle.sched_io.specs.Faults.{Rose};
 ghost use Rattle.sched_io.specs.InMemory.{told_among};
 ghost use Rattle.sched_io.specs.Loads.{Asks, request};
@@ -45,7 +45,8 @@ impl MemoryFiles {
 
     /// The loads so far, each a name and its limit in bytes, as long as there was memory to keep them.
     pub fn asked(&self) -> Option<&[(String, u64)]>
-        ensures { MatchOption result (asked_of self.now ≡ None) (λ kept. asked_of self.now ≡ Some (map request_in kept.now)) }
+        ensures { MatchOption result (asked_of self.now ≡ None)
+            (λ kept. asked_of self.now ≡ Some (map request_in kept.now)) }
     {
         match &self.asked {
             Some(kept) => Some(kept.as_slice()),

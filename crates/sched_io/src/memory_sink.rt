@@ -56,7 +56,8 @@ impl MemorySink {
 
     /// The pieces that it was offered, as long as there was memory to keep them.
     pub fn offered(&self) -> Option<&[Vec<u8>]>
-        ensures { MatchOption result (offered_to self.now ≡ None) (λ kept. offered_to self.now ≡ Some (map (λ piece. piece.items) kept.now)) }
+        ensures { MatchOption result (offered_to self.now ≡ None)
+            (λ kept. offered_to self.now ≡ Some (map (λ piece. piece.items) kept.now)) }
     {
         match &self.offered {
             Some(kept) => Some(kept.as_slice()),
@@ -83,7 +84,8 @@ impl Sink for MemorySink {
     ghost shown = { shown_by_memory };
 
     fn put(&mut self, piece: &[u8]) -> Result<u64, PutFault>
-        ensures takes { IfOk result (λ count. Takes piece.now count (shown_by_memory self.old) (shown_by_memory self.new)) }
+        ensures takes { IfOk result (λ count. Takes piece.now count (shown_by_memory self.old)
+            (shown_by_memory self.new)) }
         ensures refuses { OnErr result (Refuses piece.now (shown_by_memory self.old) (shown_by_memory self.new)) }
 
         ensures whole { IfOk result (λ count. count ≡ length piece.now) }

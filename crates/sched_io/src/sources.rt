@@ -1,6 +1,6 @@
 //! Where files come from.
 
-ghost use Rattle.std.specs.Prelude.{◌≡◌, ◌≢◌, ℕ, ◌<◌, ◌≤◌, ◌⊎◌, List, [], ◌∷◌, IfOk, IsErrOf, Option, length, vec_len};
+ghost use Rattle.std.specs.Prelude.{◌≡◌, ℕ, ◌<◌, ◌≤◌, ◌⊎◌, List, [], ◌∷◌, IfOk, IsErrOf, Option, length, vec_len};
 ghost use Rattle.sched_io.specs.Faults.{Rose};
 ghost use Rattle.sched_io.specs.Loads.{Asks, Request, request};
 ghost use Rattle.sched_io.specs.Told.{Told, IfHolds, missing};
@@ -8,8 +8,8 @@ ghost use Rattle.sched_io.specs.Told.{Told, IfHolds, missing};
 use crate::faults::LoadFault;
 use std::alloc::Global;
 
-/// A source of files. It may tell of a name whether a file has it, of a file its bytes, and for which files it was asked;
-/// it counts its faults.
+/// A source of files. It may tell of a name whether a file has it, of a file its bytes, and for
+/// which files it was asked; it counts its faults.
 pub trait Files {
     /// What it tells of a name.
     ghost told: { Self → List ℕ → Told };

@@ -51,7 +51,8 @@ impl Sink for SteadySink {
     ghost shown = { shown_by_steady };
 
     fn put(&mut self, piece: &[u8]) -> Result<u64, PutFault>
-        ensures takes { IfOk result (λ count. Takes piece.now count (shown_by_steady self.old) (shown_by_steady self.new)) }
+        ensures takes { IfOk result (λ count. Takes piece.now count (shown_by_steady self.old)
+            (shown_by_steady self.new)) }
         ensures refuses { OnErr result (Refuses piece.now (shown_by_steady self.old) (shown_by_steady self.new)) }
 
         ensures never { IsOk result }

@@ -37,7 +37,8 @@ impl<W: Write> Sink for WriterSink<W> {
     ghost shown = { shown_by_writer };
 
     fn put(&mut self, piece: &[u8]) -> Result<u64, PutFault>
-        ensures takes { IfOk result (λ count. Takes piece.now count (shown_by_writer self.old) (shown_by_writer self.new)) }
+        ensures takes { IfOk result (λ count. Takes piece.now count (shown_by_writer self.old)
+            (shown_by_writer self.new)) }
         ensures refuses { OnErr result (Refuses piece.now (shown_by_writer self.old) (shown_by_writer self.new)) }
 
         // Just the bytes that were taken reach the writer, in a short write too.

@@ -8,8 +8,8 @@ use Rattle.round_model.specs.declared.plan.Plan.{Plan}
 use Rattle.round_model.specs.Entries.{touches}
 use Rattle.round_model.specs.FreshReads.{touched_from}
 use Rattle.round_model.specs.Kinds.{is_round}
-use Rattle.round_model.specs.Outcomes.{ReadIn}
-use Rattle.round_model.specs.Past.{StandsFor}
+use Rattle.round_model.specs.Code.Outcomes.{ReadIn}
+use Rattle.round_model.specs.Code.Past.{StandsFor}
 use Rattle.round_model.proofs.Longer.{start_stays}
 
 touched_on : (c k last : ℕ) (h : List Entry) (e : Entry) → touched_from c k last (h ++ e ∷ []) ≡ cond (touches c e) (k + length h + 1) (touched_from c k last h)

@@ -19,7 +19,7 @@ use Rattle.round_model.specs.Entries.{touches}
 use Rattle.round_model.specs.Fits.{Fits, OrderFits}
 use Rattle.round_model.specs.FreshReads.{touched_from}
 use Rattle.round_model.specs.Legal.{IsDue, has_ended, is_complete, is_due, rounds_begun}
-use Rattle.round_model.specs.Past.{IsPastOf, StandsFor}
+use Rattle.round_model.specs.Code.Past.{IsPastOf, StandsFor}
 use Rattle.round_model.specs.Reads.{round_start}
 use Rattle.round_model.specs.Scenes.{has_attempted, own_entries}
 use Rattle.round_model.specs.Serial.{SerialState, step_of}

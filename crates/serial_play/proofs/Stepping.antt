@@ -19,12 +19,12 @@ use Rattle.round_model.specs.FreshReads.{fresh_reads, touched_from}
 use Rattle.round_model.specs.Fits.{Fits}
 use Rattle.round_model.specs.Kinds.{is_attempt, is_round}
 use Rattle.round_model.specs.Legal.{Legal, LegalNext, rounds_begun}
-use Rattle.round_model.specs.Outcomes.{ReadIn}
+use Rattle.round_model.specs.Code.Outcomes.{ReadIn}
 use Rattle.round_model.specs.Owed.{owed, owed_total}
 use Rattle.round_model.specs.Reads.{round_start}
 use Rattle.round_model.specs.Scenes.{has_attempted, own_entries, scene_of}
 use Rattle.round_model.specs.Serial.{SerialState, step_of}
-use Rattle.round_model.specs.Turns.{IsStepOf, with_step}
+use Rattle.round_model.specs.Code.Turns.{IsStepOf, with_step}
 use Rattle.round_model.proofs.Added.{no_round}
 use Rattle.round_model.proofs.Keeping.{some_at}
 use Rattle.round_model.proofs.Longer.{begun_more, done_more, own_more, start_within}

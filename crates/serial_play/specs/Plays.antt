@@ -8,9 +8,9 @@ use Rattle.round_model.specs.declared.plan.Plan.{Plan}
 use Rattle.round_model.specs.Cores.{core_numbers}
 use Rattle.round_model.specs.FreshReads.{touched_from}
 use Rattle.round_model.specs.Legal.{rounds_begun}
-use Rattle.round_model.specs.Outcomes.{ReadIn}
+use Rattle.round_model.specs.Code.Outcomes.{ReadIn}
 use Rattle.round_model.specs.Owed.{owed, owed_total}
-use Rattle.round_model.specs.Past.{IsPastOf, StandsFor}
+use Rattle.round_model.specs.Code.Past.{IsPastOf, StandsFor}
 use Rattle.round_model.specs.Reads.{round_start}
 use Rattle.round_model.specs.Scenes.{has_attempted, own_entries}
 use Rattle.round_model.specs.Serial.{SerialState, step_of}
@@ -60,7 +60,8 @@ pub record Advances (p : Meaning) (plan : Plan) (a : ℕ) (old new : Play) (more
   pub reserve : length new.history + owed_total p plan new.history ≡ length old.history + owed_total p plan old.history
   pub rounds : rounds_begun new.history ≡ rounds_begun old.history
   -- who has made the attempt of the round has made it
-  pub attempted : (c : ℕ) → IsTrue (has_attempted (own_entries old.history c)) → IsTrue (has_attempted (own_entries new.history c))
+  pub attempted : (c : ℕ) → IsTrue (has_attempted (own_entries old.history c)) →
+      IsTrue (has_attempted (own_entries new.history c))
   -- a step is one fewer to come
   pub fewer : IsTrue more → steps_left p plan new a + 1 ≤ steps_left p plan old a
   -- there is none where the attempt is made

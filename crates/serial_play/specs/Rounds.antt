@@ -21,7 +21,8 @@ pub record Moves (p : Meaning) (plan : Plan) (cores : List ℕ) (old new : Play)
   pub steps : (s : SerialState) → IsStateOf plan old s → IsStateOf plan new (fold (step_of p plan) s cores)
   pub reserve : length new.history + owed_total p plan new.history ≡ length old.history + owed_total p plan old.history
   pub rounds : rounds_begun new.history ≡ rounds_begun old.history
-  pub attempted : (c : ℕ) → IsTrue (has_attempted (own_entries old.history c)) → IsTrue (has_attempted (own_entries new.history c))
+  pub attempted : (c : ℕ) → IsTrue (has_attempted (own_entries old.history c)) →
+      IsTrue (has_attempted (own_entries new.history c))
 
 -- the most steps of a turn: a thread enters or wakes, a unit, a look and an attempt
 abbrev pub most_steps : Plan → ℕ

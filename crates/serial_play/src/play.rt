@@ -1,13 +1,13 @@
 //! How far serial play has come, and the next step of a core.
 
-ghost use Rattle.std.specs.Prelude.{◌≡◌, ◌<◌, ◌≤◌, ◌+◌, ℕ, [], ◌∷◌, ◌++◌, IfOk, IsFalse, IsTrue, OnOk, Some, cond, length, map, max, slice_index};
+ghost use Rattle.std.specs.Prelude.{◌≡◌, ◌<◌, ◌≤◌, ◌+◌, ℕ, [], ◌∷◌, ◌++◌, IfOk, IsFalse, OnOk, Some, cond, length, max, slice_index};
 ghost use Rattle.policy_tree.specs.Meaning.{meaning_of};
 ghost use Rattle.policy_eval.specs.Obligations.{MeetsHandlerObligations};
 ghost use Rattle.round_model.specs.Entries.{touches};
 ghost use Rattle.round_model.specs.Fits.{Fits};
 ghost use Rattle.round_model.specs.Kinds.{is_round};
 ghost use Rattle.round_model.specs.Legal.{LegalNext};
-ghost use Rattle.round_model.specs.Past.{IsPastOf, StandsFor};
+ghost use Rattle.round_model.specs.Code.Past.{IsPastOf, StandsFor};
 ghost use Rattle.serial_play.specs.Plays.{Advances, HasAdded, HasRoom, IsPlay, fresh_of};
 
 use policy_tree::Policy;

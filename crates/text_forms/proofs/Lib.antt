@@ -1,4 +1,4 @@
 mod TextLemmas
 mod LineLaws
 mod WordLaws
-mod DecimalLemmas
+pub mod DecimalLemmas

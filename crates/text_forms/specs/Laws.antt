@@ -36,9 +36,12 @@ pub record IsWord (blanks word : List ℕ) : Type 0 where
 -- the line is these words, with one blank at least between two of them, and blanks before the first and behind the last
 pub data IsLineOf (blanks : List ℕ) : List ℕ → List (List ℕ) → Type 0 where
   no_word : (gap : List ℕ) → AreBlanks blanks gap → IsLineOf blanks gap []
-  last_word : (gap word : List ℕ) → AreBlanks blanks gap → IsWord blanks word → IsLineOf blanks (gap ++ word) (word ∷ [])
-  next_word : (gap word : List ℕ) (blank : ℕ) (rest : List ℕ) {words : List (List ℕ)} → AreBlanks blanks gap → IsWord blanks word →
-      is_one_of blanks blank ≡ true → IsLineOf blanks rest words → IsLineOf blanks (gap ++ (word ++ blank ∷ rest)) (word ∷ words)
+  last_word : (gap word : List ℕ) → AreBlanks blanks gap → IsWord blanks word →
+      IsLineOf blanks (gap ++ word) (word ∷ [])
+  next_word : (gap word : List ℕ) (blank : ℕ) (rest : List ℕ) {words : List (List ℕ)} → AreBlanks blanks gap →
+      IsWord blanks word →
+      is_one_of blanks blank ≡ true → IsLineOf blanks rest words →
+      IsLineOf blanks (gap ++ (word ++ blank ∷ rest)) (word ∷ words)
 
 -- a line is made of its words and of blanks
 abbrev pub WordsLaw : Type 0

@@ -11,6 +11,7 @@ pub fn first_line(text: &[u8]) -> Option<(&[u8], &[u8])>
     ensures none { IfNone result (lines_of text.now ≡ []) }
     ensures line { IfSome result (λ found. lines_of text.now ≡ found.0.now ∷ lines_of found.1.now) }
     ensures shorter { IfSome result (λ found. length found.1.now < length text.now) }
+    ensures within { IfSome result (λ found. length found.0.now ≤ length text.now) }
 {
     if text.is_empty() {
         None

@@ -48,7 +48,8 @@ IsBrokenBy fault (answer.Played play) = ⊥
 -- the text has that fault, or it spells a trace that doesn't fit the policy for it
 pub data HasFault (p : Meaning) (text : List ℕ) (fault : LineFault) : Type 0 where
   no_trace : (found : TraceFault) → IsBroken text found → told_of_trace found ≡ Some fault → HasFault p text fault
-  no_plan : (trace : List Numbered) (found : PlanFault) → SpellsTrace text trace → IsForeign p trace found → told_of_plan found ≡ Some fault → HasFault p text fault
+  no_plan : (trace : List Numbered) (found : PlanFault) → SpellsTrace text trace → IsForeign p trace found →
+      told_of_plan found ≡ Some fault → HasFault p text fault
 
 -- the text spells a trace, whose plan fits the policy, and that is what serial play of the plan comes to
 pub record PlaysText (p : Meaning) (text : List ℕ) (play : Played) : Type 0 where

@@ -13,7 +13,6 @@ abbrev pub word_of : FaultWord → List ℕ
 word_of word.BadLine = codes "bad-line"
 word_of word.Limit = codes "limit"
 word_of word.Twice = codes "twice"
-word_of word.NotBuilt = codes "not-built"
 word_of word.WeightRange = codes "weight-range"
 word_of word.ConstRange = codes "const-range"
 word_of word.ConstName = codes "const-name"
@@ -27,7 +26,6 @@ abbrev pub told_of_trace : TraceFault → Option LineFault
 told_of_trace (trace.BadLine line) = Some (record { word = word.BadLine; line = line })
 told_of_trace (trace.Limit line limit) = Some (record { word = word.Limit; line = line })
 told_of_trace (trace.Twice line) = Some (record { word = word.Twice; line = line })
-told_of_trace (trace.NotBuilt line) = Some (record { word = word.NotBuilt; line = line })
 told_of_trace trace.Memory = None
 
 -- a trace that doesn't fit its policy

@@ -1,6 +1,6 @@
 //! What a trace comes to, and how it is written.
 
-ghost use Rattle.std.specs.Prelude.{◌≡◌, ◌≤◌, IfOk, Some};
+ghost use Rattle.std.specs.Prelude.{◌≡◌, IfOk, Some};
 ghost use Rattle.sched_io.specs.Puts.{Puts};
 ghost use Rattle.trace_play.specs.declared.answer.PlayAnswer.TheVariants as answer;
 ghost use Rattle.trace_play.specs.Plays.{IsBrokenBy, IsShown, history_of, lines_of};

@@ -14,8 +14,6 @@ pub enum FaultWord {
     Limit,
     /// A line before gives the same thing.
     Twice,
-    /// The line has a form that isn't read yet.
-    NotBuilt,
     /// The policy's load doesn't allow the weight.
     WeightRange,
     /// A constant is out of the range that the policy declares.
@@ -42,7 +40,6 @@ impl FaultWord {
             FaultWord::BadLine => "bad-line",
             FaultWord::Limit => "limit",
             FaultWord::Twice => "twice",
-            FaultWord::NotBuilt => "not-built",
             FaultWord::WeightRange => "weight-range",
             FaultWord::ConstRange => "const-range",
             FaultWord::ConstName => "const-name",
@@ -58,7 +55,6 @@ pub(crate) fn of_trace(fault: TraceFault) -> Option<LineFault>
         TraceFault::BadLine(line) => (FaultWord::BadLine, line),
         TraceFault::Limit(line, _) => (FaultWord::Limit, line),
         TraceFault::Twice(line) => (FaultWord::Twice, line),
-        TraceFault::NotBuilt(line) => (FaultWord::NotBuilt, line),
         TraceFault::Memory => return None,
     };
     Some(LineFault { word, line })

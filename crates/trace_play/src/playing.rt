@@ -1,6 +1,6 @@
 //! Plays a trace's text.
 
-ghost use Rattle.std.specs.Prelude.{◌<◌, ◌≡◌, IfOk, IfSome, Option, length};
+ghost use Rattle.std.specs.Prelude.{◌<◌, ◌≡◌, IfOk, length};
 ghost use Rattle.policy_tree.specs.Meaning.{meaning_of};
 ghost use Rattle.policy_eval.specs.Obligations.{MeetsHandlerObligations};
 ghost use Rattle.policy_eval.specs.Resolved.{IsResolved};

@@ -1,7 +1,15 @@
-//! Tests of texts of traces, through the public calls of the reader and of the planner.
+//! Tests of texts of traces, through the public calls of the reader and of the planner, and of traces that are made.
 #![tactic(auto)]
 
 #[cfg(test)]
-mod policies;
+mod answers;
 #[cfg(test)]
-mod tests;
+mod form_tests;
+#[cfg(test)]
+mod limit_tests;
+#[cfg(test)]
+mod made_tests;
+#[cfg(test)]
+mod plan_tests;
+#[cfg(test)]
+mod policies;

@@ -8,11 +8,20 @@ use policy_tree::{
 use sched_base::MAX_ATTRIBUTES;
 use std::alloc::{AllocError, Global};
 
-/// The policy that always steals, with this load and an attribute of cores for each start.
-pub(crate) fn policy(alloc: Global, load: Load, starts: &[i32]) -> Result<Policy, AllocError>
-    requires { length starts.now ≤ MAX_ATTRIBUTES }
+/// The range of an attribute, and its start.
+#[derive(Clone, Copy)]
+pub(crate) struct Declared {
+    pub lo: i32,
+    pub hi: i32,
+    pub start: i32,
+}
+
+/// The policy that always steals, with this load and these attributes of cores. The first is `size`, the others are
+/// `node`.
+pub(crate) fn policy(alloc: Global, load: Load, declared: &[Declared]) -> Result<Policy, AllocError>
+    requires { length declared.now ≤ MAX_ATTRIBUTES }
 {
-    let core_attrs = attributes(alloc, starts)?;
+    let core_attrs = attributes(alloc, declared)?;
     let name = Name::from_vec(Vec::from_slice(alloc, b"always")?);
     Ok(Policy {
         name,
@@ -33,17 +42,19 @@ pub(crate) fn policy(alloc: Global, load: Load, starts: &[i32]) -> Result<Policy
     })
 }
 
-fn attributes(alloc: Global, starts: &[i32]) -> Result<AttrList, AllocError>
-    requires { length starts.now ≤ MAX_ATTRIBUTES }
+fn attributes(alloc: Global, declared: &[Declared]) -> Result<AttrList, AllocError>
+    requires { length declared.now ≤ MAX_ATTRIBUTES }
 {
     let mut attrs = Vec::new(alloc);
-    for start in starts {
-        let name = Name::from_vec(Vec::from_slice(alloc, b"size")?);
+    for range in declared {
+        let name = if attrs.is_empty() { b"size" } else { b"node" };
+        let name = Name::from_vec(Vec::from_slice(alloc, name)?);
+        let Declared { lo, hi, start } = *range;
         let attr = Attr {
             name,
-            lo: *start,
-            hi: *start,
-            start: *start,
+            lo,
+            hi,
+            start,
         };
         attrs.push(attr).map_err(|_| AllocError)?;
     }

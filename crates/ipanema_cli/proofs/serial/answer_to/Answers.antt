@@ -1,4 +1,4 @@
--- What `check` loads is the one file of its command, and words that are no command load none.
+-- What `check` and `explain` load is the one file of their command, and words that are no command load none.
 use Rattle.std.proofs.Common.{Option, subst}
 use Rattle.ipanema_cli.specs.Command.{Asked}
 use Rattle.ipanema_cli.specs.Loads.{FirstAreLoaded}
@@ -8,3 +8,8 @@ pub returns-in-Check-clause-loads : goal.returns-in-Check-clause-loads
 returns-in-Check-clause-loads g c =
     subst (λ (asked : Option Asked). FirstAreLoaded asked (g.F.Files.told c.args.files.now) (g.F.Files.asked c.args.files.now) (g.F.Files.asked c.check.new.files))
     c.in-Check.ensures (record { count = 1; loaded = c.check.ensures.loads; goes_on = tt })
+
+pub returns-in-Explain-clause-loads : goal.returns-in-Explain-clause-loads
+returns-in-Explain-clause-loads g c =
+    subst (λ (asked : Option Asked). FirstAreLoaded asked (g.F.Files.told c.args.files.now) (g.F.Files.asked c.args.files.now) (g.F.Files.asked c.explain.new.files))
+    c.in-Explain.ensures (record { count = 1; loaded = c.explain.ensures.loads; goes_on = tt })

@@ -1,7 +1,6 @@
 use Rattle.std.proofs.Common.{List, rules, subst}
 use Rattle.policy_tree.specs.Meaning.{meaning_of}
 use Rattle.round_model.specs.declared.plan.Plan.{Plan}
-use Rattle.sched_base.specs.declared.limits.TheConstants.{DEFAULT_ENTRIES}
 use Rattle.job_trace.specs.declared.trace.Numbered.{Numbered}
 use Rattle.job_trace.specs.Rules.{KeepsRules}
 use Rattle.job_trace.specs.Plans.{SpellsPlan}
@@ -13,10 +12,10 @@ returns-clause-fits c = λ resolved.
     let plan : Plan = record {
       cores = c.cores_of-cores.result;
       rounds = c.rounds_of.result;
-      limit = DEFAULT_ENTRIES;
+      limit = c.limit_of.result;
       consts = c.in_ok-consts.consts;
       threads = c.in_ok-threads.threads;
-      orders = c.from_vec.result;
+      orders = c.in_ok-orders.orders;
     } in
     let spells : SpellsPlan (meaning_of c.args.policy.now) c.args.trace.now plan = search rules in
     plan-fits (meaning_of c.args.policy.now) c.args.trace.now plan resolved

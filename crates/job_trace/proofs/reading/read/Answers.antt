@@ -13,11 +13,14 @@ returns-in_err-add_line c =
 pub loop-line-preserved : goal.loop-line-preserved
 loop-line-preserved c =
     let here = c.loop-line.invariant.same ∙ ap (scan c.loop-line.lines.items c.loop-line.number) c.in-Some.ensures.line in
+    let kept = added-rules _ _ _ _ c.loop-line.invariant.cores c.in_ok-add_line.ensures.adds c.loop-line.invariant.rules in
     record {
       same = here ∙ scan-more _ _ _ _ _ c.in_ok-add_line.ensures.adds;
       counted = omega (arith, c.in-Some.ensures.shorter);
       few = omega (arith, c.in_ok-add_line.ensures.few);
-      rules = added-rules _ _ _ _ c.in_ok-add_line.ensures.adds c.loop-line.invariant.rules;
+      rules = kept.0;
+      cores = kept.1;
+      gifts = c.in_ok-add_line.ensures.gives;
     }
 
 pub returns-then-len-lt2 : goal.returns-then-len-lt2

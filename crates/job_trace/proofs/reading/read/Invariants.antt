@@ -1,7 +1,8 @@
 -- What is left of the text, behind the lines so far, makes the trace of the whole.
 use Rattle.std.proofs.Common.{◌≡◌, ◌+◌, ◌<◌, ◌≤◌, [], length, vec_len}
+use Rattle.sched_base.specs.declared.limits.TheConstants.{MAX_CORES}
 use Rattle.text_forms.specs.Lines.{lines_of}
-use Rattle.job_trace.specs.Rules.{MayAllFollow}
+use Rattle.job_trace.specs.Rules.{MayAllFollow, all_gifts, cores_of}
 use Rattle.job_trace.specs.Steps.{scan}
 use Rattle.job_trace.proofs.reading.read.Given as goal
 
@@ -11,6 +12,8 @@ invariant-loop-line l = record {
   counted : l.number + length l.rest ≤ length l.text + 1;
   few : vec_len l.lines < l.number;
   rules : MayAllFollow [] l.lines.items;
+  cores : cores_of l.lines.items ≤ MAX_CORES;
+  gifts : l.given ≡ all_gifts l.lines.items;
 }
 
 abbrev pub decreases-loop-line : goal.decreases-loop-line

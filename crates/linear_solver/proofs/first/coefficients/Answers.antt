@@ -7,8 +7,8 @@ use Rattle.linear_solver.proofs.first.coefficients.Goals as goal
 
 pub loop-variable-preserved : goal.loop-variable-preserved
 loop-variable-preserved c =
-    let fits : FitsSigned w64 c.coefficient_in.result = search rules in
+    let fits : FitsSigned w64 c.entry.result = search rules in
     let pushed = simp to_z-of_z at c.in_ok-push.ensures.items in
-    let value = c.coefficient_in.ensures in
+    let value = c.entry.ensures in
     let more = map-range_with_len_more (λ variable. number_in (Variable variable) c.args.bounds.now c.args.rows.now c.args.number) 0 c.loop-variable.variable c.loop-variable.variable (omega arith) in
     record { front = cc; len = search rules }

@@ -8,10 +8,10 @@ use Rattle.linear_solver.proofs.first.first_row.Goals as goal
 
 pub returns-clause-shape : goal.returns-clause-shape
 returns-clause-shape c =
-    let fits : FitsSigned w64 c.bound_in.result = search rules in
-    let made : Derived = record { coefs = c.in_ok-coefficients.field-0; bound = c.bound_in.result; mults = c.in_ok-once.field-0 } in
+    let fits : FitsSigned w64 c.entry.result = search rules in
+    let made : Derived = record { coefs = c.in_ok-coefficients.field-0; bound = c.entry.result; mults = c.in_ok-once.field-0 } in
     let coefs = c.in_ok-coefficients.ensures in
-    let bound = c.bound_in.ensures in
+    let bound = c.entry.ensures in
     let mults = c.in_ok-once.ensures in
     let shape = c.requires.shape in
     let same : made ≡ first_row c.args.bounds.now c.args.rows.now c.args.number = rw (coefs, bound, mults, shape) refl in

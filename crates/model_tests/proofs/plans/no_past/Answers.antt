@@ -1,7 +1,7 @@
 use Rattle.std.proofs.Common.{[], sym, subst}
 use Rattle.round_model.specs.declared.plan.Plan.{Plan}
 use Rattle.round_model.specs.Fits.{Fits}
-use Rattle.round_model.specs.Past.{IsPastOf, StandsFor}
+use Rattle.round_model.specs.Code.Past.{IsPastOf, StandsFor}
 use Rattle.model_tests.specs.Policies.{basic}
 use Rattle.model_tests.proofs.PolicyRows.{two_cores_fit}
 use Rattle.model_tests.proofs.plans.no_past.Goals as goal

@@ -1,7 +1,7 @@
 use Rattle.std.proofs.Common.{◌+◌, take, Some, refl, sym, ap, subst, ◌∙◌, arith}
 use Rattle.std.proofs.lemmas.Bool.{false≢true}
 use Rattle.policy_tree.specs.Meaning.{meaning_of}
-use Rattle.round_model.specs.Past.{StandsFor}
+use Rattle.round_model.specs.Code.Past.{StandsFor}
 use Rattle.round_model.proofs.Keeping.{some_at}
 use Rattle.model_tests.specs.Steps.{IsLegalLength}
 use Rattle.model_tests.proofs.Counting.{stops_at, stops_behind, take_next}

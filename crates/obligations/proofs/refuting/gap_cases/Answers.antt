@@ -36,13 +36,12 @@ loop-case-preserved c =
     let rest = drop (i + 1) cases in
     let more : left (own ∷ rest) ≡ left (drop i cases) =
     ap (λ x. left (x ∷ rest)) c.case-item.is ∙ sym (at_drop_more left cases i own c.loop-case-test.true) in
-    let fails : c.as_slice.result.now ≡ cases_of load true (negated (cond_tree own.guard)) = c.as_slice.ensures.value ∙ c.in_ok-fails.ensures in
     let Linear : List Case → Type 0 = λ more. AllByRecursion (EachSide IsLinear) (guards_of (map case_tree more)) in
     let linear : Linear (own ∷ rest) =
     subst (λ (x : Case). Linear (x ∷ rest)) (sym c.case-item.is) (subst Linear (drop_more cases i own c.loop-case-test.true) c.loop-case.invariant.linear) in
     record {
       same =
-          ap (λ all. crossed all (left rest)) (c.in_ok-all-2.ensures ∙ ap (crossed c.loop-case.all.items) fails)
+          ap (λ all. crossed all (left rest)) (c.in_ok-all-2.ensures ∙ ap (crossed c.loop-case.all.items) c.in_ok-fails.ensures)
           ∙ (crossed_assoc c.loop-case.all.items (cases_of load true (negated (cond_tree own.guard))) (left rest)
           ∙ (ap (crossed c.loop-case.all.items) more ∙ c.loop-case.invariant.same));
       linear = linear.1;

@@ -3,9 +3,9 @@ use Rattle.std.proofs.Math.Seq.{set-append_seam}
 use Rattle.std.proofs.lemmas.List.{length-append}
 use Rattle.policy_tree.specs.Meaning.{meaning_of}
 use Rattle.round_model.specs.declared.state.CountAndLoad.{CountAndLoad}
-use Rattle.round_model.specs.Kept.{IsKept}
-use Rattle.round_model.specs.Notes.{IsLook}
-use Rattle.round_model.specs.Steps.{comes}
+use Rattle.round_model.specs.Code.Kept.{IsKept}
+use Rattle.round_model.specs.Code.Notes.{IsLook}
+use Rattle.round_model.specs.Code.Steps.{comes}
 use Rattle.round_model.proofs.Keeping.{all_hold, few_stand, slice_get_last}
 use Rattle.round_model.proofs.adding.add_entry.Goals as goal
 

@@ -4,7 +4,7 @@ use Rattle.policy_tree.specs.Meaning.{meaning_of}
 use Rattle.policy_eval.specs.Fitting.{IsTask}
 use Rattle.round_model.specs.Cores.{listed}
 use Rattle.round_model.specs.Moves.{admitted}
-use Rattle.round_model.specs.Updates.{updated}
+use Rattle.round_model.specs.Code.Updates.{updated}
 use Rattle.round_model.proofs.Keeping.{entering_fits}
 use Rattle.round_model.proofs.Moved.{moved_enter, moved_no_enter}
 use Rattle.round_model.proofs.States.{OnOk-then, listed_same}

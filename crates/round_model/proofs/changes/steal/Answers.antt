@@ -2,11 +2,11 @@ use Rattle.std.proofs.Common.{◌≡◌, ap, ◌∙◌, sym, subst, get_or, leng
 use Rattle.std.proofs.lemmas.Option.{get_or_from_slice_get}
 use Rattle.round_model.specs.declared.state.ModelCore.{ModelCore}
 use Rattle.round_model.specs.Cores.{Cores}
-use Rattle.round_model.specs.Kept.{Holds}
+use Rattle.round_model.specs.Code.Kept.{Holds}
 use Rattle.round_model.specs.Moves.{queued_of, received}
 use Rattle.round_model.proofs.Finding.{All-at}
 use Rattle.round_model.proofs.Keeping.{kept_moved, listed_self, queued_fits, queued_stays, some_at, stays_after}
-use Rattle.round_model.specs.Updates.{updated}
+use Rattle.round_model.specs.Code.Updates.{updated}
 use Rattle.round_model.proofs.Moved.{moved_no_steal, moved_steal}
 use Rattle.round_model.proofs.States.{listed_at, listed_same}
 use Rattle.round_model.proofs.changes.steal.Goals as goal

@@ -6,7 +6,7 @@ use Rattle.round_model.specs.declared.state.ModelCore.{ModelCore}
 use Rattle.round_model.specs.Bounds.{CoreInBounds}
 use Rattle.round_model.specs.Cores.{Cores}
 use Rattle.round_model.specs.Moves.{admitted, blocked_of}
-use Rattle.round_model.specs.Updates.{updated}
+use Rattle.round_model.specs.Code.Updates.{updated}
 use Rattle.round_model.proofs.Finding.{All-at}
 use Rattle.round_model.proofs.Keeping.{blocked_stays, kept_moved, listed_self, some_at, stays_after}
 use Rattle.round_model.proofs.Moved.{blocked_found, blocked_missing, blocked_task_fits, moved_no_wake, moved_wake_task}

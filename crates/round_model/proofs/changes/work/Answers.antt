@@ -3,9 +3,9 @@ use Rattle.policy_tree.specs.Meaning.{meaning_of}
 use Rattle.round_model.specs.declared.state.ModelCore.{ModelCore}
 use Rattle.round_model.specs.Bounds.{standing_count}
 use Rattle.round_model.specs.Cores.{listed}
-use Rattle.round_model.specs.Kept.{Holds, IsKept}
-use Rattle.round_model.specs.Units.{IsSmallCore, IsUnit, core_after_unit}
-use Rattle.round_model.specs.Updates.{updated}
+use Rattle.round_model.specs.Code.Kept.{Holds, IsKept}
+use Rattle.round_model.specs.Code.Units.{IsSmallCore, IsUnit, core_after_unit}
+use Rattle.round_model.specs.Code.Updates.{updated}
 use Rattle.round_model.proofs.Finding.{All-at}
 use Rattle.round_model.proofs.Keeping.{holds_unit, kept_set, standing_unit}
 use Rattle.round_model.proofs.Moved.{moved_work}

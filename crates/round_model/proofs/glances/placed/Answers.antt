@@ -3,7 +3,7 @@ use Rattle.std.proofs.lemmas.List.{length-take}
 use Rattle.policy_tree.specs.Meaning.{meaning_of}
 use Rattle.policy_eval.specs.Fitting.{CoreFits}
 use Rattle.round_model.specs.Choices.{target_of, values_in}
-use Rattle.round_model.specs.Outcomes.{values_at}
+use Rattle.round_model.specs.Code.Outcomes.{values_at}
 use Rattle.round_model.proofs.Outcomes.{target_same, values_All, values_in-take}
 use Rattle.round_model.proofs.glances.placed.Goals as goal
 

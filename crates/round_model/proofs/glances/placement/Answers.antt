@@ -1,7 +1,7 @@
 use Rattle.std.proofs.Common.{ap, sym, subst}
 use Rattle.policy_tree.specs.Meaning.{PlaceTree, meaning_of, place_tree}
 use Rattle.round_model.specs.Choices.{target_by, target_of}
-use Rattle.round_model.specs.Outcomes.{values_at}
+use Rattle.round_model.specs.Code.Outcomes.{values_at}
 use Rattle.round_model.specs.Rows.{PlacementReads}
 use Rattle.round_model.specs.Scenes.{scene_of}
 use Rattle.round_model.proofs.glances.placement.Goals as goal

@@ -5,7 +5,7 @@ use Rattle.policy_eval.specs.Events.{outcomes_of}
 use Rattle.policy_eval.proofs.Kept.{outcome_kept}
 use Rattle.round_model.specs.declared.state.ModelCore.{ModelCore}
 use Rattle.round_model.specs.Cores.{listed}
-use Rattle.round_model.specs.Updates.{updated}
+use Rattle.round_model.specs.Code.Updates.{updated}
 use Rattle.round_model.proofs.States.{OnOk-then, listed_at}
 use Rattle.round_model.proofs.Units.{admitted_once}
 use Rattle.round_model.proofs.moves.admit.Goals as goal

@@ -2,9 +2,9 @@ use Rattle.std.proofs.Common.{ap, ◌∙◌, sym, subst, set, arith}
 use Rattle.round_model.specs.declared.state.ModelCore.{ModelCore}
 use Rattle.round_model.specs.Bounds.{standing_count}
 use Rattle.round_model.specs.Cores.{listed}
-use Rattle.round_model.specs.Kept.{Holds, IsKept}
+use Rattle.round_model.specs.Code.Kept.{Holds, IsKept}
 use Rattle.round_model.specs.Moves.{with_task}
-use Rattle.round_model.specs.Updates.{updated}
+use Rattle.round_model.specs.Code.Updates.{updated}
 use Rattle.round_model.proofs.Keeping.{holds_put, kept_set, standing_put}
 use Rattle.round_model.proofs.States.{OnErr-then, OnOk-then, listed_at, listed_updated, set_back}
 use Rattle.round_model.proofs.moves.put.Goals as goal

@@ -2,9 +2,9 @@ use Rattle.std.proofs.Common.{◌≡◌, ap, ◌∙◌, sym, subst, IsSome, arit
 use Rattle.round_model.specs.declared.state.ModelCore.{ModelCore}
 use Rattle.round_model.specs.Bounds.{standing_count}
 use Rattle.round_model.specs.Cores.{listed}
-use Rattle.round_model.specs.Kept.{Holds, IsKept}
+use Rattle.round_model.specs.Code.Kept.{Holds, IsKept}
 use Rattle.round_model.specs.Moves.{blocked_of, released}
-use Rattle.round_model.specs.Updates.{updated}
+use Rattle.round_model.specs.Code.Updates.{updated}
 use Rattle.round_model.proofs.Keeping.{holds_released, kept_set, standing_released}
 use Rattle.round_model.proofs.States.{listed_at, listed_updated}
 use Rattle.round_model.proofs.moves.release.Goals as goal

@@ -2,7 +2,7 @@ use Rattle.std.proofs.Common.{◌≡◌, ℕ, ◌<◌, ◌≤◌, cond, length, 
 use Rattle.round_model.specs.declared.state.ModelCore.{ModelCore}
 use Rattle.round_model.specs.Cores.{seen_of}
 use Rattle.round_model.specs.Entries.{touches}
-use Rattle.round_model.specs.Notes.{seen_at}
+use Rattle.round_model.specs.Code.Notes.{seen_at}
 use Rattle.round_model.proofs.notes.look.Given as goal
 
 -- the cores passed over are seen as they are where they are touched, and the others as before

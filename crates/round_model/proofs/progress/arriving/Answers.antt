@@ -1,7 +1,7 @@
 use Rattle.std.proofs.Common.{ℕ, ap, ◌∙◌, find, option_map}
 use Rattle.round_model.specs.declared.past.Arrival.{Arrival}
 use Rattle.round_model.specs.After.{round_of}
-use Rattle.round_model.specs.Past.{arrives_at}
+use Rattle.round_model.specs.Code.Past.{arrives_at}
 use Rattle.round_model.specs.Scenes.{entering_next, own_entries}
 use Rattle.round_model.proofs.Pasts.{arriving_next, id_of_arrival}
 use Rattle.round_model.proofs.progress.arriving.Goals as goal

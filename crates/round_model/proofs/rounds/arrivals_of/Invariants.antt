@@ -1,6 +1,6 @@
 use Rattle.std.proofs.Common.{◌≡◌, ◌==◌, ◌≤◌, map, filter, take, length}
 use Rattle.round_model.specs.declared.plan.Planned.{Planned}
-use Rattle.round_model.specs.Past.{arrival_of}
+use Rattle.round_model.specs.Code.Past.{arrival_of}
 use Rattle.round_model.proofs.rounds.arrivals_of.Given as goal
 
 -- the arrivals among the threads passed over

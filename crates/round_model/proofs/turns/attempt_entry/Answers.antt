@@ -1,7 +1,7 @@
 use Rattle.std.proofs.Common.{◌∙◌, ap}
 use Rattle.policy_tree.specs.Meaning.{meaning_of}
 use Rattle.round_model.specs.declared.attempts.Attempt.TheVariants as attempt
-use Rattle.round_model.specs.Outcomes.{entry_of_attempt}
+use Rattle.round_model.specs.Code.Outcomes.{entry_of_attempt}
 use Rattle.round_model.proofs.Turning.{attempt_may, read_fit}
 use Rattle.round_model.proofs.turns.attempt_entry.Goals as goal
 

@@ -3,7 +3,7 @@ use Rattle.policy_tree.specs.Meaning.{meaning_of}
 use Rattle.round_model.specs.declared.past.Turn.{Turn}
 use Rattle.round_model.specs.declared.turns.NextStep.TheVariants as next
 use Rattle.round_model.specs.After.{after, round_of}
-use Rattle.round_model.specs.Turns.{IsLateStepOf, MayAdd}
+use Rattle.round_model.specs.Code.Turns.{IsLateStepOf, MayAdd}
 use Rattle.round_model.specs.Work.{worked}
 use Rattle.round_model.proofs.Pasts.{turn_at}
 use Rattle.round_model.proofs.Turning.{is_none, late_entry, late_look, late_over, late_work, work_may}

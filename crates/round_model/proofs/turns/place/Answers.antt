@@ -1,7 +1,7 @@
 use Rattle.std.proofs.Common.{ap}
 use Rattle.policy_tree.specs.Meaning.{PlaceTree, meaning_of, place_tree}
 use Rattle.round_model.specs.Choices.{target_by, target_of}
-use Rattle.round_model.specs.Outcomes.{values_at}
+use Rattle.round_model.specs.Code.Outcomes.{values_at}
 use Rattle.round_model.proofs.turns.place.Goals as goal
 
 pub returns-in-Here-clause-target : goal.returns-in-Here-clause-target

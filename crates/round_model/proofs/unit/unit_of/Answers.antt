@@ -4,8 +4,8 @@ use Rattle.policy_tree.specs.Meaning.{meaning_of}
 use Rattle.policy_tree.specs.declared.typed.Event.TheVariants as event
 use Rattle.round_model.specs.Programs.{Meeting}
 use Rattle.round_model.specs.Work.{after_meeting}
-use Rattle.round_model.specs.UnitSteps.{IsMet}
-use Rattle.round_model.specs.Units.{without}
+use Rattle.round_model.specs.Code.UnitSteps.{IsMet}
+use Rattle.round_model.specs.Code.Units.{without}
 use Rattle.round_model.proofs.Units.{blocking_ends, burst_fits, ran, unit_idle, unit_met, unit_over, unit_stuck, worked_meeting}
 use Rattle.round_model.proofs.unit.unit_of.Goals as goal
 

@@ -1,8 +1,8 @@
 use Rattle.std.proofs.Common.{◌∙◌, ℕ, List, Option, Some, true, get_or, set, subst, sym, arith}
 use Rattle.policy_tree.specs.Meaning.{meaning_of}
 use Rattle.round_model.specs.declared.turns.NextStep.TheVariants as next
-use Rattle.round_model.specs.Outcomes.{ReadIn}
-use Rattle.round_model.specs.Turns.{ActsBy, IsStepOf, MayAdd}
+use Rattle.round_model.specs.Code.Outcomes.{ReadIn}
+use Rattle.round_model.specs.Code.Turns.{ActsBy, IsStepOf, MayAdd}
 use Rattle.serial_play.specs.Plays.{Advances, fresh_of}
 use Rattle.serial_play.proofs.Stepping.{advanced_by, advanced_look, advanced_none, fresh_read, look_read, none_is, room_for}
 use Rattle.serial_play.proofs.play.advance.Goals as goal

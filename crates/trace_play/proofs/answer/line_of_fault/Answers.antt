@@ -13,7 +13,6 @@ word_short : (w : FaultWord) → length (word_of w) ≤ 12
 word_short word.BadLine = omega arith
 word_short word.Limit = omega arith
 word_short word.Twice = omega arith
-word_short word.NotBuilt = omega arith
 word_short word.WeightRange = omega arith
 word_short word.ConstRange = omega arith
 word_short word.ConstName = omega arith

@@ -29,7 +29,6 @@ broken_of text (trace.BadLine line) fault is told = is
 broken_of text (trace.Limit line limit) fault is told = is
 broken_of text (trace.Twice line) fault is told = is
 broken_of text trace.Memory fault is told = absurd (cc)
-broken_of text (trace.NotBuilt line) fault is told = is
 
 foreign_of : (p : Meaning) (lines : List Numbered) (found : PlanFault) (fault : LineFault) → IsPlanFault p lines found → told_of_plan found ≡ Some fault → IsForeign p lines found
 foreign_of p lines (plan.WeightRange line) fault is told = is

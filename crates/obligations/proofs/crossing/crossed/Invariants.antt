@@ -1,6 +1,0 @@
-use Rattle.std.proofs.Common.{◌≡◌}
-use Rattle.obligations.specs.Cases.{crossed}
-use Rattle.obligations.proofs.crossing.crossed.Given as goal
-
-abbrev pub invariant-loop-rows : goal.invariant-loop-rows
-invariant-loop-rows l = l.all.items ≡ crossed l.yielded l.right

@@ -1,0 +1,6 @@
+pub mod Joined
+pub mod Kept
+pub mod Named
+pub mod Points
+pub mod True
+pub mod Worth

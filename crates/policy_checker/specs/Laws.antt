@@ -1,0 +1,38 @@
+-- Laws: what certificates, answers and points say of a policy.
+use Rattle.std.specs.Prelude.{◌≡◌, ℕ, ℤ, List, map}
+use Rattle.sched_base.specs.declared.limits.TheConstants.{CHECK_BUDGET}
+use Rattle.policy_tree.specs.Meaning.{Meaning}
+use Rattle.policy_eval.specs.Obligations.{MeetsObligations, Statement}
+use Rattle.policy_eval.specs.Ranges.{AreIn}
+use Rattle.policy_eval.specs.Resolved.{IsResolved}
+use Rattle.policy_eval.specs.Values.{Assignment, Holds, variable_of}
+use Rattle.obligations.specs.declared.names.ObName.{ObName}
+use Rattle.obligations.specs.Names.{statement_of}
+use Rattle.obligations.specs.Refutations.{refutation}
+use Rattle.obligations.specs.Systems.{systems_of, variable_ranges, variables_of}
+use Rattle.policy_checker.specs.Answers.{IsAnswer, IsFirstSolved}
+use Rattle.policy_checker.specs.Certified.{IsCertified}
+use Rattle.policy_checker.specs.Outcomes.{IsTold, outcome_of}
+use Rattle.policy_checker.specs.declared.answer.ObAnswer.{ObAnswer}
+
+-- A certified policy meets all its statements.
+abbrev pub CertifiedMeet : Type 0
+CertifiedMeet = (p : Meaning) → IsResolved p → IsCertified p → MeetsObligations p
+
+-- What an answer tells is true, under the budget of the program.
+abbrev pub AnswersAreTrue : Type 0
+AnswersAreTrue = (p : Meaning) → IsResolved p → (name : ObName) (answer : ObAnswer)
+    → IsAnswer CHECK_BUDGET (systems_of p (statement_of name)) answer → IsTold p name (outcome_of answer)
+
+-- Some values of all variables, each in its range, refute the statement, and the point has those of the statement's
+-- variables, in the order of their numbers.
+pub record FailsAt (p : Meaning) (s : Statement) (point : List ℤ) : Type 0 where
+  pub values : Assignment
+  pub in_range : AreIn (variable_ranges p) values
+  pub refute : Holds values (refutation p s)
+  pub shown : map (variable_of values) (variables_of p s) ≡ point
+
+-- The statement fails at the point that an answer gives.
+abbrev pub PointsRefute : Type 0
+PointsRefute = (p : Meaning) → IsResolved p → (s : Statement) (budget : ℕ) (point : List ℤ)
+    → IsFirstSolved budget (systems_of p s) point → FailsAt p s point

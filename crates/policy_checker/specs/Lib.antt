@@ -1,0 +1,6 @@
+pub mod Answers
+pub mod Certified
+pub mod Laws
+pub mod Outcomes
+pub mod Refuted
+pub mod Verdicts

@@ -1,0 +1,19 @@
+//! Laws of the definitions, each a function without parameters whose contract is the law.
+
+ghost use Rattle.policy_checker.specs.Laws.{AnswersAreTrue, CertifiedMeet, PointsRefute};
+
+/// A policy of which each system of each obligation has a right certificate meets all its obligations.
+pub fn law_certified()
+    ensures { CertifiedMeet }
+{}
+
+/// An obligation that is answered to hold holds, and one that is answered to fail doesn't. One that is left undecided has
+/// a system that bounded elimination leaves open.
+pub fn law_answers()
+    ensures { AnswersAreTrue }
+{}
+
+/// At the point of an answer the obligation fails.
+pub fn law_points()
+    ensures { PointsRefute }
+{}

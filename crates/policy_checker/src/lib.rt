@@ -1,0 +1,18 @@
+//! Verdicts on policies: every obligation is decided, and a policy is accepted only with a right certificate for each of
+//! its systems.
+#![tactic(auto)]
+
+mod accepted;
+mod answer;
+mod checking;
+mod deciding;
+mod laws;
+mod one;
+mod verdict;
+
+pub use accepted::AcceptedPolicy;
+pub use answer::{Answered, CertList, ObAnswer, ObAnswers, Outcome};
+pub use checking::check_policy;
+pub use laws::{law_answers, law_certified, law_points};
+pub use one::{One, OneFault, check_one};
+pub use verdict::{CheckFault, Verdict};

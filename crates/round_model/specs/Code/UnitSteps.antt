@@ -1,0 +1,54 @@
+-- The steps by which a unit of work is found: which task runs, and what it meets.
+use Rattle.std.specs.Prelude.{◌≡◌, ℕ, ◌<◌, List, [], length, remove, slice_get, Option, Some, None, option_map}
+use Rattle.sched_base.specs.declared.task.Task.{Task}
+use Rattle.policy_tree.specs.declared.typed.Event.{Event}
+use Rattle.policy_tree.specs.Meaning.{KeyTree, Meaning}
+use Rattle.policy_eval.specs.Fitting.{IsTask}
+use Rattle.policy_eval.specs.Orders.{best_and_rest, best_of}
+use Rattle.policy_eval.specs.Ranges.{AreIn, wide_ranges}
+use Rattle.policy_eval.specs.Sights.{thread_values}
+use Rattle.round_model.specs.declared.state.ModelCore.{ModelCore}
+use Rattle.round_model.specs.declared.unit.Meeting.{Meeting as UnitMeeting}
+use Rattle.round_model.specs.declared.unit.Meeting.TheVariants as meeting
+use Rattle.round_model.specs.declared.unit.Unit.{Unit as WorkUnit}
+use Rattle.round_model.specs.declared.unit.Unit.TheVariants as unit
+use Rattle.round_model.specs.Programs.{Meeting, blocking, ending_now, tick, yielding}
+use Rattle.round_model.specs.Work.{before, elected, met}
+use Rattle.round_model.specs.Code.Units.{HasTask, left_by, without}
+
+-- the task can be compared by the keys of an order
+abbrev pub IsSeenTask : Task → Type 0
+IsSeenTask t = AreIn wide_ranges (thread_values t.weight t.attrs)
+
+-- the best of the tasks stands in that place
+pub record IsBestPlace (keys : List KeyTree) (tasks : List Task) (at : ℕ) : Type 0 where
+  pub inside : at < length tasks
+  pub best : best_of (before keys) tasks ≡ slice_get tasks at
+  pub rest : best_and_rest (before keys) tasks ≡ option_map (λ t. (t, remove tasks at)) (slice_get tasks at)
+
+-- nothing is there to run
+pub record IsIdleCore (core : ModelCore) : Type 0 where
+  pub current : core.current ≡ None
+  pub queue : core.queue ≡ []
+
+-- the task is the one that the core runs, and where it stands
+pub record Runs (p : Meaning) (core : ModelCore) (place : Option ℕ) (t : Task) : Type 0 where
+  pub runs : (elected p core).current ≡ Some t
+  pub leaves : record (elected p core) { current = None } ≡ without place core
+  pub there : HasTask place core
+  pub task : IsTask p t
+
+-- the unit of a task that meets the event, taken from its place
+abbrev pub IsMet : Meaning → ModelCore → Option ℕ → Task → Event → ℕ → WorkUnit → Type 0
+IsMet p core place t e wake unit.Idle = ⊥
+IsMet p core place t e wake unit.Stuck = ⊥
+IsMet p core place t e wake (unit.Met at x put until) =
+    (at ≡ place) × (met p e wake t (without place core) ≡ left_by core (unit.Met place x put until)) × IsTask p x
+IsMet p core place t e wake (unit.Over at id) = ⊥
+
+-- the meeting, as the code names it
+abbrev pub IsMeeting : Meeting → UnitMeeting → Type 0
+IsMeeting m meeting.Tick = m ≡ tick
+IsMeeting m meeting.Yield = m ≡ yielding
+IsMeeting m (meeting.Block rounds) = m ≡ blocking rounds
+IsMeeting m meeting.End = m ≡ ending_now

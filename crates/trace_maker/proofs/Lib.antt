@@ -1,0 +1,3 @@
+mod RangeFacts
+mod SpellingFacts
+mod MadeLemmas
