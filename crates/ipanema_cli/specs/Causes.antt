@@ -31,8 +31,8 @@ abbrev pub SaysTooLong : Option Asked → (List ℕ → Told) → Option (List �
 SaysTooLong asked told before after =
     (which : TextKind) × IsAnswer asked told (answer.TooLong which) × Adds (too_long_line which) before after
 
--- the policy's file may hold a text that spells a policy with an obligation that has too many cases, the first such one,
--- and its line is written
+-- the policy's file may hold a text that spells a policy with an obligation that has too many cases, the first such
+-- one, and its line is written
 abbrev pub SaysCrowded : Option Asked → (List ℕ → Told) → Option (List ℕ) → Option (List ℕ) → Type 0
 SaysCrowded asked told before after =
     (policy text : List ℕ) × (name : ObName) × IsFileOf asked kind.Policy policy

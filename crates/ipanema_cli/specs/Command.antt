@@ -42,7 +42,8 @@ asked_by (verb ∷ []) = None
 asked_by (verb ∷ policy ∷ []) = if bytes_eq verb (codes "check") && is_plain policy then Some (check policy) else None
 asked_by (verb ∷ policy ∷ other ∷ []) =
     if bytes_eq verb (codes "play") && is_plain policy && is_plain other then Some (play policy other)
-    else if bytes_eq verb (codes "explain") && is_plain policy then option_map (explain policy) (name_of other) else None
+    else if bytes_eq verb (codes "explain") && is_plain policy then option_map (explain policy) (name_of other)
+    else None
 asked_by (verb ∷ policy ∷ other ∷ more ∷ words) = None
 
 -- the bytes of each word

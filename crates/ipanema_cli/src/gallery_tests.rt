@@ -32,7 +32,8 @@ fn faults_of_the_gallery(rt: HostRuntime) -> Result<(), Fail> {
             "policy 32 unknown\n",
         ),
         (
-            "policy p\nload count\ncore a in 0..1 start 0\ncore a in 0..1 start 0\nfilter always\nchoose first\nsteal first\n",
+            "policy p\nload count\ncore a in 0..1 start 0\ncore a in 0..1 start 0\n\
+            filter always\nchoose first\nsteal first\n",
             "policy 48 twice\n",
         ),
         (

@@ -25,8 +25,8 @@ fn play<R: Threads + Wait + Sync>(
     call(rt, alloc, &["play", "p", "t"], &outside)
 }
 
-const ONE_STEAL: &str =
-    "# Two threads come to core 0. Core 1 is idle.\ncores 2\nrounds 1\nthread 1 core 0 round 1 forever\nthread 2 core 0 round 1 forever\n";
+const ONE_STEAL: &str = "# Two threads come to core 0. Core 1 is idle.\ncores 2\nrounds 1\n\
+    thread 1 core 0 round 1 forever\nthread 2 core 0 round 1 forever\n";
 
 const ONE_STEAL_HISTORY: &str =
     "round 1\nenter 1 0 0 :\nenter 2 0 0 :\nwork 0 1 keep\npass 0 : 4 1\nwork 1 -\nsteal 1 0 2 : 5 6\n";
@@ -44,7 +44,8 @@ fn histories_of_the_examples(rt: HostRuntime) -> Result<(), Fail> {
         ("cores 2\nrounds 0\n", ""),
         ("cores 1\nrounds 1\n", ""),
         (
-            "cores 2\nrounds 1\nthread 1 core 0 round 1 weight 9 forever\nthread 2 core 0 round 1 weight 1048575 forever\n",
+            "cores 2\nrounds 1\nthread 1 core 0 round 1 weight 9 forever\n\
+            thread 2 core 0 round 1 weight 1048575 forever\n",
             ONE_STEAL_HISTORY,
         ),
         (
@@ -65,7 +66,8 @@ fn histories_of_the_examples(rt: HostRuntime) -> Result<(), Fail> {
 }
 
 const STALE: &str =
-    "cores 3\nrounds 1\nthread 1 core 0 round 1 forever\nthread 2 core 0 round 1 forever\norder 1 0 0 0 0 0 1 1 2 2 1 2\n";
+    "cores 3\nrounds 1\nthread 1 core 0 round 1 forever\nthread 2 core 0 round 1 forever\n\
+    order 1 0 0 0 0 0 1 1 2 2 1 2\n";
 
 const STALE_HISTORY: &str =
     "round 1\nenter 1 0 0 :\nenter 2 0 0 :\nwork 0 1 keep\npass 0 : 4 1 1\nwork 1 -\nwork 2 -\n\
@@ -95,10 +97,11 @@ fn eight_threads(alloc: Global, rounds: u32, line: &str, last: &str) -> Result<S
 const FAIR: &str =
     "policy fair\nload weight 1..8\nthread used in 0..1000 start 0\nplace min core.load\n\
     elect min t.used\non tick {\n  when always : t.used = t.used + 1, queue\n\
-    }\nfilter self.nr == 0 and victim.nr >= 2 or victim.load - self.load > 8\nchoose max victim.load\nsteal max t.weight\n";
+    }\nfilter self.nr == 0 and victim.nr >= 2 or victim.load - self.load > 8\n\
+    choose max victim.load\nsteal max t.weight\n";
 
-const FAIR_TRACE: &str =
-    "cores 2\nrounds 2\nthread 1 core 0 round 1 weight 3 run 1 block 1 run 1\nthread 2 core 0 round 1 weight 5 forever\n";
+const FAIR_TRACE: &str = "cores 2\nrounds 2\nthread 1 core 0 round 1 weight 3 run 1 block 1 run 1\n\
+    thread 2 core 0 round 1 weight 5 forever\n";
 
 const FAIR_HISTORY: &str =
     "round 1\nenter 1 0 0 : 1 1\nenter 2 0 1 : 2 1\nwork 0 1 block\npass 0 : 4 3\nwork 1 2 queue\npass 1 : 5 6\n\

@@ -138,8 +138,8 @@ fn play<F: Files>(alloc: Global, policy: &str, trace: &str, files: &mut F) -> Re
 
 /// Writes an answer, and gives its status.
 ///
-/// The answer is let go in one place, by `drop`: an enum that owns a policy has many ways to be let go, and each would be
-/// one more way through the function that ends with it.
+/// The answer is let go in one place, by `drop`: an enum that owns a policy has many ways to be let go, and each would
+/// be one more way through the function that ends with it.
 pub fn give<S: Sink>(answer: Answer, out: &mut S) -> u8
     requires { CanBePut answer }
     ensures writes { Writes answer (S.shown out.old) (S.shown out.new) result }

@@ -180,7 +180,8 @@ fn texts_of_one_policy_and_others(rt: HostRuntime) -> Result<(), Fail> {
             "accepted\n",
         ),
         (
-            "policy basic # of two cores\nload count\nfilter (victim.nr - self.nr >= 00002)\nchoose first\nsteal first\n\n",
+            "policy basic # of two cores\nload count\n\
+            filter (victim.nr - self.nr >= 00002)\nchoose first\nsteal first\n\n",
             "accepted\n",
         ),
         (

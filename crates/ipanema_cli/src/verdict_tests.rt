@@ -6,7 +6,8 @@ use std::test::Fail;
 
 /// The eight obligations of handlers, where they hold.
 const HANDLERS_HOLD: &str =
-    "H1.enqueue holds\nH2.enqueue holds\nH1.tick holds\nH2.tick holds\nH1.yield holds\nH2.yield holds\nH1.block holds\nH2.block holds\n";
+    "H1.enqueue holds\nH2.enqueue holds\nH1.tick holds\nH2.tick holds\nH1.yield holds\n\
+    H2.yield holds\nH1.block holds\nH2.block holds\n";
 
 /// A load rule and a filter between defaults.
 fn policy_of(alloc: Global, front: &str, filter: &str) -> Result<String, Fail> {
@@ -74,7 +75,8 @@ fn accepted_policies(rt: HostRuntime) -> Result<(), Fail> {
     let alloc = rt.alloc();
     let wanted = format!(in alloc; "B1 holds\nB2 holds\nB3 holds\n{HANDLERS_HOLD}accepted\n")?;
     let fair =
-        "load weight 1..8\nthread used in 0..1000 start 0\nplace min core.load\nelect min t.used\non tick {\n  when always : t.used = t.used + 1, queue\n}";
+        "load weight 1..8\nthread used in 0..1000 start 0\nplace min core.load\nelect min t.used\n\
+        on tick {\n  when always : t.used = t.used + 1, queue\n}";
     let cases = [
         (
             "load weight 1..8",
@@ -107,7 +109,8 @@ fn handlers_with_gaps_and_overlaps(rt: HostRuntime) -> Result<(), Fail> {
             "H1.enqueue fails t.fresh=0\n",
         ),
         (
-            "load count\nthread slice in 0..5 start 5\non tick { when t.slice > 3 : t.slice = t.slice - 1, keep when t.slice < 3 : t.slice = 5, queue }",
+            "load count\nthread slice in 0..5 start 5\non tick { when t.slice > 3 : t.slice = t.slice - 1, keep \
+            when t.slice < 3 : t.slice = 5, queue }",
             "H2.tick",
             "H2.tick fails t.slice=3\n",
         ),

@@ -96,8 +96,9 @@ impl ObAnswer {
 /// The answer to systems that have these certificates and one more, of which that was found.
 fn with_certificates(mut certs: CertList, found: Answer) -> Result<ObAnswer, AllocError>
     requires { HasRoom (Holds certs) }
-    ensures { (budget : ℕ) (systems : List LinearSystem) (system : LinearSystem) → IsAnswer budget systems (Holds certs) →
-        IsFound budget system found → IfOk result (IsAnswer budget (systems ++ system ∷ [])) }
+    ensures { (budget : ℕ) (systems : List LinearSystem) (system : LinearSystem) →
+        IsAnswer budget systems (Holds certs) → IsFound budget system found →
+        IfOk result (IsAnswer budget (systems ++ system ∷ [])) }
 {
     match found {
         Answer::Holds(cert) => {

@@ -20,8 +20,8 @@ use obligations::{Obligation, ObligeFault, oblige};
 use policy_tree::Policy;
 use std::alloc::{AllocError, Global};
 
-/// The verdict on a resolved policy: each of its obligations is decided, systems of differences always, and others within
-/// the budget.
+/// The verdict on a resolved policy: each of its obligations is decided, systems of differences always, and others
+/// within the budget.
 ///
 /// A system that isn't one of differences is left undecided only where it has more points than the budget and bounded
 /// elimination doesn't refute it. Under a budget of 0 each such system is left undecided.

@@ -7,8 +7,8 @@ pub fn law_certified()
     ensures { CertifiedMeet }
 {}
 
-/// An obligation that is answered to hold holds, and one that is answered to fail doesn't. One that is left undecided has
-/// a system that bounded elimination leaves open.
+/// An obligation that is answered to hold holds, and one that is answered to fail doesn't. One that is left undecided
+/// has a system that bounded elimination leaves open.
 pub fn law_answers()
     ensures { AnswersAreTrue }
 {}

@@ -1,5 +1,5 @@
-//! Verdicts on policies: every obligation is decided, and a policy is accepted only with a right certificate for each of
-//! its systems.
+//! Verdicts on policies: every obligation is decided, and a policy is accepted only with a right certificate for each
+//! of its systems.
 #![tactic(auto)]
 
 mod accepted;

@@ -23,8 +23,10 @@ is_attribute first attrs at = nat_le first at && nat_lt at (first + length attrs
 
 -- whether the variable may stand there. Those before the weight are the counts and loads of the two cores
 abbrev pub allows : Meaning → Site → ℕ → Bool
-allows p filtering at = nat_lt at WEIGHT || is_attribute SELF_ATTRIBUTES p.core_attrs at || is_attribute OTHER_ATTRIBUTES p.core_attrs at
-allows p choosing at = nat_lt at WEIGHT || is_attribute SELF_ATTRIBUTES p.core_attrs at || is_attribute OTHER_ATTRIBUTES p.core_attrs at
+allows p filtering at = nat_lt at WEIGHT || is_attribute SELF_ATTRIBUTES p.core_attrs at
+    || is_attribute OTHER_ATTRIBUTES p.core_attrs at
+allows p choosing at = nat_lt at WEIGHT || is_attribute SELF_ATTRIBUTES p.core_attrs at
+    || is_attribute OTHER_ATTRIBUTES p.core_attrs at
 allows p placing at = at == OTHER_NR || at == OTHER_LOAD || is_attribute OTHER_ATTRIBUTES p.core_attrs at
 allows p electing at = at == WEIGHT || is_attribute THREAD_ATTRIBUTES p.thread_attrs at
 allows p stealing at = at == WEIGHT || is_attribute THREAD_ATTRIBUTES p.thread_attrs at

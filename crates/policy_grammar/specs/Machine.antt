@@ -34,7 +34,9 @@ pub data Symbol : Type 0 where
   ors : ℕ → Symbol  -- further conjunctions
   close : Symbol
   compare : ℕ → Symbol  -- the symbol of a comparison, and its right side
-  operand : ℕ → ℕ → ℕ → Symbol  -- an expression's next factor, where so many are open around the expression, and so many here, behind so many operators
+  -- an expression's next factor, where so many are open around the expression, and so many here, behind so many
+  -- operators
+  operand : ℕ → ℕ → ℕ → Symbol
   dot : ℕ → ℕ → Symbol  -- the dot of a reference
   word : ℕ → ℕ → Symbol  -- its word
   operators : ℕ → ℕ → Symbol  -- the rest of an expression, behind so many operators

@@ -67,7 +67,8 @@ impl<'a> Source<'a> {
     /// What stands before the handlers, and the place behind it.
     fn front(&self) -> Result<(Front, u32), ParseFault>
         ensures within { IfOk result (λ x. x.1 ≤ length self.now.lexemes.now) }
-        ensures is { IfOk result (λ x. IsFront self.now.text.now self.now.lexemes.now x.0.name x.0.load x.0.attrs x.0.place x.0.elect x.1) }
+        ensures is { IfOk result (λ x.
+            IsFront self.now.text.now self.now.lexemes.now x.0.name x.0.load x.0.attrs x.0.place x.0.elect x.1) }
         ensures reads { (below : List Symbol) →
             Answers (go self.now.limits self.now.lexemes.now 0 0
             (the Policy ∷ the Name ∷ the Load ∷ load_rule ∷ attrs 0 0 ∷ place ∷ elect ∷ below))

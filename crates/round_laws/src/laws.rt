@@ -2,8 +2,8 @@
 //!
 //! Work conservation, after some number of rounds no core idle while another is overloaded, is that of Lepers et al.,
 //! "Provable Multicore Schedulers with Ipanema: Application to Work Conservation" (EuroSys 2020) and "Towards Proving
-//! Optimistic Multicore Schedulers" (HotOS 2017). The number of rounds, half the first spread of the loads, and that it is
-//! claimed of rounds in which nobody enters, wakes, blocks or ends, are this project's own.
+//! Optimistic Multicore Schedulers" (HotOS 2017). The number of rounds, half the first spread of the loads, and that it
+//! is claimed of rounds in which nobody enters, wakes, blocks or ends, are this project's own.
 
 ghost use Rattle.round_model.specs.FailsExplained.{FailedStealsLaw};
 ghost use Rattle.round_model.specs.OnePlace.{OnePlaceLaw};

@@ -29,7 +29,10 @@ impl Model for Reads {
 
     ghost inverse = { λ list. record { len = length list; at = padded MAX_CORES list } };
 
-    ghost inverse_ok = { λ reads is i. record { len = padded-length MAX_CORES reads.len reads.at is i; at = padded-array MAX_CORES reads.len reads.at is i } };
+    ghost inverse_ok = { λ reads is i. record {
+      len = padded-length MAX_CORES reads.len reads.at is i;
+      at = padded-array MAX_CORES reads.len reads.at is i;
+    } };
 }
 
 impl Reads {

@@ -25,10 +25,13 @@ words_of_work by (did.Ended thread) = codes "work" ++ spaced (by ∷ thread ∷ 
 -- the words of an entry; behind the colon stands a position for each core that was read, from core 0 on
 abbrev pub words_of_entry : Entry → List ℕ
 words_of_entry (entry.Round number) = codes "round" ++ spaced (number ∷ [])
-words_of_entry (entry.Enter thread by at reads) = codes "enter" ++ spaced (thread ∷ by ∷ at ∷ []) ++ codes " :" ++ spaced reads
-words_of_entry (entry.Wake thread by at reads) = codes "wake" ++ spaced (thread ∷ by ∷ at ∷ []) ++ codes " :" ++ spaced reads
+words_of_entry (entry.Enter thread by at reads) =
+    codes "enter" ++ spaced (thread ∷ by ∷ at ∷ []) ++ codes " :" ++ spaced reads
+words_of_entry (entry.Wake thread by at reads) =
+    codes "wake" ++ spaced (thread ∷ by ∷ at ∷ []) ++ codes " :" ++ spaced reads
 words_of_entry (entry.Work by what) = words_of_work by what
-words_of_entry (entry.Steal by from thread reads) = codes "steal" ++ spaced (by ∷ from ∷ thread ∷ []) ++ codes " :" ++ spaced reads
+words_of_entry (entry.Steal by from thread reads) =
+    codes "steal" ++ spaced (by ∷ from ∷ thread ∷ []) ++ codes " :" ++ spaced reads
 words_of_entry (entry.Fail by from reads) = codes "fail" ++ spaced (by ∷ from ∷ []) ++ codes " :" ++ spaced reads
 words_of_entry (entry.Pass by reads) = codes "pass" ++ spaced (by ∷ []) ++ codes " :" ++ spaced reads
 

@@ -124,7 +124,8 @@ fn things_given_before(rt: HostRuntime) -> Result<(), Fail> {
         ("cores 2\nrounds 1\ncores 2\n", 3),
         ("cores 2\nrounds 1\n# x\n\nrounds 1\n", 5),
         (
-            "cores 2\nrounds 1\nthread 7 core 0 round 1 forever\nthread 1 core 0 round 1 forever\nthread 7 core 1 round 1 run 1\n",
+            "cores 2\nrounds 1\nthread 7 core 0 round 1 forever\n\
+            thread 1 core 0 round 1 forever\nthread 7 core 1 round 1 run 1\n",
             5,
         ),
     ];

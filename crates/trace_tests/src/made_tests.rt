@@ -47,7 +47,8 @@ fn threads_of_made_traces(rt: HostRuntime) -> Result<(), Fail> {
         (
             8,
             4,
-            "; 1 at 0 in 6 weighs 4 forever 1; 2 at 0 in 5 weighs 5 run 10; 3 at 0 in 4 weighs 8 run 2 block 4 run 2; 4 at 3 in 1 weighs 1 run 10 yield run 10",
+            "; 1 at 0 in 6 weighs 4 forever 1; 2 at 0 in 5 weighs 5 run 10; \
+            3 at 0 in 4 weighs 8 run 2 block 4 run 2; 4 at 3 in 1 weighs 1 run 10 yield run 10",
         ),
     ];
     let policy = policy(alloc, Load::Weight { lo: 1, hi: 8 }, &[])?;

@@ -99,7 +99,8 @@ fn plans_of_the_worked_traces(rt: HostRuntime) -> Result<(), Fail> {
         ),
         (
             "cores 2\nrounds 1\nthread 1 core 0 round 1 forever\nthread 2 core 0 round 1 forever\n",
-            "2 cores 1 rounds 8192 entries (0 0 0) (0 0 0); 1 at 0 in 1 weighs 1 forever 1; 2 at 0 in 1 weighs 1 forever 1",
+            "2 cores 1 rounds 8192 entries (0 0 0) (0 0 0); \
+            1 at 0 in 1 weighs 1 forever 1; 2 at 0 in 1 weighs 1 forever 1",
         ),
         (
             "cores 2\nrounds 0\n",
