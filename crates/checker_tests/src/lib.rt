@@ -5,6 +5,8 @@
 #[cfg(test)]
 mod differences;
 #[cfg(test)]
+mod large_systems;
+#[cfg(test)]
 mod made_systems;
 #[cfg(test)]
 mod solver;

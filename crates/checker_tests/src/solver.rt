@@ -1,9 +1,10 @@
 //! Tables of systems, each with the answer of the decider.
 
+use crate::large_systems::{COINS, EIGHT_COINS, LARGE_EQUATION, TRITS};
 use crate::made_systems::{
     BELOW_FIVE, BITS, COUNTS_AND_LOADS, EMPTY, EMPTY_BELOW, FIFTEEN_BITS, FIVE, GAP_OF_EIGHT,
-    GAP_OF_SEVEN, HALF, HUNDRED, LARGE_EQUATION, MULTIPLES, NONE, ODD_SUM, SCALED_GAP,
-    THIRTY_THREE, THREE_EQUATIONS, TRIANGLE, TRITS, WIDE, WIDE_COUNTS_AND_LOADS, WIDE_RANGES,
+    GAP_OF_SEVEN, HALF, HUNDRED, MULTIPLES, NONE, ODD_SUM, SCALED_GAP, THIRTY_THREE,
+    THREE_EQUATIONS, TRIANGLE, WIDE, WIDE_COUNTS_AND_LOADS, WIDE_RANGES,
 };
 use crate::tests::{Rows, system_of};
 use linear_cert::check;
@@ -37,7 +38,7 @@ fn systems_with_their_answers(rt: HostRuntime) -> Result<(), Fail> {
     use Wanted::{NoSolution, NumberOfPoints, Solution};
     const MOST: u64 = u64::MAX;
     let alloc = rt.alloc();
-    let cases: [(&str, &[(i64, i64)], Rows, u64, Wanted); 29] = [
+    let cases: [(&str, &[(i64, i64)], Rows, u64, Wanted); 30] = [
         ("nothing", &[], NONE, 1, Solution),
         ("nothing, no budget", &[], NONE, 0, NumberOfPoints(Some(1))),
         ("no rows", &[(-3, 4), (7, 7)], NONE, 8, Solution),
@@ -146,6 +147,7 @@ fn systems_with_their_answers(rt: HostRuntime) -> Result<(), Fail> {
             CHECK_BUDGET,
             NumberOfPoints(Some(43_046_721)),
         ),
+        ("eight coins", COINS, EIGHT_COINS, CHECK_BUDGET, Solution),
         ("wide ranges", WIDE_RANGES, NONE, CHECK_BUDGET, Solution),
         (
             "wide ranges, no budget",

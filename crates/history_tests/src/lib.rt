@@ -4,4 +4,6 @@
 #[cfg(test)]
 mod entries;
 #[cfg(test)]
+mod readings;
+#[cfg(test)]
 mod tests;

@@ -8,7 +8,11 @@ use std::alloc::Global;
 use std::test::Fail;
 
 /// Whether all was written, and what was, where these puts fail.
-fn written(alloc: Global, entries: &[Entry], failing: &[u64]) -> Result<(bool, Vec<u8>), Fail> {
+pub(crate) fn written(
+    alloc: Global,
+    entries: &[Entry],
+    failing: &[u64],
+) -> Result<(bool, Vec<u8>), Fail> {
     let mut out = MemorySink::new(alloc, 4096, failing.to_vec(alloc)?)?;
     let whole = are_printable(entries) && put_history(&mut out, entries).is_ok();
     Ok((whole, out.bytes().to_vec(alloc)?))

@@ -17,15 +17,15 @@ use Rattle.policy_check.specs.declared.reading.Refusal.TheVariants as refusal
 use Rattle.serial_play.specs.declared.rounds.Played.TheVariants as played
 use Rattle.trace_play.specs.declared.answer.PlayAnswer.TheVariants as play_answer
 use Rattle.ipanema_cli.specs.Answers.{AnswersCheck, AnswersExplain, AnswersPlay, IsAnswer, output_of, status_of}
-use Rattle.ipanema_cli.specs.Command.{Asked, IsFileOf, check, explain, play}
+use Rattle.command_words.specs.Command.{Asked, check, explain, make, play}
 use Rattle.ipanema_cli.specs.Ends.{Ends, answered, unread, no_memory}
 use Rattle.ipanema_cli.specs.Causes.{HasCause, OneOf, SaysCrowded, SaysTooLong}
 use Rattle.ipanema_cli.specs.Status.{code_of, outcome_status, refusal_status}
+use Rattle.ipanema_cli.specs.Loads.{IsFileOf}
 use Rattle.ipanema_cli.specs.Stops.{IsUnread}
 use Rattle.ipanema_cli.specs.Texts.{MayRead, room_of, too_long_line}
 use Rattle.ipanema_cli.specs.declared.answers.Answer.{Answer}
 use Rattle.ipanema_cli.specs.declared.answers.Answer.TheVariants as answer
-use Rattle.ipanema_cli.specs.declared.status.Status.TheVariants as status
 use Rattle.ipanema_cli.specs.declared.texts.TextKind.{TextKind}
 use Rattle.ipanema_cli.specs.declared.texts.TextKind.TheVariants as kind
 use Rattle.ipanema_cli.proofs.WritesLemmas.{is_0, is_1, is_2, is_3, is_7, is_8, is_10, answer_code, code_among, cut, no_stop, one_line, whole}
@@ -52,6 +52,7 @@ seven (answer.Explained (explained.Unjudged (refusal.Crowded name))) e = absurd 
 seven (answer.Played (play_answer.Broken fault)) e = absurd (omega arith)
 seven (answer.Played (play_answer.Played (played.Whole history))) e = absurd (omega arith)
 seven (answer.Played (play_answer.Played (played.Full history))) e = absurd (omega arith)
+seven (answer.Made text) e = absurd (omega arith)
 seven (answer.TooLong which) e = absurd (omega arith)
 seven answer.BadWords e = refl
 
@@ -61,12 +62,14 @@ for_no_command None told is = refl
 for_no_command (Some (check policy)) told is = absurd is
 for_no_command (Some (explain policy name)) told is = absurd is
 for_no_command (Some (play policy trace)) told is = absurd is
+for_no_command (Some (make seed size)) told is = absurd is
 
 -- and words that are no command have no other
 no_command_code : (told : List ℕ → Told) (a : Answer) → IsAnswer None told a → code_of (status_of a) ≡ 7
 no_command_code told (answer.Checked c) is = absurd is
 no_command_code told (answer.Explained e) is = absurd is
 no_command_code told (answer.Played outcome) is = absurd is
+no_command_code told (answer.Made text) is = absurd is
 no_command_code told (answer.TooLong which) is = absurd is
 no_command_code told answer.BadWords is = refl
 
@@ -80,6 +83,7 @@ long_for_check : (policy : Told) (a : Answer) (held : List ℕ) → AnswersCheck
 long_for_check policy (answer.Checked c) held (text, read, is) tells long = absurd (not_read kind.Policy policy text held read tells long)
 long_for_check policy (answer.Explained e) held is tells long = absurd is
 long_for_check policy (answer.Played outcome) held is tells long = absurd is
+long_for_check policy (answer.Made text) held is tells long = absurd is
 long_for_check policy (answer.TooLong which) held is tells long = refl
 long_for_check policy answer.BadWords held is tells long = absurd is
 
@@ -87,6 +91,7 @@ long_for_explain : (policy : Told) (name : ObName) (a : Answer) (held : List ℕ
 long_for_explain policy name (answer.Checked c) held is tells long = absurd is
 long_for_explain policy name (answer.Explained e) held (text, read, is) tells long = absurd (not_read kind.Policy policy text held read tells long)
 long_for_explain policy name (answer.Played outcome) held is tells long = absurd is
+long_for_explain policy name (answer.Made text) held is tells long = absurd is
 long_for_explain policy name (answer.TooLong which) held is tells long = refl
 long_for_explain policy name answer.BadWords held is tells long = absurd is
 
@@ -94,6 +99,7 @@ long_for_play : (policy trace : Told) (a : Answer) (held : List ℕ) → Answers
 long_for_play policy trace (answer.Checked c) held is tells long = absurd (not_read kind.Policy policy is.text held is.policy_read tells long)
 long_for_play policy trace (answer.Explained e) held is tells long = absurd is
 long_for_play policy trace (answer.Played outcome) held is tells long = absurd (not_read kind.Policy policy is.text held is.policy_read tells long)
+long_for_play policy trace (answer.Made text) held is tells long = absurd is
 long_for_play policy trace (answer.TooLong which) held is tells long = refl
 long_for_play policy trace answer.BadWords held is tells long = absurd is
 
@@ -101,6 +107,7 @@ long_trace_for_play : (policy trace : Told) (a : Answer) (held : List ℕ) → A
 long_trace_for_play policy trace (answer.Checked c) held is tells long = absurd (not_read kind.Trace trace is.jobs held is.trace_read tells long)
 long_trace_for_play policy trace (answer.Explained e) held is tells long = absurd is
 long_trace_for_play policy trace (answer.Played outcome) held is tells long = absurd (not_read kind.Trace trace is.jobs held is.trace_read tells long)
+long_trace_for_play policy trace (answer.Made text) held is tells long = absurd is
 long_trace_for_play policy trace (answer.TooLong which) held is tells long = refl
 long_trace_for_play policy trace answer.BadWords held is tells long = absurd is
 
@@ -112,6 +119,7 @@ long_file (Some (explain policy ob)) told a kind.Policy name held is file tells 
 long_file (Some (explain policy ob)) told a kind.Trace name held is file tells long = absurd file
 long_file (Some (play policy trace)) told a kind.Policy name held is file tells long = long_for_play (told policy) (told trace) a held is (sym (ap told file) ∙ tells) long
 long_file (Some (play policy trace)) told a kind.Trace name held is file tells long = long_trace_for_play (told policy) (told trace) a held is (sym (ap told file) ∙ tells) long
+long_file (Some (make seed size)) told a which name held is file tells long = absurd file
 
 -- the number 10 is that of a text that is too long, or of a policy with an obligation that has too many cases
 module _ (told : List ℕ → Told) (before after : Option (List ℕ)) where
@@ -136,6 +144,7 @@ module _ (told : List ℕ → Told) (before after : Option (List ℕ)) where
   ten (Some (play policy trace)) (answer.Checked (checked.Judged (verdict.Undecided answers kept))) is e added = absurd (omega arith)
   ten (Some (play policy trace)) (answer.Checked (checked.Unjudged why)) is e added =
       inr (crowded_by (Some (play policy trace)) policy is.text why refl is.policy_read is.answers.0 e added)
+  ten (Some (make seed size)) (answer.Checked c) is e added = absurd is
   ten None (answer.Explained told) is e added = absurd is
   ten (Some (check policy)) (answer.Explained told) is e added = absurd is
   ten (Some (explain policy ob)) (answer.Explained (explained.Explained told)) is e added =
@@ -143,6 +152,8 @@ module _ (told : List ℕ → Told) (before after : Option (List ℕ)) where
   ten (Some (explain policy ob)) (answer.Explained (explained.Unjudged why)) (text, read, is) e added =
       inr (crowded_by (Some (explain policy ob)) policy text why refl read is e added)
   ten (Some (play policy trace)) (answer.Explained told) is e added = absurd is
+  ten (Some (make seed size)) (answer.Explained told) is e added = absurd is
+  ten asked (answer.Made text) is e added = absurd (omega arith)
   ten asked (answer.Played (play_answer.Broken fault)) is e added = absurd (omega arith)
   ten asked (answer.Played (play_answer.Played (played.Whole history))) is e added = absurd (omega arith)
   ten asked (answer.Played (play_answer.Played (played.Full history))) is e added = absurd (omega arith)

@@ -1,5 +1,5 @@
 -- From how `check` ends to the truth of what it says.
-use Rattle.std.proofs.Common.{◌≡◌, ◌≢◌, ℕ, inl, inr, List, [], ◌∷◌, Option, refl, sym, ◌∙◌, ap, arith, length, subst}
+use Rattle.std.proofs.Common.{◌≡◌, ◌≢◌, ℕ, inl, inr, List, [], ◌∷◌, Option, refl, sym, ◌∙◌, ap, arith, length}
 use Rattle.sched_io.specs.Puts.{joined}
 use Rattle.sched_io.specs.Shown.{Shown}
 use Rattle.sched_io.specs.Told.{Told}
@@ -161,6 +161,7 @@ checks policy before after code (answer.Checked c) (text, read, is) writes = eli
   | inl e ↦ read_check policy text c before.written after.written code read is e (whole _ _ _ _ writes (λ five. (no_stop (answer.Checked c)).1 (sym e ∙ five)))
 ]
 checks policy before after code (answer.Explained told) is writes = absurd is
+checks policy before after code (answer.Made text) is writes = absurd is
 checks policy before after code (answer.Played outcome) is writes = absurd is
 checks policy before after code (answer.TooLong kind.Policy) long writes = elim (code_among _ _ _ _ writes) [
   | inr e ↦ stopped_check policy before.written after.written code (at_5 e)

@@ -1,5 +1,5 @@
 -- From how `explain` ends to the truth of what it says.
-use Rattle.std.proofs.Common.{◌≡◌, ◌≢◌, ℕ, inl, inr, List, [], ◌∷◌, Option, None, refl, sym, ◌∙◌, arith, subst}
+use Rattle.std.proofs.Common.{◌≡◌, ◌≢◌, ℕ, inl, inr, List, [], ◌∷◌, Option, refl, sym, ◌∙◌, arith, subst}
 use Rattle.sched_base.specs.declared.limits.TheConstants.{CHECK_BUDGET}
 use Rattle.sched_io.specs.Puts.{joined}
 use Rattle.sched_io.specs.Shown.{Shown}
@@ -20,7 +20,6 @@ use Rattle.policy_checker.proofs.Points.{points_refute}
 use Rattle.policy_checker.proofs.True.{answers_are_true}
 use Rattle.policy_check.specs.Checks.{IsExplained, IsExplainOf}
 use Rattle.policy_check.specs.Lines.{explain_lines}
-use Rattle.policy_check.specs.Points.{explain_line}
 use Rattle.policy_check.specs.declared.explaining.ExplainAnswer.{ExplainAnswer}
 use Rattle.policy_check.specs.declared.explaining.ExplainAnswer.TheVariants as explained
 use Rattle.policy_check.specs.declared.explaining.Explanation.{Explanation}
@@ -29,7 +28,7 @@ use Rattle.ipanema_cli.specs.Causes.{OneOf}
 use Rattle.ipanema_cli.specs.Ends.{Writes}
 use Rattle.ipanema_cli.specs.Status.{code_of, explain_status, outcome_status}
 use Rattle.ipanema_cli.specs.Texts.{MayBeLong, MayRead}
-use Rattle.ipanema_cli.specs.Truths.{ExplainsFor, ExplainsTruly, ShowsFailure, Spells}
+use Rattle.ipanema_cli.specs.Truths.{ExplainsTruly, ShowsFailure}
 use Rattle.ipanema_cli.specs.declared.answers.Answer.{Answer}
 use Rattle.ipanema_cli.specs.declared.answers.Answer.TheVariants as answer
 use Rattle.ipanema_cli.specs.declared.texts.TextKind.TheVariants as kind
@@ -123,6 +122,7 @@ explains policy name before after code (answer.Explained told) (text, read, is) 
   | inl e ↦ read_explain policy text name told before.written after.written code read is e (whole _ _ _ _ writes (λ five. (no_stop (answer.Explained told)).1 (sym e ∙ five)))
 ]
 explains policy name before after code (answer.Played outcome) is writes = absurd is
+explains policy name before after code (answer.Made text) is writes = absurd is
 explains policy name before after code (answer.TooLong kind.Policy) long writes = elim (code_among _ _ _ _ writes) [
   | inr e ↦ stopped_explain policy name before.written after.written code (at_5 e)
   | inl e ↦ long_explain policy name before.written after.written code long e

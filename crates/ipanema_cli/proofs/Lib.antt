@@ -2,8 +2,9 @@ pub mod CauseLemmas
 pub mod CheckTruths
 pub mod ExplainTruths
 pub mod LongLemmas
-pub mod NamesFound
+pub mod MakeTruths
 pub mod PlayTruths
 pub mod PolicyFacts
+pub mod SizeLemmas
 pub mod TruthLemmas
 pub mod WritesLemmas

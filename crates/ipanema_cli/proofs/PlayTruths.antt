@@ -1,5 +1,5 @@
 -- From how `play` ends to the truth of what it says.
-use Rattle.std.proofs.Common.{◌≡◌, ◌≢◌, ℕ, ◌⊎◌, inl, inr, List, [], ◌∷◌, Option, append-nil, refl, sym, ◌∙◌, arith, subst}
+use Rattle.std.proofs.Common.{◌≡◌, ◌≢◌, ℕ, inl, inr, List, [], ◌∷◌, Option, append-nil, refl, sym, ◌∙◌, arith, subst}
 use Rattle.std.proofs.lemmas.List.Folds.{flat_map-map}
 use Rattle.sched_io.specs.Puts.{joined}
 use Rattle.sched_io.specs.Shown.{Shown}
@@ -8,13 +8,12 @@ use Rattle.sched_io.specs.Written.{Adds}
 use Rattle.policy_eval.specs.Obligations.{MeetsObligations}
 use Rattle.policy_tree.specs.declared.typed.Policy.{Policy}
 use Rattle.policy_tree.specs.Meaning.{Meaning, meaning_of}
-use Rattle.policy_checker.specs.Verdicts.{policy_of}
 use Rattle.policy_checker.specs.declared.answer.Answered.{Answered}
 use Rattle.policy_checker.specs.declared.verdict.Verdict.{Verdict}
 use Rattle.policy_checker.specs.declared.verdict.Verdict.TheVariants as verdict
 use Rattle.policy_checker.proofs.True.{meets}
 use Rattle.policy_checker.proofs.Worth.{unmet}
-use Rattle.policy_check.specs.Checks.{IsCheckOf, IsJudged}
+use Rattle.policy_check.specs.Checks.{IsJudged}
 use Rattle.policy_check.specs.Lines.{check_lines}
 use Rattle.policy_check.specs.declared.answer.CheckAnswer.{CheckAnswer}
 use Rattle.policy_check.specs.declared.answer.CheckAnswer.TheVariants as checked
@@ -37,12 +36,12 @@ use Rattle.trace_play.specs.Told as trace_faults
 use Rattle.sched_history.specs.Spelling.{line_of_entry, text_of_history}
 use Rattle.trace_play.proofs.OnePlay.{never_faulty, one_plan, one_trace}
 use Rattle.round_laws.proofs.MainTheorem.{main_theorem}
-use Rattle.ipanema_cli.specs.Answers.{AnswersPlay, IsAccepted, PlaysTexts, accepts, play_status, status_of}
+use Rattle.ipanema_cli.specs.Answers.{AnswersPlay, IsAccepted, PlaysTexts, play_status}
 use Rattle.ipanema_cli.specs.Causes.{OneOf}
 use Rattle.ipanema_cli.specs.Ends.{Writes}
 use Rattle.ipanema_cli.specs.Status.{check_status, code_of, refusal_status, verdict_status}
 use Rattle.ipanema_cli.specs.Texts.{MayRead}
-use Rattle.ipanema_cli.specs.Truths.{Decides, DoHold, DoPlay, Holds, MayPlay, MustPlay, PlaysTruly, Refuses, SomeIsOpen, Spells}
+use Rattle.ipanema_cli.specs.Truths.{Decides, DoHold, DoPlay, Holds, MayPlay, MustPlay, PlaysTruly, Refuses, Spells}
 use Rattle.ipanema_cli.specs.declared.answers.Answer.{Answer}
 use Rattle.ipanema_cli.specs.declared.answers.Answer.TheVariants as answer
 use Rattle.ipanema_cli.specs.declared.texts.TextKind.TheVariants as kind
@@ -310,6 +309,7 @@ plays_truly policy trace before after code (answer.Checked c) texts writes = eli
   | inl e ↦ unaccepted policy trace c before.written after.written code texts e (whole _ _ _ _ writes (λ five. (no_stop (answer.Checked c)).1 (sym e ∙ five)))
 ]
 plays_truly policy trace before after code (answer.Explained told) is writes = absurd is
+plays_truly policy trace before after code (answer.Made text) is writes = absurd is
 plays_truly policy trace before after code (answer.Played outcome) texts writes = elim (code_among _ _ _ _ writes) [
   | inr e ↦ stopped_play policy trace before.written after.written code (at_5 e)
   | inl e ↦ answered_trace policy trace texts.text texts.jobs texts.answers.0 outcome before.written after.written code

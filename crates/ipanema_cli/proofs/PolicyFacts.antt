@@ -1,5 +1,5 @@
 -- What follows for a text from the answer that `check` gives.
-use Rattle.std.proofs.Common.{◌≡◌, ℕ, List, [], ◌∷◌, Option, Some, None, Bool, true, false, refl, sym, ◌∙◌, arith, subst}
+use Rattle.std.proofs.Common.{◌≡◌, ℕ, List, [], ◌∷◌, None, refl, sym, ◌∙◌, arith, subst}
 use Rattle.std.specs.List.{All, AllByRecursion}
 use Rattle.std.proofs.lemmas.List.Elements.{All-from_recursion}
 use Rattle.sched_base.specs.declared.limits.TheConstants.{CHECK_BUDGET}
@@ -7,12 +7,10 @@ use Rattle.sched_io.specs.Told.{Told}
 use Rattle.policy_eval.specs.Obligations.{MeetsObligations}
 use Rattle.policy_eval.specs.Resolved.{IsResolved}
 use Rattle.policy_tree.specs.Meaning.{Meaning, meaning_of}
-use Rattle.policy_reader.specs.declared.fault.TextFault.{TextFault}
 use Rattle.policy_reader.specs.Faults.{HasFault}
 use Rattle.policy_reader.specs.Spelled.{SpellsPolicy}
 use Rattle.policy_reader.proofs.OneFault.{never_both, one_policy}
 use Rattle.policy_reader.proofs.Resolved.{spells_resolved}
-use Rattle.obligations.specs.declared.names.ObName.{ObName}
 use Rattle.obligations.specs.Counts.{first_crowded}
 use Rattle.obligations.specs.Names.{ob_names}
 use Rattle.policy_checker.specs.Verdicts.{Answers, AreAnswers, IsVerdict, policy_of}
@@ -21,15 +19,14 @@ use Rattle.policy_checker.specs.declared.verdict.Verdict.{Verdict}
 use Rattle.policy_checker.specs.declared.verdict.Verdict.TheVariants as verdict
 use Rattle.policy_checker.proofs.True.{answers_are_true, meets}
 use Rattle.policy_checker.proofs.Worth.{open_one, unmet}
-use Rattle.policy_check.specs.Checks.{IsCheckOf, IsCrowded, IsJudged, IsRefusal}
+use Rattle.policy_check.specs.Checks.{IsCheckOf, IsRefusal}
 use Rattle.policy_check.specs.declared.answer.CheckAnswer.{CheckAnswer}
 use Rattle.policy_check.specs.declared.answer.CheckAnswer.TheVariants as checked
 use Rattle.policy_check.specs.declared.reading.Refusal.{Refusal}
 use Rattle.policy_check.specs.declared.reading.Refusal.TheVariants as refusal
 use Rattle.ipanema_cli.specs.Status.{check_status, code_of, refusal_status, verdict_status}
-use Rattle.ipanema_cli.specs.Texts.{MayBeLong, MayRead}
+use Rattle.ipanema_cli.specs.Texts.{MayRead}
 use Rattle.ipanema_cli.specs.Truths.{AllToldTruly, Decides, Holds, IsToldTruly, Refuses, SomeIsOpen, Spells}
-use Rattle.ipanema_cli.specs.declared.status.Status.TheVariants as status
 use Rattle.ipanema_cli.specs.declared.texts.TextKind.{TextKind}
 use Rattle.ipanema_cli.specs.declared.texts.TextKind.TheVariants as kind
 

@@ -6,7 +6,6 @@ use Rattle.sched_io.specs.Shown.{Shown}
 use Rattle.sched_io.specs.Written.{Adds}
 use Rattle.policy_checker.specs.declared.answer.Outcome.{Outcome}
 use Rattle.policy_checker.specs.declared.answer.Outcome.TheVariants as outcome
-use Rattle.policy_checker.specs.declared.verdict.Verdict.{Verdict}
 use Rattle.policy_checker.specs.declared.verdict.Verdict.TheVariants as verdict
 use Rattle.policy_check.specs.declared.answer.CheckAnswer.{CheckAnswer}
 use Rattle.policy_check.specs.declared.answer.CheckAnswer.TheVariants as checked
@@ -18,9 +17,9 @@ use Rattle.serial_play.specs.declared.rounds.Played.TheVariants as played
 use Rattle.trace_play.specs.declared.answer.PlayAnswer.{PlayAnswer}
 use Rattle.trace_play.specs.declared.answer.PlayAnswer.TheVariants as play_answer
 use Rattle.ipanema_cli.specs.Answers.{IsAnswer, lines_of, output_of, play_status, status_of}
-use Rattle.ipanema_cli.specs.Command.{Asked}
+use Rattle.command_words.specs.Command.{Asked}
 use Rattle.ipanema_cli.specs.Ends.{Ends, Writes, answered, written, cut_off}
-use Rattle.ipanema_cli.specs.Status.{check_status, code_of, explain_status, outcome_status, refusal_status, verdict_status}
+use Rattle.ipanema_cli.specs.Status.{check_status, code_of, explain_status, outcome_status, refusal_status}
 use Rattle.ipanema_cli.specs.declared.answers.Answer.{Answer}
 use Rattle.ipanema_cli.specs.declared.answers.Answer.TheVariants as answer
 
@@ -62,6 +61,7 @@ pub answer_code : (a : Answer) → AnswerCode (code_of (status_of a))
 answer_code (answer.Checked c) = check_code c
 answer_code (answer.Explained e) = explain_code e
 answer_code (answer.Played p) = play_code p
+answer_code (answer.Made text) = is_0 refl
 answer_code (answer.TooLong which) = is_10 refl
 answer_code answer.BadWords = is_7 refl
 

@@ -1,7 +1,8 @@
 -- What a command answers, and when that is its answer.
-use Rattle.std.specs.Prelude.{◌≡◌, ℕ, Bool, true, false, List, [], ◌∷◌, IsFalse, Option, Some, None, codes}
+use Rattle.std.specs.Prelude.{◌≡◌, ℕ, Bool, true, false, List, [], ◌∷◌, IsFalse, Ok, Option, Some, None, codes}
 use Rattle.policy_tree.specs.Meaning.{Meaning}
 use Rattle.policy_reader.specs.Spelled.{SpellsPolicy}
+use Rattle.job_trace.specs.declared.trace.Numbered.{Numbered}
 use Rattle.obligations.specs.declared.names.ObName.{ObName}
 use Rattle.obligations.specs.Counts.{first_crowded}
 use Rattle.obligations.specs.Names.{ob_names}
@@ -14,10 +15,12 @@ use Rattle.policy_check.specs.Lines.{check_lines, explain_lines}
 use Rattle.sched_io.specs.Puts.{joined}
 use Rattle.sched_io.specs.Told.{Told}
 use Rattle.serial_play.specs.declared.rounds.Played.TheVariants as played
+use Rattle.trace_maker.specs.Made.{made}
+use Rattle.trace_printer.specs.Printed.{trace_text}
 use Rattle.trace_play.specs.declared.answer.PlayAnswer.{PlayAnswer}
 use Rattle.trace_play.specs.declared.answer.PlayAnswer.TheVariants as play_answer
 use Rattle.trace_play.specs.Plays as plays
-use Rattle.ipanema_cli.specs.Command.{Asked, check, explain, play}
+use Rattle.command_words.specs.Command.{Asked, check, explain, make, play}
 use Rattle.ipanema_cli.specs.Status.{check_status, explain_status}
 use Rattle.ipanema_cli.specs.Texts.{MayBeLong, MayRead, too_long_line}
 use Rattle.ipanema_cli.specs.declared.answers.Answer.{Answer}
@@ -31,6 +34,7 @@ abbrev pub lines_of : Answer → List (List ℕ)
 lines_of (answer.Checked c) = check_lines c
 lines_of (answer.Explained e) = explain_lines e
 lines_of (answer.Played outcome) = plays.lines_of outcome
+lines_of (answer.Made text) = text.items ∷ []
 lines_of (answer.TooLong which) = too_long_line which ∷ []
 lines_of answer.BadWords = codes "bad words\n" ∷ []
 
@@ -49,6 +53,7 @@ abbrev pub status_of : Answer → Status
 status_of (answer.Checked c) = check_status c
 status_of (answer.Explained e) = explain_status e
 status_of (answer.Played outcome) = play_status outcome
+status_of (answer.Made text) = status.Done
 status_of (answer.TooLong which) = status.TooMuch
 status_of answer.BadWords = status.BadWords
 
@@ -57,6 +62,7 @@ abbrev pub CanBePut : Answer → Type 0
 CanBePut (answer.Checked c) = Unit {0}
 CanBePut (answer.Explained e) = Unit {0}
 CanBePut (answer.Played outcome) = plays.IsShown outcome
+CanBePut (answer.Made text) = Unit {0}
 CanBePut (answer.TooLong which) = Unit {0}
 CanBePut answer.BadWords = Unit {0}
 
@@ -78,6 +84,7 @@ abbrev pub AnswersWords : Answer → Type 0
 AnswersWords (answer.Checked c) = ⊥
 AnswersWords (answer.Explained e) = ⊥
 AnswersWords (answer.Played outcome) = ⊥
+AnswersWords (answer.Made text) = ⊥
 AnswersWords (answer.TooLong which) = ⊥
 AnswersWords answer.BadWords = Unit {0}
 
@@ -87,6 +94,7 @@ AnswersCheck policy (answer.Checked c) = (text : List ℕ) × MayRead kind.Polic
     × IsCheckOf text c
 AnswersCheck policy (answer.Explained e) = ⊥
 AnswersCheck policy (answer.Played outcome) = ⊥
+AnswersCheck policy (answer.Made text) = ⊥
 AnswersCheck policy (answer.TooLong kind.Policy) = MayBeLong kind.Policy policy
 AnswersCheck policy (answer.TooLong kind.Trace) = ⊥
 AnswersCheck policy answer.BadWords = ⊥
@@ -97,6 +105,7 @@ AnswersExplain policy name (answer.Checked c) = ⊥
 AnswersExplain policy name (answer.Explained e) = (text : List ℕ) × MayRead kind.Policy policy text
     × IsExplainOf text name e
 AnswersExplain policy name (answer.Played outcome) = ⊥
+AnswersExplain policy name (answer.Made text) = ⊥
 AnswersExplain policy name (answer.TooLong kind.Policy) = MayBeLong kind.Policy policy
 AnswersExplain policy name (answer.TooLong kind.Trace) = ⊥
 AnswersExplain policy name answer.BadWords = ⊥
@@ -107,6 +116,7 @@ IsPlayOfTexts policy trace (answer.Checked c) = IsCheckOf policy c × IsFalse (a
 IsPlayOfTexts policy trace (answer.Explained e) = ⊥
 IsPlayOfTexts policy trace (answer.Played outcome) = (p : Meaning) × IsAccepted policy p
     × plays.IsPlayOf p trace outcome
+IsPlayOfTexts policy trace (answer.Made text) = ⊥
 IsPlayOfTexts policy trace (answer.TooLong which) = ⊥
 IsPlayOfTexts policy trace answer.BadWords = ⊥
 
@@ -123,10 +133,21 @@ abbrev pub AnswersPlay : (policy trace : Told) → Answer → Type 0
 AnswersPlay policy trace (answer.Checked c) = PlaysTexts policy trace (answer.Checked c)
 AnswersPlay policy trace (answer.Explained e) = ⊥
 AnswersPlay policy trace (answer.Played outcome) = PlaysTexts policy trace (answer.Played outcome)
+AnswersPlay policy trace (answer.Made text) = ⊥
 AnswersPlay policy trace (answer.TooLong kind.Policy) = MayBeLong kind.Policy policy
 AnswersPlay policy trace (answer.TooLong kind.Trace) =
     ((text : List ℕ) × MayRead kind.Policy policy text) × MayBeLong kind.Trace trace
 AnswersPlay policy trace answer.BadWords = ⊥
+
+-- the answer of `make`: the text of the made trace
+abbrev pub AnswersMake : (seed size : ℕ) → Answer → Type 0
+AnswersMake seed size (answer.Checked c) = ⊥
+AnswersMake seed size (answer.Explained e) = ⊥
+AnswersMake seed size (answer.Played outcome) = ⊥
+AnswersMake seed size (answer.Made text) = (trace : List Numbered) × (made seed size ≡ Ok trace)
+    × (text.items ≡ trace_text trace)
+AnswersMake seed size (answer.TooLong which) = ⊥
+AnswersMake seed size answer.BadWords = ⊥
 
 -- the answer to what is asked
 abbrev pub IsAnswer : Option Asked → (List ℕ → Told) → Answer → Type 0
@@ -134,3 +155,4 @@ IsAnswer None told a = AnswersWords a
 IsAnswer (Some (check policy)) told a = AnswersCheck (told policy) a
 IsAnswer (Some (explain policy name)) told a = AnswersExplain (told policy) name a
 IsAnswer (Some (play policy trace)) told a = AnswersPlay (told policy) (told trace) a
+IsAnswer (Some (make seed size)) told a = AnswersMake seed size a

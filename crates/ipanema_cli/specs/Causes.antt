@@ -10,7 +10,8 @@ use Rattle.policy_check.specs.Checks.{IsCrowded}
 use Rattle.policy_check.specs.Lines.{refusal_line}
 use Rattle.policy_check.specs.declared.reading.Refusal.TheVariants.{Crowded}
 use Rattle.ipanema_cli.specs.Answers.{IsAnswer, lines_of}
-use Rattle.ipanema_cli.specs.Command.{Asked, IsFileOf}
+use Rattle.command_words.specs.Command.{Asked}
+use Rattle.ipanema_cli.specs.Loads.{IsFileOf}
 use Rattle.ipanema_cli.specs.Stops.{IsUnread}
 use Rattle.ipanema_cli.specs.Texts.{MayRead, room_of, too_long_line}
 use Rattle.ipanema_cli.specs.declared.answers.Answer.{Answer}

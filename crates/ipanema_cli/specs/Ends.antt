@@ -4,7 +4,7 @@ use Rattle.sched_io.specs.Puts.{WritesAll, WritesPart}
 use Rattle.sched_io.specs.Shown.{Shown}
 use Rattle.sched_io.specs.Told.{Told}
 use Rattle.ipanema_cli.specs.Answers.{IsAnswer, lines_of, status_of}
-use Rattle.ipanema_cli.specs.Command.{Asked}
+use Rattle.command_words.specs.Command.{Asked}
 use Rattle.ipanema_cli.specs.Status.{code_of}
 use Rattle.ipanema_cli.specs.Stops.{IsUnread}
 use Rattle.ipanema_cli.specs.declared.answers.Answer.{Answer}

@@ -1,8 +1,6 @@
 pub mod Answers
 pub mod Arguments
-pub mod Asks
 pub mod Causes
-pub mod Command
 pub mod Ends
 pub mod Loads
 pub mod Status

@@ -1,10 +1,22 @@
 -- Which files a command loads.
-use Rattle.std.specs.Prelude.{ℕ, ◌<◌, List, [], ◌∷◌, Option, Some, None, take}
+use Rattle.std.specs.Prelude.{◌≡◌, ℕ, ◌<◌, List, [], ◌∷◌, Option, Some, None, take}
 use Rattle.sched_io.specs.Loads.{Asks, Request, request}
 use Rattle.sched_io.specs.Told.{Told}
-use Rattle.ipanema_cli.specs.Command.{Asked, check, explain, play}
+use Rattle.command_words.specs.Command.{Asked, check, explain, make, play}
 use Rattle.ipanema_cli.specs.Texts.{MayRead, room_of}
+use Rattle.ipanema_cli.specs.declared.texts.TextKind.{TextKind}
 use Rattle.ipanema_cli.specs.declared.texts.TextKind.TheVariants as kind
+
+-- the command loads such a text from the file of that name
+abbrev pub IsFileOf : Option Asked → TextKind → List ℕ → Type 0
+IsFileOf None which name = ⊥
+IsFileOf (Some (check policy)) kind.Policy name = name ≡ policy
+IsFileOf (Some (check policy)) kind.Trace name = ⊥
+IsFileOf (Some (explain policy ob)) kind.Policy name = name ≡ policy
+IsFileOf (Some (explain policy ob)) kind.Trace name = ⊥
+IsFileOf (Some (play policy trace)) kind.Policy name = name ≡ policy
+IsFileOf (Some (play policy trace)) kind.Trace name = name ≡ trace
+IsFileOf (Some (make seed size)) which name = ⊥
 
 -- the files of a command, each with the most bytes that it may have
 abbrev pub files_of : Option Asked → List Request
@@ -12,6 +24,7 @@ files_of None = []
 files_of (Some (check policy)) = request policy (room_of kind.Policy) ∷ []
 files_of (Some (explain policy name)) = request policy (room_of kind.Policy) ∷ []
 files_of (Some (play policy trace)) = request policy (room_of kind.Policy) ∷ request trace (room_of kind.Trace) ∷ []
+files_of (Some (make seed size)) = []
 
 -- Of so many loads each but the last is of a text that may be read: behind one that is told to be missing or too long
 -- none is.
@@ -19,6 +32,7 @@ abbrev pub MayGoOn : Option Asked → (List ℕ → Told) → ℕ → Type 0
 MayGoOn None told count = Unit {0}
 MayGoOn (Some (check policy)) told count = Unit {0}
 MayGoOn (Some (explain policy name)) told count = Unit {0}
+MayGoOn (Some (make seed size)) told count = Unit {0}
 MayGoOn (Some (play policy trace)) told count = 1 < count → (text : List ℕ) × MayRead kind.Policy (told policy) text
 
 -- Just the first of the command's files are loaded, each once and with its limit, where the source tells of its loads.

@@ -2,7 +2,7 @@
 use Rattle.std.specs.Prelude.{◌≡◌, ◌⊎◌, ℕ, List, Option, Some, None}
 use Rattle.sched_io.specs.Told.{Told, missing}
 use Rattle.ipanema_cli.specs.Answers.{IsAnswer}
-use Rattle.ipanema_cli.specs.Command.{Asked, check, explain, play}
+use Rattle.command_words.specs.Command.{Asked, check, explain, make, play}
 use Rattle.ipanema_cli.specs.Texts.{MayBeLong, MayRead}
 use Rattle.ipanema_cli.specs.declared.answers.Answer.TheVariants as answer
 use Rattle.ipanema_cli.specs.declared.stop.Stop.{Stop}
@@ -25,6 +25,7 @@ IsUnread (Some (explain policy name)) told fault = fault ⊎ (told policy ≡ mi
 IsUnread (Some (play policy trace)) told fault =
     fault ⊎ ((told policy ≡ missing) ⊎ (((text : List ℕ) × MayRead kind.Policy (told policy) text)
     × (told trace ≡ missing)))
+IsUnread (Some (make seed size)) told fault = ⊥
 
 -- That is why the command comes to no answer but that a text is too long.
 abbrev pub IsStop : Option Asked → (List ℕ → Told) → Type 0 → Stop → Type 0

@@ -1,11 +1,11 @@
 -- What is said of a policy and of a trace is true.
-use Rattle.std.specs.Prelude.{◌≡◌, ◌≢◌, ◌⊎◌, ℕ, ◌≤◌, List, [], ◌∷◌, Option, Some, None, All, length, ℤ}
+use Rattle.std.specs.Prelude.{◌≡◌, ◌≢◌, ◌⊎◌, ℕ, ◌≤◌, List, [], ◌∷◌, Ok, Option, Some, None, All, length}
 use Rattle.sched_io.specs.Puts.{joined}
 use Rattle.sched_io.specs.Told.{Told, holds}
 use Rattle.sched_io.specs.Written.{Adds}
 use Rattle.sched_base.specs.declared.limits.TheConstants.{CHECK_BUDGET}
 use Rattle.policy_eval.specs.Obligations.{MeetsObligations}
-use Rattle.policy_tree.specs.Meaning.{Meaning, meaning_of}
+use Rattle.policy_tree.specs.Meaning.{Meaning}
 use Rattle.policy_reader.specs.declared.fault.TextFault.{TextFault}
 use Rattle.policy_reader.specs.Faults.{HasFault}
 use Rattle.policy_reader.specs.Lines.{fault_line}
@@ -18,7 +18,7 @@ use Rattle.policy_checker.specs.Answers as obligation
 use Rattle.policy_checker.specs.Certified.{IsCertified}
 use Rattle.policy_checker.specs.Laws.{FailsAt}
 use Rattle.policy_checker.specs.Outcomes.{HasOpen, IsTold, outcome_of}
-use Rattle.policy_checker.specs.Verdicts.{IsVerdict, policy_of}
+use Rattle.policy_checker.specs.Verdicts.{IsVerdict}
 use Rattle.policy_checker.specs.declared.answer.Answered.{Answered}
 use Rattle.policy_checker.specs.declared.answer.ObAnswer.{ObAnswer}
 use Rattle.policy_checker.specs.declared.answer.ObAnswer.TheVariants as answer
@@ -36,12 +36,14 @@ use Rattle.job_trace.specs.Plans.{SpellsPlan}
 use Rattle.job_trace.specs.TraceText.{SpellsTrace}
 use Rattle.sched_history.specs.Spelling.{text_of_history}
 use Rattle.serial_play.specs.Rounds.{EndsWhole, IsFull, StopsFull}
+use Rattle.trace_maker.specs.Made.{made}
+use Rattle.trace_printer.specs.Printed.{trace_text}
 use Rattle.trace_play.specs.declared.fault.LineFault.{LineFault}
 use Rattle.trace_play.specs.Plays as plays
 use Rattle.trace_play.specs.Told as trace_faults
 use Rattle.ipanema_cli.specs.Answers.{IsAccepted}
 use Rattle.ipanema_cli.specs.Causes.{OneOf}
-use Rattle.ipanema_cli.specs.Command.{Asked, check, explain, play}
+use Rattle.command_words.specs.Command.{Asked, check, explain, make, play}
 use Rattle.ipanema_cli.specs.Status.{code_of, outcome_status, verdict_status}
 use Rattle.ipanema_cli.specs.Texts.{MayRead, room_of}
 use Rattle.ipanema_cli.specs.declared.texts.TextKind.{TextKind}
@@ -235,9 +237,22 @@ pub record PlaysTruly (policy trace : Told) (before after : Option (List ℕ)) (
   pub lines : OneOf (1 ∷ 3 ∷ []) code → AnswersFor policy before after code
   pub bad_text : code ≡ 2 → TellsFault policy before after ⊎ BadTrace policy trace before after
 
+-- The text of the made trace was written, which spells just that trace.
+pub record WritesMade (seed size : ℕ) (before after : Option (List ℕ)) : Type 0 where
+  pub trace : List Numbered
+  pub made : made seed size ≡ Ok trace
+  pub spells : SpellsTrace (trace_text trace) trace
+  pub written : Adds (trace_text trace) before after
+
+-- What `make` writes is the made trace, and it has no answer but that one.
+pub record MakesTruly (seed size : ℕ) (before after : Option (List ℕ)) (code : ℕ) : Type 0 where
+  pub ends : OneOf (0 ∷ 5 ∷ 6 ∷ []) code
+  pub makes : code ≡ 0 → WritesMade seed size before after
+
 -- What is said is true.
 abbrev pub IsTruthful : Option Asked → (List ℕ → Told) → Option (List ℕ) → Option (List ℕ) → ℕ → Type 0
 IsTruthful None told before after code = Unit {0}
 IsTruthful (Some (check policy)) told before after code = ChecksTruly (told policy) before after code
 IsTruthful (Some (explain policy name)) told before after code = ExplainsTruly (told policy) name before after code
 IsTruthful (Some (play policy trace)) told before after code = PlaysTruly (told policy) (told trace) before after code
+IsTruthful (Some (make seed size)) told before after code = MakesTruly seed size before after code

@@ -1,9 +1,10 @@
 //! What commands answer, and how it is written.
 
-ghost use Rattle.std.specs.Prelude.{◌≡◌, ◌≤◌, IfErr, IfOk, length};
+ghost use Rattle.std.specs.Prelude.{◌≡◌, ◌≤◌, IfErr, IfOk, IsTrue, length};
 ghost use Rattle.sched_base.specs.declared.limits.TheConstants.{MAX_POLICY_BYTES, MAX_TRACE_BYTES};
 ghost use Rattle.sched_io.specs.Puts.{Puts};
-ghost use Rattle.ipanema_cli.specs.Answers.{CanBePut, IsPlayOfTexts, lines_of, status_of};
+ghost use Rattle.ipanema_cli.specs.Answers.{AnswersMake, CanBePut, IsPlayOfTexts, lines_of, status_of};
+ghost use Rattle.command_words.specs.Numbers.{is_size};
 ghost use Rattle.ipanema_cli.specs.declared.stop.Stop.TheVariants as stop;
 
 use crate::status::{Status, check_status, explain_status};
@@ -14,7 +15,9 @@ use policy_checker::Verdict;
 use sched_io::{PutFault, Sink, put_all};
 use serial_play::Played;
 use std::alloc::Global;
+use trace_maker::make_trace;
 use trace_play::{PlayAnswer, play_text};
+use trace_printer::print_trace;
 
 /// What a command answers.
 #[derive(Drop)]
@@ -25,6 +28,8 @@ pub enum Answer {
     Explained(ExplainAnswer),
     /// What serial play of the trace comes to, under an accepted policy.
     Played(PlayAnswer),
+    /// The text of a made trace.
+    Made(Vec<u8>),
     /// A text of that kind is longer than its limit.
     TooLong(TextKind),
     /// The words are no command.
@@ -47,6 +52,17 @@ pub fn play_texts(alloc: Global, policy: &[u8], trace: &[u8]) -> Result<Answer, 
     }
 }
 
+/// The answer of `make`: the text of the trace of so many threads that the seed determines.
+pub fn make(alloc: Global, seed: u64, size: u32) -> Result<Answer, Stop>
+    requires { IsTrue (is_size size) }
+    ensures answer { IfOk result (AnswersMake seed size) }
+    ensures shown { IfOk result CanBePut }
+    ensures memory { IfErr result (λ why. why ≡ stop.Memory) }
+{
+    let trace = make_trace(alloc, seed, size).map_err(|_| Stop::Memory)?;
+    Ok(Answer::Made(print_trace(alloc, &trace)?))
+}
+
 impl Answer {
     /// The status of the answer.
     pub fn status(&self) -> Status
@@ -58,6 +74,7 @@ impl Answer {
             Answer::Played(PlayAnswer::Broken(_)) => Status::BadText,
             Answer::Played(PlayAnswer::Played(Played::Whole(_))) => Status::Done,
             Answer::Played(PlayAnswer::Played(Played::Full(_))) => Status::HistoryFull,
+            Answer::Made(_) => Status::Done,
             Answer::TooLong(_) => Status::TooMuch,
             Answer::BadWords => Status::BadWords,
         }
@@ -72,6 +89,7 @@ impl Answer {
             Answer::Checked(answer) => answer.put(out),
             Answer::Explained(answer) => answer.put(out),
             Answer::Played(answer) => answer.put(out),
+            Answer::Made(text) => put_all(out, text.as_slice()),
             Answer::TooLong(kind) => put_all(out, kind.too_long_line()),
             Answer::BadWords => put_all(out, b"bad words\n"),
         }

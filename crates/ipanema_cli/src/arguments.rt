@@ -5,7 +5,7 @@ ghost use Rattle.std.specs.Process.{exit_status};
 ghost use Rattle.std.specs.Vec.Iter.{into_iter_items};
 ghost use Rattle.sched_io.specs.Faults.{Rose};
 ghost use Rattle.ipanema_cli.specs.Arguments.{words_given};
-ghost use Rattle.ipanema_cli.specs.Command.{asked_by, words_of};
+ghost use Rattle.command_words.specs.Command.{asked_by, words_of};
 ghost use Rattle.ipanema_cli.specs.Ends.{Ends};
 
 use crate::status::Status;

@@ -1,7 +1,7 @@
 //! The gallery of `examples/faults`, by `check`: for each word of a fault a text that has it, and
 //! the line that is written.
 
-use crate::tests::{call_over, check};
+use crate::calls::{call_over, check};
 use std::test::Fail;
 
 #[test]

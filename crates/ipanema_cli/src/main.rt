@@ -1,11 +1,17 @@
-//! The program `ipanema`: it checks scheduling policies, and plays traces of jobs under them.
+//! The program `ipanema`: it checks scheduling policies and explains what fails, plays traces of jobs under them, and
+//! makes traces.
 #![tactic(auto)]
 
 mod answers;
 mod arguments;
-mod command;
+#[cfg(test)]
+mod calls;
+#[cfg(test)]
+mod fault_tests;
 #[cfg(test)]
 mod gallery_tests;
+#[cfg(test)]
+mod make_tests;
 #[cfg(test)]
 mod play_tests;
 mod serial;

@@ -4,18 +4,18 @@ ghost use Rattle.std.specs.Prelude.{◌≡◌, ◌≢◌, ◌⊎◌, [], ◌∷�
 ghost use Rattle.sched_io.specs.Faults.{Rose};
 ghost use Rattle.sched_io.specs.Loads.{Asks};
 ghost use Rattle.ipanema_cli.specs.Answers.{AnswersCheck, AnswersExplain, AnswersPlay, CanBePut, IsAnswer};
-ghost use Rattle.ipanema_cli.specs.Command.{asked_by, check, explain, play, words_of};
+ghost use Rattle.command_words.specs.Command.{asked_by, check, explain, play, words_of};
 ghost use Rattle.ipanema_cli.specs.Ends.{Ends, Writes};
 ghost use Rattle.ipanema_cli.specs.Causes.{HasCause, OneOf};
 ghost use Rattle.ipanema_cli.specs.Loads.{FirstAreLoaded, files_of};
 ghost use Rattle.ipanema_cli.specs.Stops.{IsStop};
 ghost use Rattle.ipanema_cli.specs.Truths.{IsTruthful};
 
-use crate::answers::{Answer, play_texts};
-use crate::command::{Request, request_of};
+use crate::answers::{Answer, make, play_texts};
 use crate::status::Status;
 use crate::stop::Stop;
 use crate::texts::{TextKind, load};
+use command_words::{Request, request_of};
 use obligations::ObName;
 use policy_check::{check_text, explain_text};
 use sched_io::{Files, PutFault, Sink};
@@ -82,6 +82,7 @@ fn answer_to<F: Files>(alloc: Global, words: &[String], files: &mut F) -> Result
         Request::Check { policy } => check(alloc, policy, files),
         Request::Explain { policy, name } => explain(alloc, policy, name, files),
         Request::Play { policy, trace } => play(alloc, policy, trace, files),
+        Request::Make { seed, size } => make(alloc, seed, size),
         Request::Unknown => Ok(Answer::BadWords),
     }
 }

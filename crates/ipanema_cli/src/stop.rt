@@ -5,6 +5,7 @@ ghost use Rattle.ipanema_cli.specs.declared.stop.Stop.TheVariants as stop;
 
 use crate::texts::TextKind;
 use policy_check::CheckMemory;
+use std::alloc::AllocError;
 use trace_play::PlayMemory;
 
 /// What keeps a command from its answer.
@@ -16,6 +17,14 @@ pub enum Stop {
     TooLong(TextKind),
     /// There was no memory.
     Memory,
+}
+
+impl From<AllocError> for Stop {
+    ghost from_gives = { λ _ why. why ≡ stop.Memory };
+
+    fn from(_fault: AllocError) -> Stop {
+        Stop::Memory
+    }
 }
 
 impl From<CheckMemory> for Stop {

@@ -3,7 +3,7 @@
 ghost use Rattle.std.specs.Prelude.{◌≡◌, ◌⊎◌, [], ◌∷◌};
 ghost use Rattle.sched_io.specs.Faults.{Rose};
 ghost use Rattle.sched_io.specs.Loads.{Asks};
-ghost use Rattle.ipanema_cli.specs.Command.{asked_by, words_of};
+ghost use Rattle.command_words.specs.Command.{asked_by, words_of};
 ghost use Rattle.ipanema_cli.specs.Ends.{Ends};
 ghost use Rattle.ipanema_cli.specs.Causes.{HasCause, OneOf};
 ghost use Rattle.ipanema_cli.specs.Loads.{FirstAreLoaded, files_of};

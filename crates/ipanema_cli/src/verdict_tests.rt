@@ -1,6 +1,6 @@
 //! `check` and `explain` of policies of every kind, with their exact lines.
 
-use crate::tests::{Outside, call, call_over, check};
+use crate::calls::{Outside, call, call_over, check, play};
 use std::alloc::Global;
 use std::test::Fail;
 
@@ -132,6 +132,55 @@ fn handlers_with_gaps_and_overlaps(rt: HostRuntime) -> Result<(), Fail> {
         assert_eq!(rt; status, 1, "at {name}");
         assert_eq!(rt; out.as_slice(), line.as_bytes(), "at {name}");
     }
+    Ok(())
+}
+
+/// Eight attributes of each core, and an equation over them that has no solution, too wide to be searched through.
+const EIGHT_ATTRIBUTES: &str =
+    "load count\ncore a in 0..2 start 0\ncore b in 0..2 start 0\ncore c in 0..2 start 0\n\
+    core d in 0..2 start 0\ncore e in 0..2 start 0\ncore f in 0..2 start 0\ncore g in 0..2 start 0\n\
+    core h in 0..2 start 0";
+
+const WIDE_EQUATION: &str =
+    "victim.nr - self.nr >= 2 or 30712663351 * self.a + 19975611473 * self.b + \
+    19481464875 * self.c + 23654256373 * self.d + 17340911833 * self.e + \
+    31927265115 * self.f + 21774863247 * self.g + 19003165223 * self.h + \
+    21250248105 * victim.a + 18883598869 * victim.b + 25667820237 * victim.c + \
+    25161930443 * victim.d + 31308633495 * victim.e + 17956083083 * victim.f + \
+    24218948935 * victim.g + 18779304451 * victim.h == 367096781453";
+
+/// A policy that is left undecided: no obligation is known to fail, and two aren't known to hold. Beside one that fails
+/// the same equation is no reason to leave the policy undecided.
+#[test]
+fn undecided_policies(rt: HostRuntime) -> Result<(), Fail> {
+    let alloc = rt.alloc();
+    let text = policy_of(alloc, EIGHT_ATTRIBUTES, WIDE_EQUATION)?;
+    let balance = "B1 holds\nB2 undecided\nB3 undecided\n";
+    let wanted = format!(in alloc; "{balance}{HANDLERS_HOLD}undecided\n")?;
+    let (status, out) = check(&rt, alloc, text.as_bytes())?;
+    assert_eq!(rt; status, 3);
+    assert_eq!(rt; out.as_slice(), wanted.as_bytes());
+    let (status, out) = call_over(&rt, alloc, &["explain", "p", "B2"], text.as_bytes())?;
+    assert_eq!(rt; status, 3);
+    assert_eq!(rt; out.as_slice(), b"B2 undecided\n".as_slice());
+    let (status, out) = play(
+        &rt,
+        alloc,
+        (text.as_bytes(), b"cores 1\nrounds 0\n"),
+        &[],
+        &[],
+    )?;
+    assert_eq!(rt; status, 3);
+    assert_eq!(rt; out.as_slice(), wanted.as_bytes());
+
+    let failing = format!(in alloc; "{EIGHT_ATTRIBUTES}\non tick {{ when t.weight > 1 : keep }}")?;
+    let text = policy_of(alloc, failing.as_str(), WIDE_EQUATION)?;
+    let (status, out) = check(&rt, alloc, text.as_bytes())?;
+    let lines = str::from_utf8(out.as_slice()).unwrap_or("");
+    assert_eq!(rt; status, 1);
+    assert!(rt; lines.contains("B2 undecided\n"));
+    assert!(rt; lines.contains("H2.tick fails\n"));
+    assert!(rt; lines.ends_with("refused\n"));
     Ok(())
 }
 

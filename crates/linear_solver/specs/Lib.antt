@@ -10,3 +10,4 @@ pub mod Follows
 pub mod Probes
 pub mod Insides
 pub mod Laws
+pub mod LocalSearch

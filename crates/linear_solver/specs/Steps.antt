@@ -12,19 +12,22 @@ use Rattle.linear_solver.specs.declared.parts.Part.{Part}
 use Rattle.linear_solver.specs.declared.parts.Part.TheVariants.{Closed, Open}
 use Rattle.linear_solver.specs.declared.parts.Partition.{Partition}
 use Rattle.linear_cert.specs.Right.{CanBeCut, IsRightLeaf, past, up_to}
-use Rattle.linear_solver.specs.Boxes.{IsImplied, HoldsPartly, IsRefuted, IsWide, height}
+use Rattle.linear_solver.specs.Boxes.{IsImplied, HoldsPartly, IsRefuted, height}
+
+-- the row with this number may hold at some points of the box, and doesn't hold at every one
+abbrev pub IsOpenRow : List Bound → List Row → ℕ → Type 0
+IsOpenRow bounds rows row = (row < length rows) × ((d : Row) → HoldsPartly bounds (slice_index_or rows row d))
 
 -- what the rows say of a box is so
 abbrev pub IsLook : List Bound → List Row → Look → Type 0
 IsLook bounds rows (Refuted number) = (number < length rows)
     × ((d : Row) → IsRefuted bounds (slice_index_or rows number d))
 IsLook bounds rows Implied = All (IsImplied bounds) rows
-IsLook bounds rows (Open' choice) = IsWide bounds choice.wide
+IsLook bounds rows (Open' choice) = IsOpenRow bounds rows choice.row
 
 -- the row is open
 abbrev pub IsTight : List Bound → List Row → Tight → Type 0
-IsTight bounds rows tight = (tight.row < length rows) ×
-    ((d : Row) → HoldsPartly bounds (slice_index_or rows tight.row d))
+IsTight bounds rows tight = IsOpenRow bounds rows tight.row
 
 -- where the row holds is so
 abbrev pub IsReach : List Bound → Row → Reach → Type 0

@@ -5,7 +5,7 @@ ghost use Rattle.linear_form.specs.System.{IsBound, IsRow, IsSystem, IsTerm};
 ghost use Rattle.linear_solver.specs.Boxes.{AreFixed, HoldsPartly, IsWide, spread};
 ghost use Rattle.linear_solver.specs.Steps.{IsLook, IsReach};
 
-use crate::ends::{greatest, least};
+use crate::ends::{Ends, ends_of};
 use linear_form::{Bound, Row, Term};
 use sched_base::MAX_VARIABLES;
 
@@ -23,8 +23,8 @@ pub enum Look {
 /// How an open box may be cut.
 #[derive(Clone, Copy)]
 pub struct Choice {
-    /// A variable with more than one value.
-    pub wide: u32,
+    /// The number of the tightest open row.
+    pub row: u32,
     /// A cut that a row may close on one side.
     pub cut: Option<Cut>,
 }
@@ -41,7 +41,7 @@ pub struct Cut {
     /// Whether that part is the lower one.
     pub closes_low: bool,
     /// How many times the other part is in the whole.
-    pub gain: u128,
+    pub gain: u64,
 }
 
 /// An open row, and how near it is to holding nowhere.
@@ -95,7 +95,7 @@ pub fn look_over(bounds: &[Bound], rows: &[Row]) -> Look
     match tight {
         None => Look::Implied,
         Some(tight) => Look::Open(Choice {
-            wide: widest_in(bounds, &rows[tight.row as usize]),
+            row: tight.row,
             cut,
         }),
     }
@@ -108,12 +108,10 @@ fn reach_of(bounds: &[Bound], row: &Row) -> Reach
     ensures { IsReach bounds.now row.now result }
 {
     let bound = i128::from(row.bound);
-    let low = least(bounds, row.terms.as_slice());
+    let Ends { low, high } = ends_of(bounds, row.terms.as_slice());
     if bound < low {
-        return Reach::Nowhere;
-    }
-    let high = greatest(bounds, row.terms.as_slice());
-    if high <= bound {
+        Reach::Nowhere
+    } else if high <= bound {
         Reach::Everywhere
     } else {
         Reach::Partly {
@@ -136,8 +134,8 @@ fn tighter(tight: Option<Tight>, row: u32, slack: u128, change: u128) -> Tight
     }
 }
 
-// The variable of an open row whose term changes most over the box.
-fn widest_in(bounds: &[Bound], row: &Row) -> u32
+/// The variable of an open row whose term changes most over the box.
+pub fn widest_in(bounds: &[Bound], row: &Row) -> u32
     requires bounds { All IsBound bounds.now }
     requires row { IsRow (length bounds.now) row.now }
     requires open { HoldsPartly bounds.now row.now }
@@ -175,7 +173,7 @@ fn spread(bounds: &[Bound], term: Term) -> u128
     u128::from(term.coef.unsigned_abs()) * u128::from(range.hi.abs_diff(range.lo))
 }
 
-// The cut that leaves the least part of its range: the one so far, or one that this row closes.
+// The cut that leaves the least part of its range: the one so far, or one that this row closes. Each gains more than 1.
 fn better_cut(
     cut: Option<Cut>,
     bounds: &[Bound],
@@ -187,19 +185,18 @@ fn better_cut(
     requires terms { All (IsTerm (length bounds.now)) terms.now }
 {
     let mut best = cut;
+    let mut gain = cut.map_or(1, |cut| cut.gain);
     for term in terms {
-        if closes_half(bounds, *term, slack) {
-            let next = cut_of(*term, bounds[term.var as usize], row, slack);
-            if gain_of(best) < next.gain {
+        let range = bounds[term.var as usize];
+        if gain <= range.hi.abs_diff(range.lo) && closes_half(bounds, *term, slack) {
+            let next = cut_of(*term, range, row, slack);
+            if gain < next.gain {
+                gain = next.gain;
                 best = Some(next);
             }
         }
     }
     best
-}
-
-fn gain_of(cut: Option<Cut>) -> u128 {
-    cut.map_or(0, |cut| cut.gain)
 }
 
 // Whether a row that has `slack` left holds nowhere in at least half of the term's range. The test is quick:
@@ -221,7 +218,7 @@ fn cut_of(term: Term, range: Bound, row: u32, slack: u128) -> Cut
     let size = u128::from(term.coef.unsigned_abs());
     let len = u128::from(range.hi.abs_diff(range.lo)) + 1;
     let kept = (slack / size).min(MAX_KEPT);
-    let gain = len / (kept + 1);
+    let gain = (len / (kept + 1)).min(MAX_KEPT) as u64;
     let closes_low = term.coef < 0;
     let at = if closes_low {
         range.hi.saturating_sub(kept as i64 + 1)

@@ -9,6 +9,34 @@ use lists::Items;
 use sched_base::MAX_VARIABLES;
 use std::alloc::{AllocError, Global};
 
+/// What the left side of a row may be over a box.
+#[derive(Clone, Copy)]
+pub struct Ends {
+    /// Its least value.
+    pub low: i128,
+    /// Its greatest value.
+    pub high: i128,
+}
+
+/// The ends of the left side over the box.
+pub fn ends_of(bounds: &[Bound], terms: &[Term]) -> Ends
+    requires few { length terms.now ≤ MAX_VARIABLES }
+    requires bounds { All IsBound bounds.now }
+    requires terms { All (IsTerm (length bounds.now)) terms.now }
+    ensures low { result.low ≡ least bounds.now terms.now }
+    ensures high { result.high ≡ greatest bounds.now terms.now }
+    ensures small_low { unsigned_abs result.low ≤ 2 ^ 90 }
+    ensures small_high { unsigned_abs result.high ≤ 2 ^ 90 }
+{
+    let mut low = 0;
+    let mut high = 0;
+    for term in terms {
+        low += least_term(bounds, *term);
+        high += greatest_term(bounds, *term);
+    }
+    Ends { low, high }
+}
+
 /// The least value of the left side over the box.
 pub fn least(bounds: &[Bound], terms: &[Term]) -> i128
     requires few { length terms.now ≤ MAX_VARIABLES }

@@ -19,6 +19,7 @@ mod probe;
 mod probing;
 mod rows_at;
 mod searching;
+mod stride;
 mod walk_back;
 
 pub use answer::Answer;

@@ -2,10 +2,13 @@
 //! ranges, takes a row that doesn't hold, and changes the one value that lets the rows fail by the least,
 //! each row weighed by how often it was taken. What it finds is tested; nothing is promised of how often.
 
-ghost use Rattle.std.specs.Prelude.{IfOk, IfSome};
-ghost use Rattle.linear_form.specs.Solution.{Solves};
+ghost use Rattle.std.specs.Prelude.{◌≡◌, map, All, IfOk, IfSome, IsTrue, MatchOption};
+ghost use Rattle.linear_form.specs.Solution.{IsWithin, Solves};
+ghost use Rattle.linear_form.specs.System.{IsBound};
+ghost use Rattle.linear_solver.specs.LocalSearch.{Holds, IsChange, IsFailing, middle};
 
 use crate::rows_at::{Columns, State, columns_of, failure, states_of};
+use linear_cert::SolveMemory;
 use linear_form::{Bound, Point, Row, System};
 use lists::Items;
 use sched_base::MAX_VARIABLES;
@@ -18,14 +21,14 @@ const MAX_LOOKS: u64 = 1 << 19;
 const SEED: u64 = 0x9E37_79B9_7F4A_7C15;
 
 /// A solution of the system, if the search comes to one.
-pub fn local_point(alloc: Global, system: &System) -> Result<Option<Point>, AllocError>
+pub fn local_point(alloc: Global, system: &System) -> Result<Option<Point>, SolveMemory>
     ensures { IfOk result (λ found. IfSome found (λ point.
         Solves system.now.bounds system.now.rows point.vals)) }
 {
     let (bounds, rows) = (system.bounds(), system.rows());
     let mut values = middle(alloc, bounds)?;
     let mut states = states_of(alloc, rows, values.as_slice())?;
-    let columns = columns_of(alloc, bounds.len(), rows)?;
+    let columns = columns_of(alloc, bounds, rows)?;
     let moves = Moves {
         bounds,
         rows,
@@ -56,7 +59,9 @@ fn solution_of(system: &System, values: Vec<i64>) -> Option<Point>
 }
 
 // The middle of each range.
-fn middle(alloc: Global, bounds: &[Bound]) -> Result<Vec<i64>, AllocError> {
+fn middle(alloc: Global, bounds: &[Bound]) -> Result<Vec<i64>, AllocError>
+    ensures { IfOk result (λ values. values.items ≡ map middle bounds.now) }
+{
     let mut values = Vec::with_capacity(alloc, bounds.len())?;
     for range in bounds {
         values.push(range.lo.midpoint(range.hi))?;
@@ -80,7 +85,10 @@ struct Change {
 }
 
 // Changes values until every row holds, or the effort is spent.
-fn settles(moves: Moves, states: &mut [State], values: &mut [i64]) -> bool {
+fn settles(moves: Moves, states: &mut [State], values: &mut [i64]) -> bool
+    requires { All IsBound moves.bounds.now }
+    ensures { IsTrue result → All Holds states.new }
+{
     let mut chance = SEED;
     let mut looks: u64 = 0;
     for _step in 0..MAX_LOOKS {
@@ -103,7 +111,9 @@ fn improve(
     values: &mut [i64],
     number: usize,
     chance: u64,
-) -> u64 {
+) -> u64
+    requires { All IsBound moves.bounds.now }
+{
     if number >= moves.rows.len() || number >= states.len() {
         return MAX_LOOKS;
     }
@@ -132,8 +142,10 @@ fn make(change: Change, columns: Columns, states: &mut [State], values: &mut [i6
     }
 }
 
-// A row that doesn't hold, by chance one of the first or a later one.
-fn failing(states: &[State], chance: u64) -> Option<usize> {
+// A row that doesn't hold, by chance one of the first or a later one. None where each holds.
+fn failing(states: &[State], chance: u64) -> Option<usize>
+    ensures { MatchOption result (All Holds states.now) (IsFailing states.now) }
+{
     let mut found = None;
     let mut dice = chance;
     let mut count: u64 = 0;
@@ -157,7 +169,10 @@ fn best_change(
     row: &Row,
     over: i128,
     chance: u64,
-) -> Option<Change> {
+) -> Option<Change>
+    requires { All IsBound moves.bounds.now }
+    ensures { IfSome result (IsChange moves.entry.bounds.now) }
+{
     let mut best = None;
     let mut least = i128::MAX;
     let mut dice = chance;
@@ -185,7 +200,10 @@ fn best_change(
 }
 
 // The value that takes so much off a row, or the end of the range on that side.
-fn moved(range: Bound, value: i64, coef: i64, over: i128) -> i64 {
+fn moved(range: Bound, value: i64, coef: i64, over: i128) -> i64
+    requires { IsBound range }
+    ensures { IsWithin range result }
+{
     let size = u128::from(coef.unsigned_abs()).max(1);
     let whole = over.unsigned_abs() / size;
     let rest = if over.unsigned_abs() % size == 0 {
@@ -199,7 +217,7 @@ fn moved(range: Bound, value: i64, coef: i64, over: i128) -> i64 {
     } else {
         value.saturating_add(steps)
     };
-    value.max(range.lo).min(range.hi)
+    value.clamp(range.lo, range.hi)
 }
 
 // More than any range has values.

@@ -78,13 +78,15 @@ pub fn cut_off(
     if !can_be_cut(bounds, cut.variable, cut.at) {
         return Ok(None);
     }
-    let low = low_part(alloc, bounds, cut.variable, cut.at)?;
-    let high = high_part(alloc, bounds, cut.variable, cut.at)?;
     if cut.closes_low {
-        let low = closed(alloc, rows, cut.row, low)?;
+        let part = low_part(alloc, bounds, cut.variable, cut.at)?;
+        let low = closed(alloc, rows, cut.row, part.as_slice())?;
+        let high = turned_high(bounds, cut.variable, cut.at, part);
         Ok(of_both(cut, low, smaller(bounds, cut.variable, high)))
     } else {
-        let high = closed(alloc, rows, cut.row, high)?;
+        let part = high_part(alloc, bounds, cut.variable, cut.at)?;
+        let high = closed(alloc, rows, cut.row, part.as_slice())?;
+        let low = turned_low(bounds, cut.variable, cut.at, part);
         Ok(of_both(cut, smaller(bounds, cut.variable, low), high))
     }
 }
@@ -124,11 +126,7 @@ fn low_part(
     ensures { IfOk result (λ part. part.items ≡ up_to bounds.now variable at) }
 {
     let mut part = bounds.to_vec(alloc)?;
-    let range = bounds[variable as usize];
-    part[variable as usize] = Bound {
-        lo: range.lo,
-        hi: at,
-    };
+    part[variable as usize] = part_up_to(bounds[variable as usize], at);
     Ok(part)
 }
 
@@ -138,32 +136,62 @@ fn high_part(
     variable: u32,
     at: i64,
 ) -> Result<Vec<Bound>, AllocError>
-    requires bounds { All IsBound bounds.now }
-    requires cut { CanBeCut bounds.now variable at }
+    requires { CanBeCut bounds.now variable at }
     ensures { IfOk result (λ part. part.items ≡ past bounds.now variable at) }
 {
     let mut part = bounds.to_vec(alloc)?;
-    let range = bounds[variable as usize];
-    part[variable as usize] = Bound {
-        lo: at + 1,
-        hi: range.hi,
-    };
+    part[variable as usize] = part_past(bounds[variable as usize], at);
     Ok(part)
 }
 
+// The values of a range up to this one.
+fn part_up_to(range: Bound, at: i64) -> Bound
+    ensures { result ≡ part_up_to range at }
+{
+    Bound { hi: at, ..range }
+}
+
+// The values of a range past this one.
+fn part_past(range: Bound, at: i64) -> Bound
+    requires { at <ℤ range.hi }
+    ensures { result ≡ part_past range at }
+{
+    Bound {
+        lo: at + 1,
+        ..range
+    }
+}
+
+// The lower part, made of the upper one.
+fn turned_low(bounds: &[Bound], variable: u32, at: i64, part: Vec<Bound>) -> Vec<Bound>
+    requires cut { CanBeCut bounds.now variable at }
+    requires part { part.items ≡ past bounds.now variable at }
+    ensures { result.items ≡ up_to bounds.now variable at }
+{
+    let mut part = part;
+    part[variable as usize] = part_up_to(bounds[variable as usize], at);
+    part
+}
+
+// The upper part, made of the lower one.
+fn turned_high(bounds: &[Bound], variable: u32, at: i64, part: Vec<Bound>) -> Vec<Bound>
+    requires cut { CanBeCut bounds.now variable at }
+    requires part { part.items ≡ up_to bounds.now variable at }
+    ensures { result.items ≡ past bounds.now variable at }
+{
+    let mut part = part;
+    part[variable as usize] = part_past(bounds[variable as usize], at);
+    part
+}
+
 // The part, if the row holds nowhere in it.
-fn closed(
-    alloc: Global,
-    rows: &[Row],
-    row: u32,
-    part: Vec<Bound>,
-) -> Result<Option<Part>, AllocError>
-    requires { IsSystem (record { bounds = part.items; rows = rows.now }) }
+fn closed(alloc: Global, rows: &[Row], row: u32, part: &[Bound]) -> Result<Option<Part>, AllocError>
+    requires { IsSystem (record { bounds = part.now; rows = rows.now }) }
     ensures { IfOk result (λ r. (whole : List Bound) →
-        IfSome r (IsPart whole rows.now part.items)) }
+        IfSome r (IsPart whole rows.now part.now)) }
 {
     let number = row as usize;
-    if number < rows.len() && is_refuted(part.as_slice(), &rows[number]) {
+    if number < rows.len() && is_refuted(part, &rows[number]) {
         return Ok(Some(Part::Closed(row_leaf(alloc, rows, row)?)));
     }
     Ok(None)

@@ -4,12 +4,12 @@ ghost use Rattle.std.specs.Prelude.{◌≡◌, ◌≤◌, List, false, IfOk, IsT
 ghost use Rattle.linear_form.specs.declared.form.Bound.{Bound};
 ghost use Rattle.linear_form.specs.System.{IsSystem};
 ghost use Rattle.linear_cert.specs.Right.{cert_tree, split};
-ghost use Rattle.linear_solver.specs.Boxes.{IsWide, height};
+ghost use Rattle.linear_solver.specs.Boxes.{height};
 ghost use Rattle.linear_solver.specs.Found.{GoesOn, IsDecided, IsFound, IsStep, height_of};
 ghost use Rattle.linear_solver.specs.Insides.{IsProbe};
-ghost use Rattle.linear_solver.specs.Steps.{IsPart, IsSystemPart};
+ghost use Rattle.linear_solver.specs.Steps.{IsOpenRow, IsPart, IsSystemPart};
 
-use crate::choice::{Choice, Look, look_over};
+use crate::choice::{Choice, Look, look_over, widest_in};
 use crate::ends::low_ends;
 use crate::leaf::row_leaf;
 use crate::parts::{Part, Partition, cut_off, halved};
@@ -145,7 +145,7 @@ fn open_step(
     choice: Choice,
 ) -> Result<Step, SolveMemory>
     requires system { IsSystem (record { bounds = bounds.now; rows = rows.now }) }
-    requires wide { IsWide bounds.now choice.wide }
+    requires open { IsOpenRow bounds.now rows.now choice.row }
     ensures step { IfOk result (IsStep room bounds.now rows.now) }
     ensures decides { height bounds.now ≤ room → IfOk result GoesOn }
     ensures limited { effort.new.limited ≡ effort.old.limited }
@@ -188,19 +188,38 @@ fn cut_in_two(
     choice: Choice,
 ) -> Result<Step, AllocError>
     requires system { IsSystem (record { bounds = bounds.now; rows = rows.now }) }
-    requires wide { IsWide bounds.now choice.wide }
+    requires open { IsOpenRow bounds.now rows.now choice.row }
     ensures step { IfOk result (IsStep room bounds.now rows.now) }
     ensures decides { height bounds.now ≤ room → IfOk result GoesOn }
 {
+    if room > 0 {
+        if let Some(cut) = choice.cut {
+            if let Some(partition) = cut_off(alloc, bounds, rows, cut)? {
+                return Ok(Step::Cut(partition));
+            }
+        }
+    }
+    cut_in_halves(alloc, bounds, rows, room, choice.row)
+}
+
+// The range halved that changes an open row most.
+fn cut_in_halves(
+    alloc: Global,
+    bounds: &[Bound],
+    rows: &[Row],
+    room: u32,
+    row: u32,
+) -> Result<Step, AllocError>
+    requires system { IsSystem (record { bounds = bounds.now; rows = rows.now }) }
+    requires open { IsOpenRow bounds.now rows.now row }
+    ensures step { IfOk result (IsStep room bounds.now rows.now) }
+    ensures decides { height bounds.now ≤ room → IfOk result GoesOn }
+{
+    let wide = widest_in(bounds, &rows[row as usize]);
     if room == 0 {
         return Ok(Step::Done(Found::Stopped));
     }
-    if let Some(cut) = choice.cut {
-        if let Some(partition) = cut_off(alloc, bounds, rows, cut)? {
-            return Ok(Step::Cut(partition));
-        }
-    }
-    Ok(Step::Cut(halved(alloc, bounds, choice.wide)?))
+    Ok(Step::Cut(halved(alloc, bounds, wide)?))
 }
 
 // Whether the effort reaches for one more look. What that takes is taken from it.

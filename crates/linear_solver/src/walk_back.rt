@@ -4,10 +4,10 @@
 ghost use Rattle.std.specs.Prelude.{◌≤◌};
 
 use crate::derived::Derived;
+use crate::stride::stride_of;
 use linear_form::Bound;
 
-// The values that are tried of what a list leaves of a range: its ends, its middle, and the values next to
-// its ends.
+// How many values are tried of what a list leaves of a range.
 const PICKS: u32 = 5;
 
 /// Sets the values of the first `left` variables, and says whether it came to an end. `picks` is the number
@@ -26,8 +26,12 @@ pub fn walk(
     }
     let variable = left - 1;
     let range = range_left(bounds, lists, values, variable);
+    let stride = match stride_of(lists, values, variable) {
+        Some(stride) => stride,
+        None => return false,
+    };
     for pick in 0..PICKS {
-        if let Some(value) = picked(range, pick) {
+        if let Some(value) = stride.picked(range, pick) {
             if *picks == 0 {
                 return false;
             }
@@ -60,10 +64,7 @@ fn range_left(bounds: &[Bound], lists: &[Vec<Derived>], values: &[i64], variable
 // What one row leaves of a range.
 fn narrowed(range: Bound, row: &Derived, values: &[i64], variable: usize) -> Bound {
     let coefs = row.coefs.as_slice();
-    let coef = match coefs.get(variable) {
-        Some(coef) => *coef,
-        None => 0,
-    };
+    let coef = coefficient_at(coefs, variable);
     let rest = i128::from(row.bound).saturating_sub(value_past(coefs, values, variable));
     if coef > 0 {
         let most = divided(rest, coef.unsigned_abs());
@@ -82,8 +83,16 @@ fn narrowed(range: Bound, row: &Derived, values: &[i64], variable: usize) -> Bou
     }
 }
 
-// The sum of a row's terms of the variables past this one.
-fn value_past(coefs: &[i64], values: &[i64], variable: usize) -> i128 {
+/// The coefficient of the variable, 0 where the row has none.
+pub fn coefficient_at(coefs: &[i64], variable: usize) -> i64 {
+    match coefs.get(variable) {
+        Some(coef) => *coef,
+        None => 0,
+    }
+}
+
+/// The sum of a row's terms of the variables past this one.
+pub fn value_past(coefs: &[i64], values: &[i64], variable: usize) -> i128 {
     let mut sum: i128 = 0;
     for (place, coef) in coefs.iter().enumerate() {
         if place > variable && place < values.len() {
@@ -113,19 +122,3 @@ fn divided(number: i128, by: u64) -> i64 {
 
 // More than any value.
 const MOST: u128 = 1 << 62;
-
-// One of the values that are tried, none where it doesn't lie in the range.
-fn picked(range: Bound, pick: u32) -> Option<i64> {
-    let value = match pick {
-        0 => range.lo,
-        1 => range.hi,
-        2 => range.lo.midpoint(range.hi),
-        3 => range.lo.saturating_add(1),
-        _ => range.hi.saturating_sub(1),
-    };
-    if range.lo <= value && value <= range.hi {
-        Some(value)
-    } else {
-        None
-    }
-}

@@ -1,5 +1,7 @@
-//! Tables of policies and their systems, through the public calls.
+//! Tables of policies with their systems, and with their verdicts under other budgets, through the public calls.
 #![tactic(auto)]
 
 #[cfg(test)]
 mod tests;
+#[cfg(test)]
+mod weighted_tests;

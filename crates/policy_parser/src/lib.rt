@@ -3,6 +3,7 @@
 
 mod conditions;
 mod expressions;
+mod handlers;
 mod orders;
 mod policies;
 mod reading;

@@ -1,3 +1,3 @@
 mod RangeFacts
 mod SpellingFacts
-mod MadeLemmas
+pub mod MadeLemmas

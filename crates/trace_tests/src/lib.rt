@@ -1,4 +1,5 @@
-//! Tests of texts of traces, through the public calls of the reader and of the planner, and of traces that are made.
+//! Tests of texts of traces, through the public calls of the reader, of the planner and of the printer, and of
+//! traces that are made.
 #![tactic(auto)]
 
 #[cfg(test)]
@@ -13,3 +14,5 @@ mod made_tests;
 mod plan_tests;
 #[cfg(test)]
 mod policies;
+#[cfg(test)]
+mod print_tests;

@@ -1,7 +1,7 @@
 -- Words that begin with `run` are no command so far.
 use Rattle.std.proofs.lemmas.Grind.{common_steps}
 use Rattle.std.proofs.Common.{◌≡◌, None, arith}
-use Rattle.ipanema_cli.specs.Command.{asked_by, words_of}
+use Rattle.command_words.specs.Command.{asked_by, words_of}
 use Rattle.ipanema_cli.proofs.CauseLemmas.{causes}
 use Rattle.ipanema_cli.proofs.TruthLemmas.{truths}
 use Rattle.ipanema_cli.proofs.WritesLemmas.{no_command_ends}

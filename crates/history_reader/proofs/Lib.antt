@@ -1,0 +1,9 @@
+pub mod Behind
+pub mod Cutting
+pub mod Decision
+pub mod Digits
+pub mod EachText
+pub mod Entries
+pub mod OneReading
+pub mod Parts
+pub mod Positions

@@ -1,0 +1,10 @@
+use Rattle.history_reader.proofs.Cutting.{lacks_before, starts_behind}
+use Rattle.history_reader.proofs.cuts.front.Goals as goal
+
+pub returns-clause-front : goal.returns-clause-front
+returns-clause-front c = rw (c.split_at.ensures.front, c.front_len.ensures.len)
+    (lacks_before c.args.byte c.args.text.now)
+
+pub returns-clause-rest : goal.returns-clause-rest
+returns-clause-rest c = rw (c.split_at.ensures.back, c.front_len.ensures.len)
+    (starts_behind c.args.byte c.args.text.now)

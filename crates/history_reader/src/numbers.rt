@@ -1,0 +1,90 @@
+//! Reads numbers, each behind one space and in its one spelling, with a space or nothing behind it.
+
+ghost use Rattle.std.specs.Prelude.{◌≡◌, ◌≢◌, List, MatchOption, ℕ};
+ghost use Rattle.sched_history.specs.Ranges.{AreReads, IsCoreNumber, IsPosition, IsRoundNumber, IsThreadNumber};
+ghost use Rattle.sched_history.specs.Spelling.{spaced};
+ghost use Rattle.history_reader.specs.Code.Kinds.{rest_of_reads};
+ghost use Rattle.history_reader.specs.Code.Numbers.{BeginsWithNoNumber, BeginsWithNumber, IsWithin};
+
+use crate::cuts::front;
+use sched_base::{CoreId, MAX_CORES, MAX_ENTRIES, MAX_ROUNDS, MAX_THREADS, Pos, Reads, ThreadId};
+use text_forms::exact_number_in;
+
+/// The number of a round that the text begins with, and what stands behind it.
+pub fn round_at(text: &[u8]) -> Option<(u32, &[u8])>
+    ensures { MatchOption result
+        (BeginsWithNoNumber IsRoundNumber text.now)
+        (λ found. BeginsWithNumber IsRoundNumber text.now found.0 found.1.now) }
+{
+    number_at(text, 1, MAX_ROUNDS)
+}
+
+/// The number of a thread that the text begins with, and what stands behind it.
+pub fn thread_at(text: &[u8]) -> Option<(ThreadId, &[u8])>
+    ensures { MatchOption result
+        (BeginsWithNoNumber IsThreadNumber text.now)
+        (λ found. BeginsWithNumber IsThreadNumber text.now found.0 found.1.now) }
+{
+    number_at(text, 1, MAX_THREADS)
+}
+
+/// The number of a core that the text begins with, and what stands behind it.
+pub fn core_at(text: &[u8]) -> Option<(CoreId, &[u8])>
+    ensures { MatchOption result
+        (BeginsWithNoNumber IsCoreNumber text.now)
+        (λ found. BeginsWithNumber IsCoreNumber text.now found.0 found.1.now) }
+{
+    number_at(text, 0, MAX_CORES as u32 - 1)
+}
+
+/// The positions of which the text is, with the colon before them.
+pub fn reads_in(text: &[u8]) -> Option<Reads>
+    ensures { MatchOption result
+        ((reads : List ℕ) → AreReads reads → text.now ≢ rest_of_reads reads)
+        (λ reads. AreReads reads × (text.now ≡ rest_of_reads reads)) }
+{
+    positions_in(text.strip_prefix(b" :".as_slice())?)
+}
+
+/// The positions of which the text is.
+fn positions_in(text: &[u8]) -> Option<Reads>
+    ensures { MatchOption result
+        ((reads : List ℕ) → AreReads reads → text.now ≢ spaced reads)
+        (λ reads. AreReads reads × (text.now ≡ spaced reads)) }
+{
+    let mut reads = Reads::empty();
+    let mut rest = text;
+    while !rest.is_empty() {
+        if reads.len() as usize == MAX_CORES {
+            return None;
+        }
+        let (position, behind) = position_at(rest)?;
+        reads.push(position);
+        rest = behind;
+    }
+    Some(reads)
+}
+
+/// The position that the text begins with, and what stands behind it.
+fn position_at(text: &[u8]) -> Option<(Pos, &[u8])>
+    ensures { MatchOption result
+        (BeginsWithNoNumber IsPosition text.now)
+        (λ found. BeginsWithNumber IsPosition text.now found.0 found.1.now) }
+{
+    number_at(text, 0, MAX_ENTRIES)
+}
+
+/// The number between these two that the text begins with, and what stands behind it.
+fn number_at(text: &[u8], least: u32, most: u32) -> Option<(u32, &[u8])>
+    ensures { MatchOption result
+        (BeginsWithNoNumber (IsWithin least most) text.now)
+        (λ found. BeginsWithNumber (IsWithin least most) text.now found.0 found.1.now) }
+{
+    let words = text.strip_prefix(b" ".as_slice())?;
+    let (word, behind) = front(words, b' ');
+    let number = exact_number_in(word, u64::from(most))? as u32;
+    if number < least {
+        return None;
+    }
+    Some((number, behind))
+}

@@ -1,0 +1,125 @@
+//! Reads what stands behind the first word of an entry.
+
+ghost use Rattle.std.specs.Prelude.{ℕ, List, MatchOption};
+ghost use Rattle.round_model.specs.declared.entry.Entry.TheVariants as entries;
+ghost use Rattle.history_reader.specs.Code.Kinds.{IsNoRestOf, IsRest, IsRestOf};
+ghost use Rattle.history_reader.specs.declared.line.Kind.TheVariants as kinds;
+
+use crate::numbers::{core_at, reads_in, round_at, thread_at};
+use round_model::Entry;
+use sched_base::{CoreId, Reads, ThreadId};
+
+/// The beginning round behind whose first word the text stands.
+pub fn round_in(text: &[u8]) -> Option<Entry>
+    ensures { MatchOption result
+        (IsNoRestOf kinds.Round text.now)
+        (λ entry. IsRestOf kinds.Round text.now entry) }
+{
+    let (number, rest) = round_at(text)?;
+    if rest.is_empty() {
+        Some(Entry::Round { number })
+    } else {
+        None
+    }
+}
+
+/// The entering behind whose first word the text stands.
+pub fn enter_in(text: &[u8]) -> Option<Entry>
+    ensures { MatchOption result
+        (IsNoRestOf kinds.Enter text.now)
+        (λ entry. IsRestOf kinds.Enter text.now entry) }
+{
+    let (thread, by, at, reads) = thread_and_cores(text)?;
+    Some(Entry::Enter {
+        thread,
+        by,
+        at,
+        reads,
+    })
+}
+
+/// The waking behind whose first word the text stands.
+pub fn wake_in(text: &[u8]) -> Option<Entry>
+    ensures { MatchOption result
+        (IsNoRestOf kinds.Wake text.now)
+        (λ entry. IsRestOf kinds.Wake text.now entry) }
+{
+    let (thread, by, at, reads) = thread_and_cores(text)?;
+    Some(Entry::Wake {
+        thread,
+        by,
+        at,
+        reads,
+    })
+}
+
+/// The steal behind whose first word the text stands.
+pub fn steal_in(text: &[u8]) -> Option<Entry>
+    ensures { MatchOption result
+        (IsNoRestOf kinds.Steal text.now)
+        (λ entry. IsRestOf kinds.Steal text.now entry) }
+{
+    let (by, rest) = core_at(text)?;
+    let (from, rest) = core_at(rest)?;
+    let (thread, rest) = thread_at(rest)?;
+    let reads = reads_in(rest)?;
+    Some(Entry::Steal {
+        by,
+        from,
+        thread,
+        reads,
+    })
+}
+
+/// The failed attempt behind whose first word the text stands.
+pub fn fail_in(text: &[u8]) -> Option<Entry>
+    ensures { MatchOption result
+        (IsNoRestOf kinds.Fail text.now)
+        (λ entry. IsRestOf kinds.Fail text.now entry) }
+{
+    let (by, from, reads) = two_cores(text)?;
+    Some(Entry::Fail { by, from, reads })
+}
+
+/// The attempt without a choice behind whose first word the text stands.
+pub fn pass_in(text: &[u8]) -> Option<Entry>
+    ensures { MatchOption result
+        (IsNoRestOf kinds.Pass text.now)
+        (λ entry. IsRestOf kinds.Pass text.now entry) }
+{
+    let (by, reads) = one_core(text)?;
+    Some(Entry::Pass { by, reads })
+}
+
+/// A thread, two cores and the reads.
+fn thread_and_cores(text: &[u8]) -> Option<(ThreadId, CoreId, CoreId, Reads)>
+    ensures { MatchOption result
+        ((thread by at : ℕ) (reads : List ℕ) → IsRest text.now (entries.Enter thread by at reads) → ⊥)
+        (λ found. IsRest text.now (entries.Enter found.0 found.1 found.2 found.3)) }
+{
+    let (thread, rest) = thread_at(text)?;
+    let (by, at, reads) = two_cores(rest)?;
+    Some((thread, by, at, reads))
+}
+
+/// Two cores and the reads.
+fn two_cores(text: &[u8]) -> Option<(CoreId, CoreId, Reads)>
+    ensures { MatchOption result
+        ((by from : ℕ) (reads : List ℕ) → IsRest text.now (entries.Fail by from reads) → ⊥)
+        (λ found. IsRest text.now (entries.Fail found.0 found.1 found.2)) }
+{
+    let (by, rest) = core_at(text)?;
+    let (from, reads) = one_core(rest)?;
+    Some((by, from, reads))
+}
+
+/// A core and the reads.
+fn one_core(text: &[u8]) -> Option<(CoreId, Reads)>
+    ensures { MatchOption result
+        ((by : ℕ) (reads : List ℕ) → IsRest text.now (entries.Pass by reads) → ⊥)
+        (λ found. IsRest text.now (entries.Pass found.0 found.1)) }
+{
+    let (by, rest) = core_at(text)?;
+    let reads = reads_in(rest)?;
+    Some((by, reads))
+}
