@@ -1,6 +1,6 @@
 -- What the words of a call ask for.
-use Rattle.std.specs.Prelude.{ℕ, ◌&&◌, List, [], ◌∷◌, Bool, false, not, Option, Some, None, codes, eqb, if◌then◌else◌, String, map, option_and_then, option_map, string_bytes}
-use Rattle.std.specs.List.{find}
+use Rattle.std.specs.Prelude.{ℕ, List, [], ◌∷◌, Bool, false, not, Option, Some, None, codes, eqb, if◌then◌else◌, String, map, option_and_then, option_map, string_bytes}
+use Rattle.std.specs.List.{find, list_all}
 use Rattle.std.specs.Str.{bytes_eq}
 use Rattle.obligations.specs.declared.names.ObName.{ObName}
 use Rattle.obligations.specs.Names.{ob_names, ob_text}
@@ -14,10 +14,14 @@ pub data Asked : Type 0 where
   explain : (policy : List ℕ) (name : ObName) → Asked
   -- to play the trace in one file under the policy in the other
   play : (policy trace : List ℕ) → Asked
+  -- to judge the history in the third file by the policy and the trace in the others
+  replay : (policy trace history : List ℕ) → Asked
+  -- to report of the history in the third file under the policy and the trace in the others
+  report : (policy trace history : List ℕ) → Asked
   -- to make the trace of so many threads that the seed determines
   make : (seed size : ℕ) → Asked
 
--- a word that may name something: not empty, and no option
+-- a word of a command: not empty, and no option
 abbrev pub is_plain : List ℕ → Bool
 is_plain [] = false
 is_plain (byte ∷ bytes) = not (eqb byte 45)
@@ -30,17 +34,37 @@ name_of word = find (λ name. bytes_eq (ob_text name) word) ob_names
 abbrev pub made_by : List ℕ → List ℕ → Option Asked
 made_by seed size = option_and_then (λ s. option_map (make s) (size_in size)) (seed_in seed)
 
--- the command that the words are
-abbrev pub asked_by : List (List ℕ) → Option Asked
-asked_by [] = None
-asked_by (verb ∷ []) = None
-asked_by (verb ∷ policy ∷ []) = if bytes_eq verb (codes "check") && is_plain policy then Some (check policy) else None
-asked_by (verb ∷ policy ∷ other ∷ []) =
-    if bytes_eq verb (codes "play") && is_plain policy && is_plain other then Some (play policy other)
-    else if bytes_eq verb (codes "explain") && is_plain policy then option_map (explain policy) (name_of other)
-    else if bytes_eq verb (codes "make") then made_by policy other
+-- the command of a verb and one word behind it
+abbrev pub asked_by_one : List ℕ → List ℕ → Option Asked
+asked_by_one verb policy = if bytes_eq (codes "check") verb then Some (check policy) else None
+
+-- those of a verb and two words
+abbrev pub asked_by_two : List ℕ → List ℕ → List ℕ → Option Asked
+asked_by_two verb first second =
+    if bytes_eq (codes "explain") verb then option_map (explain first) (name_of second)
+    else if bytes_eq (codes "play") verb then Some (play first second)
+    else if bytes_eq (codes "make") verb then made_by first second
     else None
-asked_by (verb ∷ policy ∷ other ∷ more ∷ words) = None
+
+-- and those of a verb and three
+abbrev pub asked_by_three : List ℕ → List ℕ → List ℕ → List ℕ → Option Asked
+asked_by_three verb policy trace history =
+    if bytes_eq (codes "replay") verb then Some (replay policy trace history)
+    else if bytes_eq (codes "report") verb then Some (report policy trace history)
+    else None
+
+-- the command that plain words are
+abbrev pub asked_plainly : List (List ℕ) → Option Asked
+asked_plainly [] = None
+asked_plainly (verb ∷ []) = None
+asked_plainly (verb ∷ first ∷ []) = asked_by_one verb first
+asked_plainly (verb ∷ first ∷ second ∷ []) = asked_by_two verb first second
+asked_plainly (verb ∷ first ∷ second ∷ third ∷ []) = asked_by_three verb first second third
+asked_plainly (verb ∷ first ∷ second ∷ third ∷ more ∷ words) = None
+
+-- the command that the words are, each of which has to be plain
+abbrev pub asked_by : List (List ℕ) → Option Asked
+asked_by words = if list_all is_plain words then asked_plainly words else None
 
 -- the bytes of each word
 abbrev pub words_of : {A : Type 0} → List (String A) → List (List ℕ)

@@ -1,3 +1,4 @@
 pub mod Command
 pub mod Asks
 pub mod Numbers
+pub mod Program

@@ -1,10 +1,16 @@
--- The numbers among the words of a call.
-use Rattle.std.specs.Prelude.{ℕ, ◌^◌, Bool, ◌&&◌, List, length, Option, Some, None, nat_le, nat_lt, option_and_then, if◌then◌else◌}
+-- The numbers among the words of a call, and the limits of words.
+use Rattle.std.specs.Prelude.{◌≡◌, ℕ, ◌^◌, Bool, ◌&&◌, List, length, Option, Some, None, nat_le, nat_lt, option_and_then, if◌then◌else◌}
 use Rattle.std.specs.Char.{is_ascii_digit}
 use Rattle.std.specs.List.{list_all}
 use Rattle.sched_base.specs.declared.limits.TheConstants.{MAX_THREADS}
 use Rattle.text_forms.specs.Numbers.{number_of}
 use Rattle.command_words.specs.declared.numbers.TheConstants.{MAX_WORD_DIGITS}
+use Rattle.command_words.specs.declared.words.TheConstants.{MAX_WORDS}
+
+-- the limits of words, said a second time, so that none is changed by a slip
+pub record WordLimitsAreSaid : Type 0 where
+  pub digits : MAX_WORD_DIGITS ≡ 20
+  pub words : MAX_WORDS ≡ 4
 
 -- digits alone, one at least and not too many; zeros may lead
 abbrev pub is_decimal : List ℕ → Bool

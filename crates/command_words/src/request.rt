@@ -1,45 +1,109 @@
 //! The words of a call, and what they ask for.
 
-ghost use Rattle.std.specs.Prelude.{◌≡◌, option_map};
+ghost use Rattle.std.specs.Prelude.{◌≡◌, ◌<◌, IfOk, IsOk, false, length, option_map};
+ghost use Rattle.std.specs.List.{list_all};
+ghost use Rattle.clap.specs.Words.{found_of, rows_of, subcommand_rows_of};
 ghost use Rattle.command_words.specs.Asks.{asked};
 ghost use Rattle.command_words.specs.Command.{asked_by, explain, is_plain, made_by, name_of, words_of};
+ghost use Rattle.command_words.specs.Program.{asked_from, asked_in};
 
+use crate::memory::WordsMemory;
 use crate::numbers::{seed_in, size_in};
+use crate::words::{MAX_WORDS, are_plain, found_in, word_in};
+use clap::ArgMatches;
 use obligations::{ObName, ob_name};
+use std::alloc::Global;
 
 /// What the words of a call ask for.
+#[derive(Clone, Copy)]
 pub enum Request<'a> {
     /// To check the policy in this file.
-    Check { policy: &'a str },
+    Check {
+        policy: &'a str,
+    },
     /// To explain the obligation of that name of the policy in this file.
-    Explain { policy: &'a str, name: ObName },
+    Explain {
+        policy: &'a str,
+        name: ObName,
+    },
     /// To play the trace in one file under the policy in the other.
-    Play { policy: &'a str, trace: &'a str },
+    Play {
+        policy: &'a str,
+        trace: &'a str,
+    },
+    /// To judge the history in the third file by the policy and the trace in the others.
+    Replay {
+        policy: &'a str,
+        trace: &'a str,
+        history: &'a str,
+    },
+    /// To report of the history in the third file under the policy and the trace in the others.
+    Report {
+        policy: &'a str,
+        trace: &'a str,
+        history: &'a str,
+    },
     /// To make the trace of so many threads that the seed determines.
-    Make { seed: u64, size: u32 },
+    Make {
+        seed: u64,
+        size: u32,
+    },
     /// Nothing: they are no command.
     Unknown,
 }
 
 /// What the words ask for.
-pub fn request_of(words: &[String]) -> Request<'_>
-    ensures { asked result ≡ asked_by (words_of words.now) }
+///
+/// An `Err` is want of memory. None is taken where a word is empty or an option, and where there are too many words.
+pub fn request_of(alloc: Global, words: &[String]) -> Result<Request<'_>, WordsMemory>
+    ensures asks { IfOk result (λ request. asked request ≡ asked_by (words_of words.now)) }
+    ensures options { list_all is_plain (words_of words.now) ≡ false → IsOk result }
+    ensures many { MAX_WORDS < length words.now → IsOk result }
 {
-    match words {
-        [verb, policy] if verb.as_str() == "check" && is_plain(policy.as_str()) => Request::Check {
-            policy: policy.as_str(),
+    // `clap` takes some words that aren't plain for itself, and what it finds is told for so few words alone.
+    if words.len() > MAX_WORDS || !are_plain(words) {
+        return Ok(Request::Unknown);
+    }
+    match found_in(alloc, words)? {
+        Some(matches) => Ok(request_from(&matches)),
+        None => Ok(Request::Unknown),
+    }
+}
+
+/// What is asked for by the words that were found.
+fn request_from<'a>(matches: &ArgMatches<'a>) -> Request<'a>
+    ensures { asked result ≡ asked_from (subcommand_rows_of matches.now) }
+{
+    match matches.subcommand() {
+        Some((verb, words)) => request_in(verb, words),
+        None => Request::Unknown,
+    }
+}
+
+/// What the verb asks for, with the words that were found behind it.
+fn request_in<'a>(verb: &str, words: &ArgMatches<'a>) -> Request<'a>
+    ensures { asked result ≡ asked_in verb.now (rows_of (found_of words.now)) }
+{
+    match verb {
+        "check" => Request::Check {
+            policy: word_in(words, "POLICY"),
         },
-        [verb, policy, trace]
-            if verb.as_str() == "play" && is_plain(policy.as_str()) && is_plain(trace.as_str()) => {
-            Request::Play {
-                policy: policy.as_str(),
-                trace: trace.as_str(),
-            }
-        }
-        [verb, policy, name] if verb.as_str() == "explain" && is_plain(policy.as_str()) => {
-            explanation_of(policy.as_str(), name.as_str())
-        }
-        [verb, seed, size] if verb.as_str() == "make" => made_by(seed.as_str(), size.as_str()),
+        "explain" => explanation_of(word_in(words, "POLICY"), word_in(words, "NAME")),
+        "play" => Request::Play {
+            policy: word_in(words, "POLICY"),
+            trace: word_in(words, "TRACE"),
+        },
+        "replay" => Request::Replay {
+            policy: word_in(words, "POLICY"),
+            trace: word_in(words, "TRACE"),
+            history: word_in(words, "HISTORY"),
+        },
+        "report" => Request::Report {
+            policy: word_in(words, "POLICY"),
+            trace: word_in(words, "TRACE"),
+            history: word_in(words, "HISTORY"),
+        },
+        "make" => made_by(word_in(words, "SEED"), word_in(words, "SIZE")),
         _ => Request::Unknown,
     }
 }
@@ -61,15 +125,5 @@ fn made_by<'a>(seed: &str, size: &str) -> Request<'a>
     match (seed_in(seed), size_in(size)) {
         (Some(seed), Some(size)) => Request::Make { seed, size },
         _ => Request::Unknown,
-    }
-}
-
-/// Whether the word may name something: it isn't empty and doesn't begin as an option.
-fn is_plain(word: &str) -> bool
-    ensures { result ≡ is_plain word.now }
-{
-    match word.as_bytes() {
-        [first, ..] => *first != b'-',
-        [] => false,
     }
 }

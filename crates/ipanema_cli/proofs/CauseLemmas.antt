@@ -9,29 +9,35 @@ use Rattle.policy_checker.specs.declared.answer.Outcome.{Outcome}
 use Rattle.policy_checker.specs.declared.answer.Outcome.TheVariants as outcome
 use Rattle.policy_checker.specs.declared.verdict.Verdict.TheVariants as verdict
 use Rattle.policy_check.specs.Checks.{IsRefusal}
-use Rattle.policy_check.specs.Lines.{refusal_line}
+use Rattle.policy_check.specs.Lines.{check_lines, refusal_line}
+use Rattle.policy_check.specs.declared.answer.CheckAnswer.{CheckAnswer}
 use Rattle.policy_check.specs.declared.answer.CheckAnswer.TheVariants as checked
 use Rattle.policy_check.specs.declared.explaining.ExplainAnswer.TheVariants as explained
 use Rattle.policy_check.specs.declared.reading.Refusal.{Refusal}
 use Rattle.policy_check.specs.declared.reading.Refusal.TheVariants as refusal
 use Rattle.serial_play.specs.declared.rounds.Played.TheVariants as played
+use Rattle.trace_play.specs.declared.answer.PlayAnswer.{PlayAnswer}
 use Rattle.trace_play.specs.declared.answer.PlayAnswer.TheVariants as play_answer
-use Rattle.ipanema_cli.specs.Answers.{AnswersCheck, AnswersExplain, AnswersPlay, IsAnswer, output_of, status_of}
-use Rattle.command_words.specs.Command.{Asked, check, explain, make, play}
+use Rattle.history_replay.specs.declared.answer.HistoryAnswer.{HistoryAnswer}
+use Rattle.history_replay.specs.declared.answer.HistoryAnswer.TheVariants as judged
+use Rattle.history_replay.specs.declared.refusal.HistoryRefusal.TheVariants as no_history
+use Rattle.history_replay.specs.Judges.{IsReplayOf, IsReportOf}
+use Rattle.ipanema_cli.specs.Answers.{AnswersCheck, AnswersExplain, AnswersJudging, AnswersPlay, IsAnswer, Judging, output_of, status_of}
+use Rattle.command_words.specs.Command.{Asked, check, explain, make, play, replay, report}
 use Rattle.ipanema_cli.specs.Ends.{Ends, answered, unread, no_memory}
-use Rattle.ipanema_cli.specs.Causes.{HasCause, OneOf, SaysCrowded, SaysTooLong}
-use Rattle.ipanema_cli.specs.Status.{code_of, outcome_status, refusal_status}
-use Rattle.ipanema_cli.specs.Loads.{IsFileOf}
+use Rattle.ipanema_cli.specs.Causes.{HasCause, Judges, OneOf, Plays, SaysCrowded, SaysTooLong}
+use Rattle.ipanema_cli.specs.Status.{check_status, code_of, outcome_status, refusal_status}
+use Rattle.ipanema_cli.specs.Loads.{IsFileOf, IsOneOfThree}
 use Rattle.ipanema_cli.specs.Stops.{IsUnread}
 use Rattle.ipanema_cli.specs.Texts.{MayRead, room_of, too_long_line}
 use Rattle.ipanema_cli.specs.declared.answers.Answer.{Answer}
 use Rattle.ipanema_cli.specs.declared.answers.Answer.TheVariants as answer
 use Rattle.ipanema_cli.specs.declared.texts.TextKind.{TextKind}
 use Rattle.ipanema_cli.specs.declared.texts.TextKind.TheVariants as kind
-use Rattle.ipanema_cli.proofs.WritesLemmas.{is_0, is_1, is_2, is_3, is_7, is_8, is_10, answer_code, code_among, cut, no_stop, one_line, whole}
+use Rattle.ipanema_cli.proofs.WritesLemmas.{is_0, is_1, is_2, is_3, is_7, is_8, is_9, is_10, answer_code, code_among, cut, no_stop, one_line, whole}
 
-known_code : (a : Answer) → OneOf (0 ∷ 1 ∷ 2 ∷ 3 ∷ 4 ∷ 5 ∷ 6 ∷ 7 ∷ 8 ∷ 10 ∷ []) (code_of (status_of a))
-known_code a = elim (answer_code a) [ is_0 h ↦ rw h refl | is_1 h ↦ rw h refl | is_2 h ↦ rw h refl | is_3 h ↦ rw h refl | is_7 h ↦ rw h refl | is_8 h ↦ rw h refl | is_10 h ↦ rw h refl ]
+known_code : (a : Answer) → OneOf (0 ∷ 1 ∷ 2 ∷ 3 ∷ 4 ∷ 5 ∷ 6 ∷ 7 ∷ 8 ∷ 9 ∷ 10 ∷ []) (code_of (status_of a))
+known_code a = elim (answer_code a) [ is_0 h ↦ rw h refl | is_1 h ↦ rw h refl | is_2 h ↦ rw h refl | is_3 h ↦ rw h refl | is_7 h ↦ rw h refl | is_8 h ↦ rw h refl | is_9 h ↦ rw h refl | is_10 h ↦ rw h refl ]
 
 -- an answer to an obligation has none but the numbers 0, 1 and 3
 outcome_low : (told : Outcome) (n : ℕ) → n ≢ 0 → n ≢ 1 → n ≢ 3 → code_of (outcome_status told) ≡ n → ⊥
@@ -52,9 +58,71 @@ seven (answer.Explained (explained.Unjudged (refusal.Crowded name))) e = absurd 
 seven (answer.Played (play_answer.Broken fault)) e = absurd (omega arith)
 seven (answer.Played (play_answer.Played (played.Whole history))) e = absurd (omega arith)
 seven (answer.Played (play_answer.Played (played.Full history))) e = absurd (omega arith)
+seven (answer.Judged (judged.Whole count)) e = absurd (omega arith)
+seven (answer.Judged (judged.Reported told)) e = absurd (omega arith)
+seven (answer.Judged (judged.Refused (no_history.Trace fault))) e = absurd (omega arith)
+seven (answer.Judged (judged.Refused (no_history.BadLine line))) e = absurd (omega arith)
+seven (answer.Judged (judged.Refused (no_history.Illegal position))) e = absurd (omega arith)
+seven (answer.Judged (judged.Refused (no_history.Short count))) e = absurd (omega arith)
 seven (answer.Made text) e = absurd (omega arith)
 seven (answer.TooLong which) e = absurd (omega arith)
 seven answer.BadWords e = refl
+
+-- the number 8 is that of a trace that was played, and 9 that of a history that was judged
+eight : (a : Answer) → code_of (status_of a) ≡ 8 → (outcome : PlayAnswer) × (a ≡ answer.Played outcome)
+eight (answer.Checked (checked.Judged (verdict.Accepted policy))) e = absurd (omega arith)
+eight (answer.Checked (checked.Judged (verdict.Refused answers policy))) e = absurd (omega arith)
+eight (answer.Checked (checked.Judged (verdict.Undecided answers policy))) e = absurd (omega arith)
+eight (answer.Checked (checked.Unjudged (refusal.Faulty fault))) e = absurd (omega arith)
+eight (answer.Checked (checked.Unjudged (refusal.Crowded name))) e = absurd (omega arith)
+eight (answer.Explained (explained.Explained told)) e = absurd (outcome_low told.outcome 8 (λ h. omega arith) (λ h. omega arith) (λ h. omega arith) e)
+eight (answer.Explained (explained.Unjudged (refusal.Faulty fault))) e = absurd (omega arith)
+eight (answer.Explained (explained.Unjudged (refusal.Crowded name))) e = absurd (omega arith)
+eight (answer.Played outcome) e = (outcome, refl)
+eight (answer.Judged (judged.Whole count)) e = absurd (omega arith)
+eight (answer.Judged (judged.Reported told)) e = absurd (omega arith)
+eight (answer.Judged (judged.Refused (no_history.Trace fault))) e = absurd (omega arith)
+eight (answer.Judged (judged.Refused (no_history.BadLine line))) e = absurd (omega arith)
+eight (answer.Judged (judged.Refused (no_history.Illegal position))) e = absurd (omega arith)
+eight (answer.Judged (judged.Refused (no_history.Short count))) e = absurd (omega arith)
+eight (answer.Made text) e = absurd (omega arith)
+eight (answer.TooLong which) e = absurd (omega arith)
+eight answer.BadWords e = absurd (omega arith)
+
+nine : (a : Answer) → code_of (status_of a) ≡ 9 → (h : HistoryAnswer) × (a ≡ answer.Judged h)
+nine (answer.Checked (checked.Judged (verdict.Accepted policy))) e = absurd (omega arith)
+nine (answer.Checked (checked.Judged (verdict.Refused answers policy))) e = absurd (omega arith)
+nine (answer.Checked (checked.Judged (verdict.Undecided answers policy))) e = absurd (omega arith)
+nine (answer.Checked (checked.Unjudged (refusal.Faulty fault))) e = absurd (omega arith)
+nine (answer.Checked (checked.Unjudged (refusal.Crowded name))) e = absurd (omega arith)
+nine (answer.Explained (explained.Explained told)) e = absurd (outcome_low told.outcome 9 (λ h. omega arith) (λ h. omega arith) (λ h. omega arith) e)
+nine (answer.Explained (explained.Unjudged (refusal.Faulty fault))) e = absurd (omega arith)
+nine (answer.Explained (explained.Unjudged (refusal.Crowded name))) e = absurd (omega arith)
+nine (answer.Played (play_answer.Broken fault)) e = absurd (omega arith)
+nine (answer.Played (play_answer.Played (played.Whole history))) e = absurd (omega arith)
+nine (answer.Played (play_answer.Played (played.Full history))) e = absurd (omega arith)
+nine (answer.Judged h) e = (h, refl)
+nine (answer.Made text) e = absurd (omega arith)
+nine (answer.TooLong which) e = absurd (omega arith)
+nine answer.BadWords e = absurd (omega arith)
+
+played_for : (asked : Option Asked) (told : List ℕ → Told) (outcome : PlayAnswer) → IsAnswer asked told (answer.Played outcome) → Plays asked
+played_for None told outcome is = absurd is
+played_for (Some (check policy)) told outcome is = absurd is
+played_for (Some (explain policy name)) told outcome is = absurd is
+played_for (Some (play policy trace)) told outcome is = (policy, trace, refl)
+played_for (Some (replay policy trace history)) told outcome is = absurd is
+played_for (Some (report policy trace history)) told outcome is = absurd is
+played_for (Some (make seed size)) told outcome is = absurd is
+
+judged_for : (asked : Option Asked) (told : List ℕ → Told) (h : HistoryAnswer) → IsAnswer asked told (answer.Judged h) → Judges asked
+judged_for None told h is = absurd is
+judged_for (Some (check policy)) told h is = absurd is
+judged_for (Some (explain policy name)) told h is = absurd is
+judged_for (Some (play policy trace)) told h is = absurd is
+judged_for (Some (replay policy trace history)) told h is = (policy, trace, history, inl refl)
+judged_for (Some (report policy trace history)) told h is = (policy, trace, history, inr refl)
+judged_for (Some (make seed size)) told h is = absurd is
 
 -- no command has that answer
 for_no_command : (asked : Option Asked) (told : List ℕ → Told) → IsAnswer asked told answer.BadWords → asked ≡ None
@@ -62,6 +130,8 @@ for_no_command None told is = refl
 for_no_command (Some (check policy)) told is = absurd is
 for_no_command (Some (explain policy name)) told is = absurd is
 for_no_command (Some (play policy trace)) told is = absurd is
+for_no_command (Some (replay policy trace history)) told is = absurd is
+for_no_command (Some (report policy trace history)) told is = absurd is
 for_no_command (Some (make seed size)) told is = absurd is
 
 -- and words that are no command have no other
@@ -69,6 +139,7 @@ no_command_code : (told : List ℕ → Told) (a : Answer) → IsAnswer None told
 no_command_code told (answer.Checked c) is = absurd is
 no_command_code told (answer.Explained e) is = absurd is
 no_command_code told (answer.Played outcome) is = absurd is
+no_command_code told (answer.Judged h) is = absurd is
 no_command_code told (answer.Made text) is = absurd is
 no_command_code told (answer.TooLong which) is = absurd is
 no_command_code told answer.BadWords is = refl
@@ -83,6 +154,7 @@ long_for_check : (policy : Told) (a : Answer) (held : List ℕ) → AnswersCheck
 long_for_check policy (answer.Checked c) held (text, read, is) tells long = absurd (not_read kind.Policy policy text held read tells long)
 long_for_check policy (answer.Explained e) held is tells long = absurd is
 long_for_check policy (answer.Played outcome) held is tells long = absurd is
+long_for_check policy (answer.Judged h) held is tells long = absurd is
 long_for_check policy (answer.Made text) held is tells long = absurd is
 long_for_check policy (answer.TooLong which) held is tells long = refl
 long_for_check policy answer.BadWords held is tells long = absurd is
@@ -91,6 +163,7 @@ long_for_explain : (policy : Told) (name : ObName) (a : Answer) (held : List ℕ
 long_for_explain policy name (answer.Checked c) held is tells long = absurd is
 long_for_explain policy name (answer.Explained e) held (text, read, is) tells long = absurd (not_read kind.Policy policy text held read tells long)
 long_for_explain policy name (answer.Played outcome) held is tells long = absurd is
+long_for_explain policy name (answer.Judged h) held is tells long = absurd is
 long_for_explain policy name (answer.Made text) held is tells long = absurd is
 long_for_explain policy name (answer.TooLong which) held is tells long = refl
 long_for_explain policy name answer.BadWords held is tells long = absurd is
@@ -99,6 +172,7 @@ long_for_play : (policy trace : Told) (a : Answer) (held : List ℕ) → Answers
 long_for_play policy trace (answer.Checked c) held is tells long = absurd (not_read kind.Policy policy is.text held is.policy_read tells long)
 long_for_play policy trace (answer.Explained e) held is tells long = absurd is
 long_for_play policy trace (answer.Played outcome) held is tells long = absurd (not_read kind.Policy policy is.text held is.policy_read tells long)
+long_for_play policy trace (answer.Judged h) held is tells long = absurd is
 long_for_play policy trace (answer.Made text) held is tells long = absurd is
 long_for_play policy trace (answer.TooLong which) held is tells long = refl
 long_for_play policy trace answer.BadWords held is tells long = absurd is
@@ -107,18 +181,60 @@ long_trace_for_play : (policy trace : Told) (a : Answer) (held : List ℕ) → A
 long_trace_for_play policy trace (answer.Checked c) held is tells long = absurd (not_read kind.Trace trace is.jobs held is.trace_read tells long)
 long_trace_for_play policy trace (answer.Explained e) held is tells long = absurd is
 long_trace_for_play policy trace (answer.Played outcome) held is tells long = absurd (not_read kind.Trace trace is.jobs held is.trace_read tells long)
+long_trace_for_play policy trace (answer.Judged h) held is tells long = absurd is
 long_trace_for_play policy trace (answer.Made text) held is tells long = absurd is
 long_trace_for_play policy trace (answer.TooLong which) held is tells long = refl
 long_trace_for_play policy trace answer.BadWords held is tells long = absurd is
+
+long_policy_of_three : (Is : Judging) (policy trace history : Told) (a : Answer) (held : List ℕ) → AnswersJudging Is policy trace history a → policy ≡ holds held → room_of kind.Policy < length held → code_of (status_of a) ≡ 10
+long_policy_of_three Is policy trace history (answer.Checked c) held is tells long = absurd (not_read kind.Policy policy is.text held is.policy_read tells long)
+long_policy_of_three Is policy trace history (answer.Explained e) held is tells long = absurd is
+long_policy_of_three Is policy trace history (answer.Played outcome) held is tells long = absurd is
+long_policy_of_three Is policy trace history (answer.Judged h) held is tells long = absurd (not_read kind.Policy policy is.text held is.policy_read tells long)
+long_policy_of_three Is policy trace history (answer.Made text) held is tells long = absurd is
+long_policy_of_three Is policy trace history (answer.TooLong which) held is tells long = refl
+long_policy_of_three Is policy trace history answer.BadWords held is tells long = absurd is
+
+long_trace_of_three : (Is : Judging) (policy trace history : Told) (a : Answer) (held : List ℕ) → AnswersJudging Is policy trace history a → trace ≡ holds held → room_of kind.Trace < length held → code_of (status_of a) ≡ 10
+long_trace_of_three Is policy trace history (answer.Checked c) held is tells long = absurd (not_read kind.Trace trace is.jobs held is.trace_read tells long)
+long_trace_of_three Is policy trace history (answer.Explained e) held is tells long = absurd is
+long_trace_of_three Is policy trace history (answer.Played outcome) held is tells long = absurd is
+long_trace_of_three Is policy trace history (answer.Judged h) held is tells long = absurd (not_read kind.Trace trace is.jobs held is.trace_read tells long)
+long_trace_of_three Is policy trace history (answer.Made text) held is tells long = absurd is
+long_trace_of_three Is policy trace history (answer.TooLong which) held is tells long = refl
+long_trace_of_three Is policy trace history answer.BadWords held is tells long = absurd is
+
+long_history_of_three : (Is : Judging) (policy trace history : Told) (a : Answer) (held : List ℕ) → AnswersJudging Is policy trace history a → history ≡ holds held → room_of kind.History < length held → code_of (status_of a) ≡ 10
+long_history_of_three Is policy trace history (answer.Checked c) held is tells long = absurd (not_read kind.History history is.entries held is.history_read tells long)
+long_history_of_three Is policy trace history (answer.Explained e) held is tells long = absurd is
+long_history_of_three Is policy trace history (answer.Played outcome) held is tells long = absurd is
+long_history_of_three Is policy trace history (answer.Judged h) held is tells long = absurd (not_read kind.History history is.entries held is.history_read tells long)
+long_history_of_three Is policy trace history (answer.Made text) held is tells long = absurd is
+long_history_of_three Is policy trace history (answer.TooLong which) held is tells long = refl
+long_history_of_three Is policy trace history answer.BadWords held is tells long = absurd is
+
+long_of_three : (Is : Judging) (policy trace history : List ℕ) (told : List ℕ → Told) (a : Answer) (which : TextKind) (name held : List ℕ) → AnswersJudging Is (told policy) (told trace) (told history) a
+    → IsOneOfThree policy trace history which name → told name ≡ holds held → room_of which < length held → code_of (status_of a) ≡ 10
+long_of_three Is policy trace history told a kind.Policy name held is file tells long =
+    long_policy_of_three Is (told policy) (told trace) (told history) a held is (sym (ap told file) ∙ tells) long
+long_of_three Is policy trace history told a kind.Trace name held is file tells long =
+    long_trace_of_three Is (told policy) (told trace) (told history) a held is (sym (ap told file) ∙ tells) long
+long_of_three Is policy trace history told a kind.History name held is file tells long =
+    long_history_of_three Is (told policy) (told trace) (told history) a held is (sym (ap told file) ∙ tells) long
 
 long_file : (asked : Option Asked) (told : List ℕ → Told) (a : Answer) (which : TextKind) (name held : List ℕ) → IsAnswer asked told a → IsFileOf asked which name → told name ≡ holds held → room_of which < length held → code_of (status_of a) ≡ 10
 long_file None told a which name held is file tells long = absurd file
 long_file (Some (check policy)) told a kind.Policy name held is file tells long = long_for_check (told policy) a held is (sym (ap told file) ∙ tells) long
 long_file (Some (check policy)) told a kind.Trace name held is file tells long = absurd file
+long_file (Some (check policy)) told a kind.History name held is file tells long = absurd file
 long_file (Some (explain policy ob)) told a kind.Policy name held is file tells long = long_for_explain (told policy) ob a held is (sym (ap told file) ∙ tells) long
 long_file (Some (explain policy ob)) told a kind.Trace name held is file tells long = absurd file
+long_file (Some (explain policy ob)) told a kind.History name held is file tells long = absurd file
 long_file (Some (play policy trace)) told a kind.Policy name held is file tells long = long_for_play (told policy) (told trace) a held is (sym (ap told file) ∙ tells) long
 long_file (Some (play policy trace)) told a kind.Trace name held is file tells long = long_trace_for_play (told policy) (told trace) a held is (sym (ap told file) ∙ tells) long
+long_file (Some (play policy trace)) told a kind.History name held is file tells long = absurd file
+long_file (Some (replay policy trace history)) told a which name held is file tells long = long_of_three IsReplayOf policy trace history told a which name held is file tells long
+long_file (Some (report policy trace history)) told a which name held is file tells long = long_of_three IsReportOf policy trace history told a which name held is file tells long
 long_file (Some (make seed size)) told a which name held is file tells long = absurd file
 
 -- the number 10 is that of a text that is too long, or of a policy with an obligation that has too many cases
@@ -128,6 +244,14 @@ module _ (told : List ℕ → Told) (before after : Option (List ℕ)) where
   crowded_by asked policy text (refusal.Faulty fault) file read is e added = absurd (omega arith)
   crowded_by asked policy text (refusal.Crowded name) file read is e added =
       (policy, text, name, file, read, is, one_line (refusal_line (refusal.Crowded name)) before after added)
+
+  ten_of_three : (asked : Option Asked) (policy trace history : List ℕ) → IsFileOf asked kind.Policy policy → (Is : Judging) (c : CheckAnswer)
+      → AnswersJudging Is (told policy) (told trace) (told history) (answer.Checked c) → code_of (check_status c) ≡ 10 → Adds (joined (check_lines c)) before after → SaysCrowded asked told before after
+  ten_of_three asked policy trace history file Is (checked.Judged (verdict.Accepted kept)) is e added = absurd (omega arith)
+  ten_of_three asked policy trace history file Is (checked.Judged (verdict.Refused answers kept)) is e added = absurd (omega arith)
+  ten_of_three asked policy trace history file Is (checked.Judged (verdict.Undecided answers kept)) is e added = absurd (omega arith)
+  ten_of_three asked policy trace history file Is (checked.Unjudged why) is e added =
+      crowded_by asked policy is.text why file is.policy_read is.answers.0 e added
 
   ten : (asked : Option Asked) (a : Answer) → IsAnswer asked told a → code_of (status_of a) ≡ 10 → Adds (output_of a) before after
       → SaysTooLong asked told before after ⊎ SaysCrowded asked told before after
@@ -144,6 +268,10 @@ module _ (told : List ℕ → Told) (before after : Option (List ℕ)) where
   ten (Some (play policy trace)) (answer.Checked (checked.Judged (verdict.Undecided answers kept))) is e added = absurd (omega arith)
   ten (Some (play policy trace)) (answer.Checked (checked.Unjudged why)) is e added =
       inr (crowded_by (Some (play policy trace)) policy is.text why refl is.policy_read is.answers.0 e added)
+  ten (Some (replay policy trace history)) (answer.Checked c) is e added =
+      inr (ten_of_three (Some (replay policy trace history)) policy trace history refl IsReplayOf c is e added)
+  ten (Some (report policy trace history)) (answer.Checked c) is e added =
+      inr (ten_of_three (Some (report policy trace history)) policy trace history refl IsReportOf c is e added)
   ten (Some (make seed size)) (answer.Checked c) is e added = absurd is
   ten None (answer.Explained told) is e added = absurd is
   ten (Some (check policy)) (answer.Explained told) is e added = absurd is
@@ -152,7 +280,15 @@ module _ (told : List ℕ → Told) (before after : Option (List ℕ)) where
   ten (Some (explain policy ob)) (answer.Explained (explained.Unjudged why)) (text, read, is) e added =
       inr (crowded_by (Some (explain policy ob)) policy text why refl read is e added)
   ten (Some (play policy trace)) (answer.Explained told) is e added = absurd is
+  ten (Some (replay policy trace history)) (answer.Explained told) is e added = absurd is
+  ten (Some (report policy trace history)) (answer.Explained told) is e added = absurd is
   ten (Some (make seed size)) (answer.Explained told) is e added = absurd is
+  ten asked (answer.Judged (judged.Whole count)) is e added = absurd (omega arith)
+  ten asked (answer.Judged (judged.Reported told)) is e added = absurd (omega arith)
+  ten asked (answer.Judged (judged.Refused (no_history.Trace fault))) is e added = absurd (omega arith)
+  ten asked (answer.Judged (judged.Refused (no_history.BadLine line))) is e added = absurd (omega arith)
+  ten asked (answer.Judged (judged.Refused (no_history.Illegal position))) is e added = absurd (omega arith)
+  ten asked (answer.Judged (judged.Refused (no_history.Short count))) is e added = absurd (omega arith)
   ten asked (answer.Made text) is e added = absurd (omega arith)
   ten asked (answer.Played (play_answer.Broken fault)) is e added = absurd (omega arith)
   ten asked (answer.Played (play_answer.Played (played.Whole history))) is e added = absurd (omega arith)
@@ -177,6 +313,12 @@ causes asked told read_fault before after code (answered a is writes) =
         | inl e ↦ rw (e, no_command_code told a (subst (λ (x : Option Asked). IsAnswer x told a) none is)) refl
         | inr e ↦ rw e refl
       ];
+      not_whole = λ h.
+          let found = nine a (own 9 (λ e. omega arith) h) in
+          judged_for asked told found.0 (subst (IsAnswer asked told) found.1 is);
+      full = λ h.
+          let found = eight a (own 8 (λ e. omega arith) h) in
+          played_for asked told found.0 (subst (IsAnswer asked told) found.1 is);
       too_much = λ h. ten told before.written after.written asked a is (own 10 (λ e. omega arith) h) (whole a before after code writes (λ e. omega arith));
       past_limit = λ which name held file tells long. elim among [
         | inl f ↦ rw (f, long_file asked told a which name held is file tells long) refl
@@ -190,6 +332,8 @@ causes asked told read_fault before after code (unread e cause added) = record {
   no_memory = λ h. absurd (omega arith);
   bad_words = λ h. absurd (omega arith);
   no_command = λ none. absurd (subst (λ (x : Option Asked). IsUnread x told read_fault) none cause);
+  not_whole = λ h. absurd (omega arith);
+  full = λ h. absurd (omega arith);
   too_much = λ h. absurd (omega arith);
   past_limit = λ which name held file tells long. rw e refl;
 }
@@ -200,6 +344,8 @@ causes asked told read_fault before after code (no_memory e added) = record {
   no_memory = λ h. added.bytes;
   bad_words = λ h. absurd (omega arith);
   no_command = λ none. rw e refl;
+  not_whole = λ h. absurd (omega arith);
+  full = λ h. absurd (omega arith);
   too_much = λ h. absurd (omega arith);
   past_limit = λ which name held file tells long. rw e refl;
 }

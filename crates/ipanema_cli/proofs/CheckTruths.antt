@@ -161,6 +161,7 @@ checks policy before after code (answer.Checked c) (text, read, is) writes = eli
   | inl e ↦ read_check policy text c before.written after.written code read is e (whole _ _ _ _ writes (λ five. (no_stop (answer.Checked c)).1 (sym e ∙ five)))
 ]
 checks policy before after code (answer.Explained told) is writes = absurd is
+checks policy before after code (answer.Judged outcome) is writes = absurd is
 checks policy before after code (answer.Made text) is writes = absurd is
 checks policy before after code (answer.Played outcome) is writes = absurd is
 checks policy before after code (answer.TooLong kind.Policy) long writes = elim (code_among _ _ _ _ writes) [
@@ -168,4 +169,5 @@ checks policy before after code (answer.TooLong kind.Policy) long writes = elim 
   | inl e ↦ long_check policy before.written after.written code long e
 ]
 checks policy before after code (answer.TooLong kind.Trace) is writes = absurd is
+checks policy before after code (answer.TooLong kind.History) is writes = absurd is
 checks policy before after code answer.BadWords is writes = absurd is

@@ -1,10 +1,11 @@
 pub mod CauseLemmas
 pub mod CheckTruths
 pub mod ExplainTruths
+pub mod LoadLemmas
 pub mod LongLemmas
+pub mod JudgeTruths
 pub mod MakeTruths
 pub mod PlayTruths
 pub mod PolicyFacts
-pub mod SizeLemmas
 pub mod TruthLemmas
 pub mod WritesLemmas

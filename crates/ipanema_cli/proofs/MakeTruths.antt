@@ -76,6 +76,7 @@ pub makes : (seed size : ℕ) (before after : Shown) (code : ℕ) (a : Answer) �
 makes seed size before after code (answer.Checked c) is writes = absurd is
 makes seed size before after code (answer.Explained told) is writes = absurd is
 makes seed size before after code (answer.Played outcome) is writes = absurd is
+makes seed size before after code (answer.Judged outcome) is writes = absurd is
 makes seed size before after code (answer.Made text) (trace, made, is) writes = elim (code_among _ _ _ _ writes) [
   | inr e ↦ stopped_make seed size before.written after.written code (at_5 e) (λ h. omega (arith, e, h))
   | inl e ↦ record {

@@ -59,7 +59,7 @@ stopped_must policy trace code stop = record {
   unjudged = λ jobs also. stopped_refuses policy code stop;
 }
 
-low_or_stopped : (code : ℕ) → OneOf (1 ∷ 3 ∷ []) code → Stopped code → ⊥
+pub low_or_stopped : (code : ℕ) → OneOf (1 ∷ 3 ∷ []) code → Stopped code → ⊥
 low_or_stopped code low stop = elim stop [ at_4 e ↦ (let bad = rw e at low in cc) | at_5 e ↦ (let bad = rw e at low in cc) | at_6 e ↦ (let bad = rw e at low in cc) ]
 
 pub stopped_play : (policy trace : Told) (before after : Option (List ℕ)) (code : ℕ) → Stopped code → PlaysTruly policy trace before after code
@@ -117,7 +117,7 @@ judged policy trace v before after code texts own not_0 not_8 not_2 left added =
 }
 
 -- a refused policy doesn't meet its obligations
-refused_left : (policy : Told) (text : List ℕ) (answers : List Answered) (kept : Policy) (code : ℕ) → MayRead kind.Policy policy text
+pub refused_left : (policy : Told) (text : List ℕ) (answers : List Answered) (kept : Policy) (code : ℕ) → MayRead kind.Policy policy text
     → IsJudged text (meaning_of kept) (verdict.Refused answers kept) → (p : Meaning) → Spells policy p → MeetsObligations p → code ≡ 3
 refused_left policy text answers kept code read is p held met =
     let own = meaning_of kept in
@@ -128,7 +128,7 @@ refusal_not_8 (refusal.Faulty fault) code own e = omega arith
 refusal_not_8 (refusal.Crowded name) code own e = omega arith
 
 -- a text that isn't judged has no line of an obligation
-no_line : (why : Refusal) (code : ℕ) → code ≡ code_of (refusal_status why) → OneOf (1 ∷ 3 ∷ []) code → ⊥
+pub no_line : (why : Refusal) (code : ℕ) → code ≡ code_of (refusal_status why) → OneOf (1 ∷ 3 ∷ []) code → ⊥
 no_line (refusal.Faulty fault) code own low = let bad = rw own at low in cc
 no_line (refusal.Crowded name) code own low = let bad = rw own at low in cc
 
@@ -309,6 +309,7 @@ plays_truly policy trace before after code (answer.Checked c) texts writes = eli
   | inl e ↦ unaccepted policy trace c before.written after.written code texts e (whole _ _ _ _ writes (λ five. (no_stop (answer.Checked c)).1 (sym e ∙ five)))
 ]
 plays_truly policy trace before after code (answer.Explained told) is writes = absurd is
+plays_truly policy trace before after code (answer.Judged outcome) is writes = absurd is
 plays_truly policy trace before after code (answer.Made text) is writes = absurd is
 plays_truly policy trace before after code (answer.Played outcome) texts writes = elim (code_among _ _ _ _ writes) [
   | inr e ↦ stopped_play policy trace before.written after.written code (at_5 e)
@@ -324,4 +325,5 @@ plays_truly policy trace before after code (answer.TooLong kind.Trace) long writ
   | inr e ↦ stopped_play policy trace before.written after.written code (at_5 e)
   | inl e ↦ long_play policy trace before.written after.written code (λ text jobs held also. not_long kind.Trace trace jobs long.1 also) e
 ]
+plays_truly policy trace before after code (answer.TooLong kind.History) is writes = absurd is
 plays_truly policy trace before after code answer.BadWords is writes = absurd is

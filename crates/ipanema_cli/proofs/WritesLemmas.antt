@@ -17,9 +17,12 @@ use Rattle.serial_play.specs.declared.rounds.Played.TheVariants as played
 use Rattle.trace_play.specs.declared.answer.PlayAnswer.{PlayAnswer}
 use Rattle.trace_play.specs.declared.answer.PlayAnswer.TheVariants as play_answer
 use Rattle.ipanema_cli.specs.Answers.{IsAnswer, lines_of, output_of, play_status, status_of}
+use Rattle.history_replay.specs.declared.answer.HistoryAnswer.{HistoryAnswer}
+use Rattle.history_replay.specs.declared.answer.HistoryAnswer.TheVariants as judged
+use Rattle.history_replay.specs.declared.refusal.HistoryRefusal.TheVariants as no_history
 use Rattle.command_words.specs.Command.{Asked}
 use Rattle.ipanema_cli.specs.Ends.{Ends, Writes, answered, written, cut_off}
-use Rattle.ipanema_cli.specs.Status.{check_status, code_of, explain_status, outcome_status, refusal_status}
+use Rattle.ipanema_cli.specs.Status.{check_status, code_of, explain_status, history_status, outcome_status, refusal_status}
 use Rattle.ipanema_cli.specs.declared.answers.Answer.{Answer}
 use Rattle.ipanema_cli.specs.declared.answers.Answer.TheVariants as answer
 
@@ -31,6 +34,7 @@ pub data AnswerCode (code : ℕ) : Type 0 where
   is_3 : code ≡ 3 → AnswerCode code
   is_7 : code ≡ 7 → AnswerCode code
   is_8 : code ≡ 8 → AnswerCode code
+  is_9 : code ≡ 9 → AnswerCode code
   is_10 : code ≡ 10 → AnswerCode code
 
 refusal_code : (why : Refusal) → AnswerCode (code_of (refusal_status why))
@@ -57,10 +61,19 @@ play_code (play_answer.Broken fault) = is_2 refl
 play_code (play_answer.Played (played.Whole history)) = is_0 refl
 play_code (play_answer.Played (played.Full history)) = is_8 refl
 
+history_code : (h : HistoryAnswer) → AnswerCode (code_of (history_status h))
+history_code (judged.Whole count) = is_0 refl
+history_code (judged.Reported report) = is_0 refl
+history_code (judged.Refused (no_history.Trace fault)) = is_2 refl
+history_code (judged.Refused (no_history.BadLine line)) = is_2 refl
+history_code (judged.Refused (no_history.Illegal position)) = is_9 refl
+history_code (judged.Refused (no_history.Short count)) = is_9 refl
+
 pub answer_code : (a : Answer) → AnswerCode (code_of (status_of a))
 answer_code (answer.Checked c) = check_code c
 answer_code (answer.Explained e) = explain_code e
 answer_code (answer.Played p) = play_code p
+answer_code (answer.Judged h) = history_code h
 answer_code (answer.Made text) = is_0 refl
 answer_code (answer.TooLong which) = is_10 refl
 answer_code answer.BadWords = is_7 refl
@@ -74,6 +87,7 @@ no_stop a = elim (answer_code a) [
   | is_3 h ↦ ((λ e. omega arith), (λ e. omega arith), (λ e. omega arith))
   | is_7 h ↦ ((λ e. omega arith), (λ e. omega arith), (λ e. omega arith))
   | is_8 h ↦ ((λ e. omega arith), (λ e. omega arith), (λ e. omega arith))
+  | is_9 h ↦ ((λ e. omega arith), (λ e. omega arith), (λ e. omega arith))
   | is_10 h ↦ ((λ e. omega arith), (λ e. omega arith), (λ e. omega arith))
 ]
 

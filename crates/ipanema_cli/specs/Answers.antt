@@ -20,13 +20,19 @@ use Rattle.trace_printer.specs.Printed.{trace_text}
 use Rattle.trace_play.specs.declared.answer.PlayAnswer.{PlayAnswer}
 use Rattle.trace_play.specs.declared.answer.PlayAnswer.TheVariants as play_answer
 use Rattle.trace_play.specs.Plays as plays
-use Rattle.command_words.specs.Command.{Asked, check, explain, make, play}
-use Rattle.ipanema_cli.specs.Status.{check_status, explain_status}
+use Rattle.history_replay.specs.declared.answer.HistoryAnswer.{HistoryAnswer}
+use Rattle.history_replay.specs.Judges.{IsReplayOf, IsReportOf}
+use Rattle.history_replay.specs.Lines as histories
+use Rattle.command_words.specs.Command.{Asked, check, explain, make, play, replay, report}
+use Rattle.ipanema_cli.specs.Status.{check_status, explain_status, history_status}
 use Rattle.ipanema_cli.specs.Texts.{MayBeLong, MayRead, too_long_line}
 use Rattle.ipanema_cli.specs.declared.answers.Answer.{Answer}
 use Rattle.ipanema_cli.specs.declared.answers.Answer.TheVariants as answer
+use Rattle.ipanema_cli.specs.declared.answers.HistoryCommand.{HistoryCommand}
+use Rattle.ipanema_cli.specs.declared.answers.HistoryCommand.TheVariants as history_command
 use Rattle.ipanema_cli.specs.declared.status.Status.{Status}
 use Rattle.ipanema_cli.specs.declared.status.Status.TheVariants as status
+use Rattle.ipanema_cli.specs.declared.texts.TextKind.{TextKind}
 use Rattle.ipanema_cli.specs.declared.texts.TextKind.TheVariants as kind
 
 -- the lines of an answer
@@ -34,6 +40,7 @@ abbrev pub lines_of : Answer → List (List ℕ)
 lines_of (answer.Checked c) = check_lines c
 lines_of (answer.Explained e) = explain_lines e
 lines_of (answer.Played outcome) = plays.lines_of outcome
+lines_of (answer.Judged outcome) = histories.lines_of outcome
 lines_of (answer.Made text) = text.items ∷ []
 lines_of (answer.TooLong which) = too_long_line which ∷ []
 lines_of answer.BadWords = codes "bad words\n" ∷ []
@@ -53,6 +60,7 @@ abbrev pub status_of : Answer → Status
 status_of (answer.Checked c) = check_status c
 status_of (answer.Explained e) = explain_status e
 status_of (answer.Played outcome) = play_status outcome
+status_of (answer.Judged outcome) = history_status outcome
 status_of (answer.Made text) = status.Done
 status_of (answer.TooLong which) = status.TooMuch
 status_of answer.BadWords = status.BadWords
@@ -62,6 +70,7 @@ abbrev pub CanBePut : Answer → Type 0
 CanBePut (answer.Checked c) = Unit {0}
 CanBePut (answer.Explained e) = Unit {0}
 CanBePut (answer.Played outcome) = plays.IsShown outcome
+CanBePut (answer.Judged outcome) = Unit {0}
 CanBePut (answer.Made text) = Unit {0}
 CanBePut (answer.TooLong which) = Unit {0}
 CanBePut answer.BadWords = Unit {0}
@@ -84,6 +93,7 @@ abbrev pub AnswersWords : Answer → Type 0
 AnswersWords (answer.Checked c) = ⊥
 AnswersWords (answer.Explained e) = ⊥
 AnswersWords (answer.Played outcome) = ⊥
+AnswersWords (answer.Judged outcome) = ⊥
 AnswersWords (answer.Made text) = ⊥
 AnswersWords (answer.TooLong which) = ⊥
 AnswersWords answer.BadWords = Unit {0}
@@ -94,9 +104,11 @@ AnswersCheck policy (answer.Checked c) = (text : List ℕ) × MayRead kind.Polic
     × IsCheckOf text c
 AnswersCheck policy (answer.Explained e) = ⊥
 AnswersCheck policy (answer.Played outcome) = ⊥
+AnswersCheck policy (answer.Judged outcome) = ⊥
 AnswersCheck policy (answer.Made text) = ⊥
 AnswersCheck policy (answer.TooLong kind.Policy) = MayBeLong kind.Policy policy
 AnswersCheck policy (answer.TooLong kind.Trace) = ⊥
+AnswersCheck policy (answer.TooLong kind.History) = ⊥
 AnswersCheck policy answer.BadWords = ⊥
 
 -- the answer of `explain` to a file of which this is told, for the obligation of that name
@@ -105,9 +117,11 @@ AnswersExplain policy name (answer.Checked c) = ⊥
 AnswersExplain policy name (answer.Explained e) = (text : List ℕ) × MayRead kind.Policy policy text
     × IsExplainOf text name e
 AnswersExplain policy name (answer.Played outcome) = ⊥
+AnswersExplain policy name (answer.Judged outcome) = ⊥
 AnswersExplain policy name (answer.Made text) = ⊥
 AnswersExplain policy name (answer.TooLong kind.Policy) = MayBeLong kind.Policy policy
 AnswersExplain policy name (answer.TooLong kind.Trace) = ⊥
+AnswersExplain policy name (answer.TooLong kind.History) = ⊥
 AnswersExplain policy name answer.BadWords = ⊥
 
 -- the answer of `play` to these texts of a policy and a trace: where the policy isn't accepted, that of `check`
@@ -116,6 +130,7 @@ IsPlayOfTexts policy trace (answer.Checked c) = IsCheckOf policy c × IsFalse (a
 IsPlayOfTexts policy trace (answer.Explained e) = ⊥
 IsPlayOfTexts policy trace (answer.Played outcome) = (p : Meaning) × IsAccepted policy p
     × plays.IsPlayOf p trace outcome
+IsPlayOfTexts policy trace (answer.Judged outcome) = ⊥
 IsPlayOfTexts policy trace (answer.Made text) = ⊥
 IsPlayOfTexts policy trace (answer.TooLong which) = ⊥
 IsPlayOfTexts policy trace answer.BadWords = ⊥
@@ -133,17 +148,69 @@ abbrev pub AnswersPlay : (policy trace : Told) → Answer → Type 0
 AnswersPlay policy trace (answer.Checked c) = PlaysTexts policy trace (answer.Checked c)
 AnswersPlay policy trace (answer.Explained e) = ⊥
 AnswersPlay policy trace (answer.Played outcome) = PlaysTexts policy trace (answer.Played outcome)
+AnswersPlay policy trace (answer.Judged outcome) = ⊥
 AnswersPlay policy trace (answer.Made text) = ⊥
 AnswersPlay policy trace (answer.TooLong kind.Policy) = MayBeLong kind.Policy policy
 AnswersPlay policy trace (answer.TooLong kind.Trace) =
     ((text : List ℕ) × MayRead kind.Policy policy text) × MayBeLong kind.Trace trace
+AnswersPlay policy trace (answer.TooLong kind.History) = ⊥
 AnswersPlay policy trace answer.BadWords = ⊥
+
+-- Of the three files of a command that judges a history that one may be too long, and those before it are read.
+abbrev pub IsTooLongOfThree : (policy trace history : Told) → TextKind → Type 0
+IsTooLongOfThree policy trace history kind.Policy = MayBeLong kind.Policy policy
+IsTooLongOfThree policy trace history kind.Trace =
+    ((text : List ℕ) × MayRead kind.Policy policy text) × MayBeLong kind.Trace trace
+IsTooLongOfThree policy trace history kind.History = ((text : List ℕ) × MayRead kind.Policy policy text)
+    × ((jobs : List ℕ) × MayRead kind.Trace trace jobs) × MayBeLong kind.History history
+
+-- a command that judges histories: what it may answer under an accepted policy to the texts of a trace and a history
+abbrev pub Judging : Type 1
+Judging = Meaning → (trace history : List ℕ) → HistoryAnswer → Type 0
+
+-- what each of them may answer
+abbrev pub judging_of : HistoryCommand → Judging
+judging_of history_command.Replay = IsReplayOf
+judging_of history_command.Report = IsReportOf
+
+module _ (Is : Judging) where
+  -- the command's answer to these texts: where the policy isn't accepted, that of `check`
+  abbrev pub IsJudgingOfTexts : (policy trace history : List ℕ) → Answer → Type 0
+  IsJudgingOfTexts policy trace history (answer.Checked c) = IsCheckOf policy c × IsFalse (accepts c)
+  IsJudgingOfTexts policy trace history (answer.Explained e) = ⊥
+  IsJudgingOfTexts policy trace history (answer.Played outcome) = ⊥
+  IsJudgingOfTexts policy trace history (answer.Judged outcome) = (p : Meaning) × IsAccepted policy p
+      × Is p trace history outcome
+  IsJudgingOfTexts policy trace history (answer.Made text) = ⊥
+  IsJudgingOfTexts policy trace history (answer.TooLong which) = ⊥
+  IsJudgingOfTexts policy trace history answer.BadWords = ⊥
+
+  -- The three files are read, and may hold these texts, to which that is the answer.
+  pub record JudgesTexts (policy trace history : Told) (a : Answer) : Type 0 where
+    pub text : List ℕ
+    pub jobs : List ℕ
+    pub entries : List ℕ
+    pub policy_read : MayRead kind.Policy policy text
+    pub trace_read : MayRead kind.Trace trace jobs
+    pub history_read : MayRead kind.History history entries
+    pub answers : IsJudgingOfTexts text jobs entries a
+
+  -- the command's answer to files of which this is told
+  abbrev pub AnswersJudging : (policy trace history : Told) → Answer → Type 0
+  AnswersJudging policy trace history (answer.Checked c) = JudgesTexts policy trace history (answer.Checked c)
+  AnswersJudging policy trace history (answer.Explained e) = ⊥
+  AnswersJudging policy trace history (answer.Played outcome) = ⊥
+  AnswersJudging policy trace history (answer.Judged outcome) = JudgesTexts policy trace history (answer.Judged outcome)
+  AnswersJudging policy trace history (answer.Made text) = ⊥
+  AnswersJudging policy trace history (answer.TooLong which) = IsTooLongOfThree policy trace history which
+  AnswersJudging policy trace history answer.BadWords = ⊥
 
 -- the answer of `make`: the text of the made trace
 abbrev pub AnswersMake : (seed size : ℕ) → Answer → Type 0
 AnswersMake seed size (answer.Checked c) = ⊥
 AnswersMake seed size (answer.Explained e) = ⊥
 AnswersMake seed size (answer.Played outcome) = ⊥
+AnswersMake seed size (answer.Judged outcome) = ⊥
 AnswersMake seed size (answer.Made text) = (trace : List Numbered) × (made seed size ≡ Ok trace)
     × (text.items ≡ trace_text trace)
 AnswersMake seed size (answer.TooLong which) = ⊥
@@ -155,4 +222,8 @@ IsAnswer None told a = AnswersWords a
 IsAnswer (Some (check policy)) told a = AnswersCheck (told policy) a
 IsAnswer (Some (explain policy name)) told a = AnswersExplain (told policy) name a
 IsAnswer (Some (play policy trace)) told a = AnswersPlay (told policy) (told trace) a
+IsAnswer (Some (replay policy trace history)) told a =
+    AnswersJudging IsReplayOf (told policy) (told trace) (told history) a
+IsAnswer (Some (report policy trace history)) told a =
+    AnswersJudging IsReportOf (told policy) (told trace) (told history) a
 IsAnswer (Some (make seed size)) told a = AnswersMake seed size a

@@ -1,5 +1,5 @@
 -- When each status comes, and what is then written.
-use Rattle.std.specs.Prelude.{◌≡◌, ◌⊎◌, ℕ, ◌<◌, List, [], ◌∷◌, Option, None, IsTrue, codes, length, ◌==◌}
+use Rattle.std.specs.Prelude.{◌≡◌, ◌⊎◌, ℕ, ◌<◌, List, [], ◌∷◌, Option, Some, None, IsTrue, codes, length, ◌==◌}
 use Rattle.std.specs.List.{list_any}
 use Rattle.sched_io.specs.Puts.{WritesPart}
 use Rattle.sched_io.specs.Shown.{Shown}
@@ -10,7 +10,7 @@ use Rattle.policy_check.specs.Checks.{IsCrowded}
 use Rattle.policy_check.specs.Lines.{refusal_line}
 use Rattle.policy_check.specs.declared.reading.Refusal.TheVariants.{Crowded}
 use Rattle.ipanema_cli.specs.Answers.{IsAnswer, lines_of}
-use Rattle.command_words.specs.Command.{Asked}
+use Rattle.command_words.specs.Command.{Asked, play, replay, report}
 use Rattle.ipanema_cli.specs.Loads.{IsFileOf}
 use Rattle.ipanema_cli.specs.Stops.{IsUnread}
 use Rattle.ipanema_cli.specs.Texts.{MayRead, room_of, too_long_line}
@@ -39,10 +39,19 @@ SaysCrowded asked told before after =
     (policy text : List ℕ) × (name : ObName) × IsFileOf asked kind.Policy policy
     × MayRead kind.Policy (told policy) text × IsCrowded text name × Adds (refusal_line (Crowded name)) before after
 
+-- the command judges a history
+abbrev pub Judges : Option Asked → Type 0
+Judges asked = (policy trace history : List ℕ) × ((asked ≡ Some (replay policy trace history))
+    ⊎ (asked ≡ Some (report policy trace history)))
+
+-- the command plays a trace
+abbrev pub Plays : Option Asked → Type 0
+Plays asked = (policy trace : List ℕ) × (asked ≡ Some (play policy trace))
+
 -- Each status has its cause.
 pub record HasCause (asked : Option Asked) (told : List ℕ → Told) (read_fault : Type 0) (before after : Shown)
     (code : ℕ) : Type 0 where
-  pub known : OneOf (0 ∷ 1 ∷ 2 ∷ 3 ∷ 4 ∷ 5 ∷ 6 ∷ 7 ∷ 8 ∷ 10 ∷ []) code
+  pub known : OneOf (0 ∷ 1 ∷ 2 ∷ 3 ∷ 4 ∷ 5 ∷ 6 ∷ 7 ∷ 8 ∷ 9 ∷ 10 ∷ []) code
   -- the outside failed in this call, or a file of the command is told to be missing; and nothing is written
   pub unread : code ≡ 4 → IsUnread asked told read_fault × Adds [] before.written after.written
   -- the outside failed in this call, before all of an output was written
@@ -52,6 +61,9 @@ pub record HasCause (asked : Option Asked) (told : List ℕ → Told) (read_faul
   -- the words are no command
   pub bad_words : code ≡ 7 → (asked ≡ None) × Adds (codes "bad words\n") before.written after.written
   pub no_command : asked ≡ None → OneOf (5 ∷ 6 ∷ 7 ∷ []) code
+  -- only a command that judges a history says that one isn't whole, and only `play` that one is full
+  pub not_whole : code ≡ 9 → Judges asked
+  pub full : code ≡ 8 → Plays asked
   -- a file of the command may be longer than its limit, and one that is told to be gets no other answer; or an
   -- obligation has too many cases
   pub too_much : code ≡ 10 →

@@ -2,21 +2,37 @@
 use Rattle.std.specs.Prelude.{◌≡◌, ℕ, ◌<◌, List, [], ◌∷◌, Option, Some, None, take}
 use Rattle.sched_io.specs.Loads.{Asks, Request, request}
 use Rattle.sched_io.specs.Told.{Told}
-use Rattle.command_words.specs.Command.{Asked, check, explain, make, play}
+use Rattle.command_words.specs.Command.{Asked, check, explain, make, play, replay, report}
 use Rattle.ipanema_cli.specs.Texts.{MayRead, room_of}
 use Rattle.ipanema_cli.specs.declared.texts.TextKind.{TextKind}
 use Rattle.ipanema_cli.specs.declared.texts.TextKind.TheVariants as kind
+
+-- of the three files of a command that judges a history that one is for such a text
+abbrev pub IsOneOfThree : (policy trace history : List ℕ) → TextKind → List ℕ → Type 0
+IsOneOfThree policy trace history kind.Policy name = name ≡ policy
+IsOneOfThree policy trace history kind.Trace name = name ≡ trace
+IsOneOfThree policy trace history kind.History name = name ≡ history
 
 -- the command loads such a text from the file of that name
 abbrev pub IsFileOf : Option Asked → TextKind → List ℕ → Type 0
 IsFileOf None which name = ⊥
 IsFileOf (Some (check policy)) kind.Policy name = name ≡ policy
 IsFileOf (Some (check policy)) kind.Trace name = ⊥
+IsFileOf (Some (check policy)) kind.History name = ⊥
 IsFileOf (Some (explain policy ob)) kind.Policy name = name ≡ policy
 IsFileOf (Some (explain policy ob)) kind.Trace name = ⊥
+IsFileOf (Some (explain policy ob)) kind.History name = ⊥
 IsFileOf (Some (play policy trace)) kind.Policy name = name ≡ policy
 IsFileOf (Some (play policy trace)) kind.Trace name = name ≡ trace
+IsFileOf (Some (play policy trace)) kind.History name = ⊥
+IsFileOf (Some (replay policy trace history)) which name = IsOneOfThree policy trace history which name
+IsFileOf (Some (report policy trace history)) which name = IsOneOfThree policy trace history which name
 IsFileOf (Some (make seed size)) which name = ⊥
+
+-- the files of a command that judges a history
+abbrev pub three_files : (policy trace history : List ℕ) → List Request
+three_files policy trace history = request policy (room_of kind.Policy) ∷ request trace (room_of kind.Trace)
+    ∷ request history (room_of kind.History) ∷ []
 
 -- the files of a command, each with the most bytes that it may have
 abbrev pub files_of : Option Asked → List Request
@@ -24,7 +40,21 @@ files_of None = []
 files_of (Some (check policy)) = request policy (room_of kind.Policy) ∷ []
 files_of (Some (explain policy name)) = request policy (room_of kind.Policy) ∷ []
 files_of (Some (play policy trace)) = request policy (room_of kind.Policy) ∷ request trace (room_of kind.Trace) ∷ []
+files_of (Some (replay policy trace history)) = three_files policy trace history
+files_of (Some (report policy trace history)) = three_files policy trace history
 files_of (Some (make seed size)) = []
+
+-- of so many loads of three files each but the last is of a text that may be read
+pub record GoesOnOfThree (policy trace history : Told) (count : ℕ) : Type 0 where
+  pub policy_read : 1 < count → (text : List ℕ) × MayRead kind.Policy policy text
+  pub trace_read : 2 < count → (jobs : List ℕ) × MayRead kind.Trace trace jobs
+
+-- Just the first of the three files are loaded, each once and with its limit, where the source tells of its loads.
+pub record LoadsOfThree (policy trace history : List ℕ) (told : List ℕ → Told)
+    (before after : Option (List Request)) : Type 0 where
+  pub count : ℕ
+  pub loaded : Asks (take count (three_files policy trace history)) before after
+  pub goes_on : GoesOnOfThree (told policy) (told trace) (told history) count
 
 -- Of so many loads each but the last is of a text that may be read: behind one that is told to be missing or too long
 -- none is.
@@ -32,6 +62,10 @@ abbrev pub MayGoOn : Option Asked → (List ℕ → Told) → ℕ → Type 0
 MayGoOn None told count = Unit {0}
 MayGoOn (Some (check policy)) told count = Unit {0}
 MayGoOn (Some (explain policy name)) told count = Unit {0}
+MayGoOn (Some (replay policy trace history)) told count =
+    GoesOnOfThree (told policy) (told trace) (told history) count
+MayGoOn (Some (report policy trace history)) told count =
+    GoesOnOfThree (told policy) (told trace) (told history) count
 MayGoOn (Some (make seed size)) told count = Unit {0}
 MayGoOn (Some (play policy trace)) told count = 1 < count → (text : List ℕ) × MayRead kind.Policy (told policy) text
 

@@ -10,6 +10,10 @@ use Rattle.policy_check.specs.declared.explaining.ExplainAnswer.{ExplainAnswer}
 use Rattle.policy_check.specs.declared.explaining.ExplainAnswer.TheVariants as explain
 use Rattle.policy_check.specs.declared.reading.Refusal.{Refusal}
 use Rattle.policy_check.specs.declared.reading.Refusal.TheVariants as refusal
+use Rattle.history_replay.specs.declared.answer.HistoryAnswer.{HistoryAnswer}
+use Rattle.history_replay.specs.declared.answer.HistoryAnswer.TheVariants as history
+use Rattle.history_replay.specs.declared.refusal.HistoryRefusal.{HistoryRefusal}
+use Rattle.history_replay.specs.declared.refusal.HistoryRefusal.TheVariants as history_refusal
 use Rattle.ipanema_cli.specs.declared.status.Status.{Status}
 use Rattle.ipanema_cli.specs.declared.status.Status.TheVariants as status
 
@@ -23,6 +27,7 @@ code_of status.WriteFault = 5
 code_of status.Memory = 6
 code_of status.BadWords = 7
 code_of status.HistoryFull = 8
+code_of status.NotWhole = 9
 code_of status.TooMuch = 10
 
 -- the status of an answer to an obligation
@@ -51,3 +56,16 @@ check_status (check.Unjudged why) = refusal_status why
 abbrev pub explain_status : ExplainAnswer → Status
 explain_status (explain.Explained told) = outcome_status told.outcome
 explain_status (explain.Unjudged why) = refusal_status why
+
+-- the status of texts that give no whole history
+abbrev pub history_refusal_status : HistoryRefusal → Status
+history_refusal_status (history_refusal.Trace fault) = status.BadText
+history_refusal_status (history_refusal.BadLine line) = status.BadText
+history_refusal_status (history_refusal.Illegal position) = status.NotWhole
+history_refusal_status (history_refusal.Short count) = status.NotWhole
+
+-- the status of what a history's text comes to
+abbrev pub history_status : HistoryAnswer → Status
+history_status (history.Whole count) = status.Done
+history_status (history.Reported report) = status.Done
+history_status (history.Refused why) = history_refusal_status why

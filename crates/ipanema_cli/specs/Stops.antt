@@ -1,13 +1,14 @@
 -- What keeps a command from its answer.
 use Rattle.std.specs.Prelude.{◌≡◌, ◌⊎◌, ℕ, List, Option, Some, None}
 use Rattle.sched_io.specs.Told.{Told, missing}
-use Rattle.ipanema_cli.specs.Answers.{IsAnswer}
-use Rattle.command_words.specs.Command.{Asked, check, explain, make, play}
+use Rattle.ipanema_cli.specs.Answers.{IsAnswer, IsTooLongOfThree}
+use Rattle.command_words.specs.Command.{Asked, check, explain, make, play, replay, report}
 use Rattle.ipanema_cli.specs.Texts.{MayBeLong, MayRead}
 use Rattle.ipanema_cli.specs.declared.answers.Answer.TheVariants as answer
 use Rattle.ipanema_cli.specs.declared.stop.Stop.{Stop}
 use Rattle.ipanema_cli.specs.declared.stop.Stop.TheVariants as stop
 use Rattle.ipanema_cli.specs.declared.texts.TextKind.{TextKind}
+use Rattle.ipanema_cli.specs.declared.texts.Texts.{Texts}
 use Rattle.ipanema_cli.specs.declared.texts.TextKind.TheVariants as kind
 
 -- That is why the text in a file isn't loaded of which this is told.
@@ -15,6 +16,13 @@ abbrev pub IsUnloaded : TextKind → Told → Type 0 → Stop → Type 0
 IsUnloaded which told fault stop.Unread = fault ⊎ (told ≡ missing)
 IsUnloaded which told fault (stop.TooLong other) = (other ≡ which) × MayBeLong which told
 IsUnloaded which told fault stop.Memory = Unit {0}
+
+-- One of three files wasn't read: the outside failed, or that file is told to be missing and those before it are read.
+abbrev pub IsUnreadOfThree : (policy trace history : Told) → Type 0 → Type 0
+IsUnreadOfThree policy trace history fault =
+    fault ⊎ ((policy ≡ missing) ⊎ ((((text : List ℕ) × MayRead kind.Policy policy text) × (trace ≡ missing))
+    ⊎ (((text : List ℕ) × MayRead kind.Policy policy text) × ((jobs : List ℕ) × MayRead kind.Trace trace jobs)
+    × (history ≡ missing))))
 
 -- A file of the command wasn't read: the outside failed, or that file is told to be missing and those before it are
 -- read.
@@ -25,7 +33,23 @@ IsUnread (Some (explain policy name)) told fault = fault ⊎ (told policy ≡ mi
 IsUnread (Some (play policy trace)) told fault =
     fault ⊎ ((told policy ≡ missing) ⊎ (((text : List ℕ) × MayRead kind.Policy (told policy) text)
     × (told trace ≡ missing)))
+IsUnread (Some (replay policy trace history)) told fault =
+    IsUnreadOfThree (told policy) (told trace) (told history) fault
+IsUnread (Some (report policy trace history)) told fault =
+    IsUnreadOfThree (told policy) (told trace) (told history) fault
 IsUnread (Some (make seed size)) told fault = ⊥
+
+-- That is why not all of three texts are loaded.
+abbrev pub IsStopOfThree : (policy trace history : Told) → Type 0 → Stop → Type 0
+IsStopOfThree policy trace history fault stop.Unread = IsUnreadOfThree policy trace history fault
+IsStopOfThree policy trace history fault (stop.TooLong which) = IsTooLongOfThree policy trace history which
+IsStopOfThree policy trace history fault stop.Memory = Unit {0}
+
+-- The texts are read from files of which this is told.
+pub record AreRead (policy trace history : Told) (texts : Texts) : Type 0 where
+  pub policy_read : MayRead kind.Policy policy texts.policy.items
+  pub trace_read : MayRead kind.Trace trace texts.trace.items
+  pub history_read : MayRead kind.History history texts.history.items
 
 -- That is why the command comes to no answer but that a text is too long.
 abbrev pub IsStop : Option Asked → (List ℕ → Told) → Type 0 → Stop → Type 0

@@ -3,20 +3,22 @@
 ghost use Rattle.std.specs.Prelude.{◌≡◌, ◌≤◌, IfErr, IfOk, IsTrue, length};
 ghost use Rattle.sched_base.specs.declared.limits.TheConstants.{MAX_POLICY_BYTES, MAX_TRACE_BYTES};
 ghost use Rattle.sched_io.specs.Puts.{Puts};
-ghost use Rattle.ipanema_cli.specs.Answers.{AnswersMake, CanBePut, IsPlayOfTexts, lines_of, status_of};
+ghost use Rattle.ipanema_cli.specs.Answers.{AnswersMake, CanBePut, IsJudgingOfTexts, IsPlayOfTexts, judging_of, lines_of, status_of};
+ghost use Rattle.policy_tree.specs.Meaning.{meaning_of};
 ghost use Rattle.command_words.specs.Numbers.{is_size};
 ghost use Rattle.ipanema_cli.specs.declared.stop.Stop.TheVariants as stop;
 
-use crate::status::{Status, check_status, explain_status};
+use crate::status::{Status, check_status, explain_status, history_status};
 use crate::stop::Stop;
-use crate::texts::TextKind;
+use crate::texts::{TextKind, Texts};
+use history_replay::{HistoryAnswer, replay_texts, report_texts};
 use policy_check::{CheckAnswer, ExplainAnswer, check_text};
-use policy_checker::Verdict;
+use policy_checker::{AcceptedPolicy, Verdict};
 use sched_io::{PutFault, Sink, put_all};
 use serial_play::Played;
 use std::alloc::Global;
 use trace_maker::make_trace;
-use trace_play::{PlayAnswer, play_text};
+use trace_play::{PlayAnswer, PlayMemory, play_text};
 use trace_printer::print_trace;
 
 /// What a command answers.
@@ -28,12 +30,23 @@ pub enum Answer {
     Explained(ExplainAnswer),
     /// What serial play of the trace comes to, under an accepted policy.
     Played(PlayAnswer),
+    /// What a history's text comes to, under an accepted policy and a trace.
+    Judged(HistoryAnswer),
     /// The text of a made trace.
     Made(Vec<u8>),
     /// A text of that kind is longer than its limit.
     TooLong(TextKind),
     /// The words are no command.
     BadWords,
+}
+
+/// The commands that judge a history.
+#[derive(Clone, Copy)]
+pub enum HistoryCommand {
+    /// To say whether it is whole.
+    Replay,
+    /// To say what it wasted and why its steals failed.
+    Report,
 }
 
 /// The answer of `play` to texts within their limits.
@@ -49,6 +62,45 @@ pub fn play_texts(alloc: Global, policy: &[u8], trace: &[u8]) -> Result<Answer, 
             Ok(Answer::Played(play_text(alloc, accepted.policy(), trace)?))
         }
         refusal => Ok(Answer::Checked(refusal)),
+    }
+}
+
+/// The answer to texts within their limits of a command that judges a history.
+pub fn judge(alloc: Global, command: HistoryCommand, texts: &Texts) -> Result<Answer, Stop>
+    requires policy { length texts.now.policy.items ≤ MAX_POLICY_BYTES }
+    requires trace { length texts.now.trace.items ≤ MAX_TRACE_BYTES }
+    ensures answer { IfOk result (IsJudgingOfTexts (judging_of command)
+        texts.now.policy.items texts.now.trace.items texts.now.history.items) }
+    ensures shown { IfOk result CanBePut }
+    ensures memory { IfErr result (λ why. why ≡ stop.Memory) }
+{
+    match check_text(alloc, texts.policy.as_slice())? {
+        CheckAnswer::Judged(Verdict::Accepted(kept)) => {
+            Ok(Answer::Judged(judged_under(alloc, &kept, command, texts)?))
+        }
+        refusal => Ok(Answer::Checked(refusal)),
+    }
+}
+
+/// What a command that judges a history says under an accepted policy.
+fn judged_under(
+    alloc: Global,
+    accepted: &AcceptedPolicy,
+    command: HistoryCommand,
+    texts: &Texts,
+) -> Result<HistoryAnswer, PlayMemory>
+    requires trace { length texts.now.trace.items ≤ MAX_TRACE_BYTES }
+    ensures { IfOk result (judging_of command (meaning_of accepted.now)
+        texts.now.trace.items texts.now.history.items) }
+{
+    let (policy, trace, history) = (
+        accepted.policy(),
+        texts.trace.as_slice(),
+        texts.history.as_slice(),
+    );
+    match command {
+        HistoryCommand::Replay => replay_texts(alloc, policy, trace, history),
+        HistoryCommand::Report => report_texts(alloc, policy, trace, history),
     }
 }
 
@@ -74,6 +126,7 @@ impl Answer {
             Answer::Played(PlayAnswer::Broken(_)) => Status::BadText,
             Answer::Played(PlayAnswer::Played(Played::Whole(_))) => Status::Done,
             Answer::Played(PlayAnswer::Played(Played::Full(_))) => Status::HistoryFull,
+            Answer::Judged(answer) => history_status(answer),
             Answer::Made(_) => Status::Done,
             Answer::TooLong(_) => Status::TooMuch,
             Answer::BadWords => Status::BadWords,
@@ -89,6 +142,7 @@ impl Answer {
             Answer::Checked(answer) => answer.put(out),
             Answer::Explained(answer) => answer.put(out),
             Answer::Played(answer) => answer.put(out),
+            Answer::Judged(answer) => answer.put(out),
             Answer::Made(text) => put_all(out, text.as_slice()),
             Answer::TooLong(kind) => put_all(out, kind.too_long_line()),
             Answer::BadWords => put_all(out, b"bad words\n"),

@@ -1,5 +1,5 @@
-//! The program `ipanema`: it checks scheduling policies and explains what fails, plays traces of jobs under them, and
-//! makes traces.
+//! The program `ipanema`: it checks scheduling policies and explains what fails, plays traces of jobs under them, judges
+//! and reports histories, and makes traces.
 #![tactic(auto)]
 
 mod answers;
@@ -10,6 +10,8 @@ mod calls;
 mod fault_tests;
 #[cfg(test)]
 mod gallery_tests;
+#[cfg(test)]
+mod history_tests;
 #[cfg(test)]
 mod make_tests;
 #[cfg(test)]

@@ -47,15 +47,15 @@ fn histories_of_the_examples(rt: HostRuntime) -> Result<(), Fail> {
     Ok(())
 }
 
-const STALE: &str =
+pub(crate) const STALE: &str =
     "cores 3\nrounds 1\nthread 1 core 0 round 1 forever\nthread 2 core 0 round 1 forever\n\
     order 1 0 0 0 0 0 1 1 2 2 1 2\n";
 
-const STALE_HISTORY: &str =
+pub(crate) const STALE_HISTORY: &str =
     "round 1\nenter 1 0 0 :\nenter 2 0 0 :\nwork 0 1 keep\npass 0 : 4 1 1\nwork 1 -\nwork 2 -\n\
     steal 1 0 2 : 5 6 1\nfail 2 0 : 5 6 7\n";
 
-const EIGHT_HISTORY: &str =
+pub(crate) const EIGHT_HISTORY: &str =
     "round 1\nwork 1 -\npass 1 : 1 2 1 1\nwork 2 -\npass 2 : 1 3 4 1\nwork 3 -\npass 3 : 1 3 5 6\n\
     enter 1 0 0 :\nenter 2 0 0 :\nenter 3 0 0 :\nenter 4 0 0 :\nenter 5 0 0 :\nenter 6 0 0 :\n\
     enter 7 0 0 :\nenter 8 0 0 :\nwork 0 1 keep\npass 0 : 16 3 5 7\n\
@@ -67,7 +67,12 @@ const EIGHT_HISTORY: &str =
     work 2 3 keep\npass 2 : 38 40 41 36\nwork 3 4 keep\npass 3 : 38 40 42 43\n";
 
 /// A trace of four cores: that many rounds, that line, eight threads without end on core 0, and that last line.
-fn eight_threads(alloc: Global, rounds: u32, line: &str, last: &str) -> Result<String, Fail> {
+pub(crate) fn eight_threads(
+    alloc: Global,
+    rounds: u32,
+    line: &str,
+    last: &str,
+) -> Result<String, Fail> {
     let mut trace = format!(in alloc; "cores 4\nrounds {rounds}\n{line}")?;
     for id in 1..9 {
         trace.push_str(format!(in alloc; "thread {id} core 0 round 1 forever\n")?.as_str())?;
@@ -107,7 +112,7 @@ fn orders_weights_and_blocks(rt: HostRuntime) -> Result<(), Fail> {
     Ok(())
 }
 
-const FULL_HISTORY: &str =
+pub(crate) const FULL_HISTORY: &str =
     "round 1\nenter 1 0 0 :\nenter 2 0 0 :\nenter 3 0 0 :\nenter 4 0 0 :\nenter 5 0 0 :\n\
     enter 6 0 0 :\nenter 7 0 0 :\nenter 8 0 0 :\nwork 0 1 keep\npass 0 : 10 1 1 1\nwork 1 -\n\
     steal 1 0 2 : 11 12 1 1\nwork 2 -\nsteal 2 0 3 : 13 13 14 1\nwork 3 -\n\

@@ -1,20 +1,22 @@
 //! The commands that one thread carries out.
 
-ghost use Rattle.std.specs.Prelude.{◌≡◌, ◌≢◌, ◌⊎◌, [], ◌∷◌, Some, IfErr, IfOk, IsErrOf, OnOk, codes, slice_get};
+ghost use Rattle.std.specs.Prelude.{◌≡◌, ◌≢◌, ◌⊎◌, ℕ, [], ◌∷◌, Some, IfErr, IfOk, IsErrOf, IsTrue, OnOk, codes, slice_get};
 ghost use Rattle.sched_io.specs.Faults.{Rose};
 ghost use Rattle.sched_io.specs.Loads.{Asks};
-ghost use Rattle.ipanema_cli.specs.Answers.{AnswersCheck, AnswersExplain, AnswersPlay, CanBePut, IsAnswer};
-ghost use Rattle.command_words.specs.Command.{asked_by, check, explain, play, words_of};
+ghost use Rattle.ipanema_cli.specs.Answers.{AnswersCheck, AnswersExplain, AnswersJudging, AnswersPlay, CanBePut, IsAnswer, judging_of};
+ghost use Rattle.command_words.specs.Asks.{asked};
+ghost use Rattle.command_words.specs.Numbers.{is_size};
+ghost use Rattle.command_words.specs.Command.{asked_by, check, explain, make as asks_make, play, words_of};
 ghost use Rattle.ipanema_cli.specs.Ends.{Ends, Writes};
 ghost use Rattle.ipanema_cli.specs.Causes.{HasCause, OneOf};
-ghost use Rattle.ipanema_cli.specs.Loads.{FirstAreLoaded, files_of};
-ghost use Rattle.ipanema_cli.specs.Stops.{IsStop};
+ghost use Rattle.ipanema_cli.specs.Loads.{FirstAreLoaded, LoadsOfThree, files_of, three_files};
+ghost use Rattle.ipanema_cli.specs.Stops.{IsStop, IsStopOfThree};
 ghost use Rattle.ipanema_cli.specs.Truths.{IsTruthful};
 
-use crate::answers::{Answer, make, play_texts};
+use crate::answers::{Answer, HistoryCommand, judge, make, play_texts};
 use crate::status::Status;
 use crate::stop::Stop;
-use crate::texts::{TextKind, load};
+use crate::texts::{TextKind, load, load_three};
 use command_words::{Request, request_of};
 use obligations::ObName;
 use policy_check::{check_text, explain_text};
@@ -39,8 +41,8 @@ pub fn serial_command<F: Files, S: Sink>(
         (S.shown out.old).written (S.shown out.new).written result }
     ensures loads { FirstAreLoaded (asked_by (words_of words.now.items)) (F.told files.old)
         (F.asked files.old) (F.asked files.new) }
-    ensures loaded { OneOf (0 ∷ 1 ∷ 2 ∷ 3 ∷ 7 ∷ 8 ∷ []) result → Asks (files_of (asked_by (words_of words.now.items)))
-        (F.asked files.old) (F.asked files.new) }
+    ensures loaded { OneOf (0 ∷ 1 ∷ 2 ∷ 3 ∷ 7 ∷ 8 ∷ 9 ∷ []) result →
+        Asks (files_of (asked_by (words_of words.now.items))) (F.asked files.old) (F.asked files.new) }
     ensures calm { (result ≡ 4) ⊎ (F.faults files.new ≡ F.faults files.old) }
     ensures quiet { (result ≡ 5) ⊎ ((S.shown out.new).faults ≡ (S.shown out.old).faults) }
 {
@@ -53,8 +55,8 @@ fn carry_out<F: Files, S: Sink>(alloc: Global, words: &[String], files: &mut F, 
         (Rose (F.faults files.old) (F.faults files.new)) (S.shown out.old) (S.shown out.new) result }
     ensures loads { FirstAreLoaded (asked_by (words_of words.now)) (F.told files.old)
         (F.asked files.old) (F.asked files.new) }
-    ensures loaded { OneOf (0 ∷ 1 ∷ 2 ∷ 3 ∷ 7 ∷ 8 ∷ []) result → Asks (files_of (asked_by (words_of words.now)))
-        (F.asked files.old) (F.asked files.new) }
+    ensures loaded { OneOf (0 ∷ 1 ∷ 2 ∷ 3 ∷ 7 ∷ 8 ∷ 9 ∷ []) result →
+        Asks (files_of (asked_by (words_of words.now))) (F.asked files.old) (F.asked files.new) }
     ensures calm { (result ≡ 4) ⊎ (F.faults files.new ≡ F.faults files.old) }
     ensures quiet { (result ≡ 5) ⊎ ((S.shown out.new).faults ≡ (S.shown out.old).faults) }
 {
@@ -78,10 +80,35 @@ fn answer_to<F: Files>(alloc: Global, words: &[String], files: &mut F) -> Result
         (F.asked files.old) (F.asked files.new)) }
     ensures calm { IsErrOf result Stop.Unread ⊎ (F.faults files.new ≡ F.faults files.old) }
 {
-    match request_of(words) {
+    let request = request_of(alloc, words)?;
+    answer_of(alloc, request, files)
+}
+
+/// The answer to what is asked for.
+fn answer_of<F: Files>(alloc: Global, request: Request, files: &mut F) -> Result<Answer, Stop>
+    requires sized { (seed size : ℕ) → asked request ≡ Some (asks_make seed size) → IsTrue (is_size size) }
+    ensures answer { IfOk result (IsAnswer (asked request.entry) (F.told files.old)) }
+    ensures shown { IfOk result CanBePut }
+    ensures stop { IfErr result (IsStop (asked request.entry) (F.told files.old)
+        (Rose (F.faults files.old) (F.faults files.new))) }
+    ensures loads { FirstAreLoaded (asked request.entry) (F.told files.old) (F.asked files.old) (F.asked files.new) }
+    ensures loaded { OnOk result (Asks (files_of (asked request.entry)) (F.asked files.old) (F.asked files.new)) }
+    ensures calm { IsErrOf result Stop.Unread ⊎ (F.faults files.new ≡ F.faults files.old) }
+{
+    match request {
         Request::Check { policy } => check(alloc, policy, files),
         Request::Explain { policy, name } => explain(alloc, policy, name, files),
         Request::Play { policy, trace } => play(alloc, policy, trace, files),
+        Request::Replay {
+            policy,
+            trace,
+            history,
+        } => judge_files(alloc, HistoryCommand::Replay, policy, trace, history, files),
+        Request::Report {
+            policy,
+            trace,
+            history,
+        } => judge_files(alloc, HistoryCommand::Report, policy, trace, history, files),
         Request::Make { seed, size } => make(alloc, seed, size),
         Request::Unknown => Ok(Answer::BadWords),
     }
@@ -135,6 +162,30 @@ fn play<F: Files>(alloc: Global, policy: &str, trace: &str, files: &mut F) -> Re
     let policy_text = load(alloc, files, policy, TextKind::Policy)?;
     let trace_text = load(alloc, files, trace, TextKind::Trace)?;
     play_texts(alloc, policy_text.as_slice(), trace_text.as_slice())
+}
+
+/// The answer of a command that judges the history in the third file, by the policy and the trace in the others.
+fn judge_files<F: Files>(
+    alloc: Global,
+    command: HistoryCommand,
+    policy: &str,
+    trace: &str,
+    history: &str,
+    files: &mut F,
+) -> Result<Answer, Stop>
+    ensures answer { IfOk result (AnswersJudging (judging_of command) (F.told files.old policy.now)
+        (F.told files.old trace.now) (F.told files.old history.now)) }
+    ensures shown { IfOk result CanBePut }
+    ensures stop { IfErr result (IsStopOfThree (F.told files.old policy.now) (F.told files.old trace.now)
+        (F.told files.old history.now) (Rose (F.faults files.old) (F.faults files.new))) }
+    ensures loads { LoadsOfThree policy.now trace.now history.now (F.told files.old)
+        (F.asked files.old) (F.asked files.new) }
+    ensures loaded { OnOk result (Asks (three_files policy.now trace.now history.now)
+        (F.asked files.old) (F.asked files.new)) }
+    ensures calm { IsErrOf result Stop.Unread ⊎ (F.faults files.new ≡ F.faults files.old) }
+{
+    let texts = load_three(alloc, files, policy, trace, history)?;
+    judge(alloc, command, &texts)
 }
 
 /// Writes an answer, and gives its status.

@@ -1,8 +1,9 @@
 //! How the program ends.
 
 ghost use Rattle.std.specs.Prelude.{◌≡◌};
-ghost use Rattle.ipanema_cli.specs.Status.{check_status, code_of, explain_status, outcome_status, refusal_status, verdict_status};
+ghost use Rattle.ipanema_cli.specs.Status.{check_status, code_of, explain_status, history_refusal_status, history_status, outcome_status, refusal_status, verdict_status};
 
+use history_replay::{HistoryAnswer, HistoryRefusal};
 use policy_check::{CheckAnswer, ExplainAnswer, Refusal};
 use policy_checker::{Outcome, Verdict};
 
@@ -27,6 +28,8 @@ pub enum Status {
     BadWords,
     /// A round is due that the trace's limit of entries may have no room for.
     HistoryFull,
+    /// A history isn't whole.
+    NotWhole,
     /// A file is longer than its limit, or an obligation has too many cases.
     TooMuch,
 }
@@ -46,6 +49,7 @@ impl Status {
             Status::Memory => 6,
             Status::BadWords => 7,
             Status::HistoryFull => 8,
+            Status::NotWhole => 9,
             Status::TooMuch => 10,
         }
     }
@@ -68,6 +72,26 @@ pub fn explain_status(answer: &ExplainAnswer) -> Status
     match answer {
         ExplainAnswer::Explained(told) => outcome_status(told.outcome),
         ExplainAnswer::Unjudged(refusal) => refusal_status(refusal),
+    }
+}
+
+/// The status of what a history's text comes to.
+pub fn history_status(answer: &HistoryAnswer) -> Status
+    ensures { result ≡ history_status answer.now }
+{
+    match answer {
+        HistoryAnswer::Whole(_) | HistoryAnswer::Reported(_) => Status::Done,
+        HistoryAnswer::Refused(why) => history_refusal_status(why),
+    }
+}
+
+/// The status of texts that give no whole history.
+fn history_refusal_status(why: &HistoryRefusal) -> Status
+    ensures { result ≡ history_refusal_status why.now }
+{
+    match why {
+        HistoryRefusal::Trace(_) | HistoryRefusal::BadLine(_) => Status::BadText,
+        HistoryRefusal::Illegal(_) | HistoryRefusal::Short(_) => Status::NotWhole,
     }
 }
 

@@ -11,7 +11,7 @@ use std::thread::Threads;
 fn words_and_texts(rt: HostRuntime) -> Result<(), Fail> {
     let alloc = rt.alloc();
     let basic = policy(alloc, "2")?;
-    let wrong_words: [&[&str]; 30] = [
+    let wrong_words: [&[&str]; 38] = [
         &[],
         &["-"],
         &["--"],
@@ -42,6 +42,14 @@ fn words_and_texts(rt: HostRuntime) -> Result<(), Fail> {
         &["explain", "p", ""],
         &["explain", "-p", "B1"],
         &["explain", "p", "B1", "B2"],
+        &["replay"],
+        &["replay", "p", "p"],
+        &["replay", "p", "p", "p", "p"],
+        &["replay", "p", "p", "-p"],
+        &["report", "p", "p"],
+        &["report", "p", "p", "p", "p"],
+        &["report", "p", "", "p"],
+        &["help", "check"],
     ];
     for words in wrong_words {
         let (status, out) = call_over(&rt, alloc, words, basic.as_bytes())?;

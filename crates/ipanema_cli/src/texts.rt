@@ -1,13 +1,14 @@
 //! The texts that commands load: how long they may be, and how they are loaded.
 
-ghost use Rattle.std.specs.Prelude.{◌≡◌, ◌⊎◌, ℕ, List, [], ◌∷◌, IfErr, IfOk, IsErrOf};
+ghost use Rattle.std.specs.Prelude.{◌≡◌, ◌⊎◌, ℕ, List, [], ◌∷◌, IfErr, IfOk, IsErrOf, OnOk};
 ghost use Rattle.sched_io.specs.Faults.{Rose};
 ghost use Rattle.sched_io.specs.Loads.{Asks, request};
 ghost use Rattle.ipanema_cli.specs.Texts.{MayRead, room_of, too_long_line};
-ghost use Rattle.ipanema_cli.specs.Stops.{IsUnloaded};
+ghost use Rattle.ipanema_cli.specs.Loads.{LoadsOfThree, three_files};
+ghost use Rattle.ipanema_cli.specs.Stops.{AreRead, IsStopOfThree, IsUnloaded};
 
 use crate::stop::Stop;
-use sched_base::{MAX_POLICY_BYTES, MAX_TRACE_BYTES};
+use sched_base::{MAX_HISTORY_BYTES, MAX_POLICY_BYTES, MAX_TRACE_BYTES};
 use sched_io::{Files, LoadFault};
 use std::alloc::Global;
 
@@ -18,6 +19,16 @@ pub enum TextKind {
     Policy,
     /// A trace of jobs.
     Trace,
+    /// A history.
+    History,
+}
+
+/// The texts of a policy, a trace and a history.
+#[derive(Drop)]
+pub struct Texts {
+    pub policy: Vec<u8>,
+    pub trace: Vec<u8>,
+    pub history: Vec<u8>,
 }
 
 impl TextKind {
@@ -28,6 +39,7 @@ impl TextKind {
         match self {
             TextKind::Policy => MAX_POLICY_BYTES,
             TextKind::Trace => MAX_TRACE_BYTES,
+            TextKind::History => MAX_HISTORY_BYTES,
         }
     }
 
@@ -38,6 +50,7 @@ impl TextKind {
         match self {
             TextKind::Policy => b"too-long policy\n",
             TextKind::Trace => b"too-long trace\n",
+            TextKind::History => b"too-long history\n",
         }
     }
 }
@@ -62,4 +75,32 @@ pub fn load<F: Files>(
         Err(LoadFault::TooLong) => Err(Stop::TooLong(kind)),
         Err(LoadFault::Memory) => Err(Stop::Memory),
     }
+}
+
+/// Loads the texts of a policy, a trace and a history in these files, in that order.
+pub fn load_three<F: Files>(
+    alloc: Global,
+    files: &mut F,
+    policy: &str,
+    trace: &str,
+    history: &str,
+) -> Result<Texts, Stop>
+    ensures texts { IfOk result (AreRead (F.told files.old policy.now) (F.told files.old trace.now)
+        (F.told files.old history.now)) }
+    ensures stop { IfErr result (IsStopOfThree (F.told files.old policy.now) (F.told files.old trace.now)
+        (F.told files.old history.now) (Rose (F.faults files.old) (F.faults files.new))) }
+    ensures loads { LoadsOfThree policy.now trace.now history.now (F.told files.old)
+        (F.asked files.old) (F.asked files.new) }
+    ensures loaded { OnOk result (Asks (three_files policy.now trace.now history.now)
+        (F.asked files.old) (F.asked files.new)) }
+    ensures steady { IsErrOf result Stop.Unread ⊎ (F.faults files.new ≡ F.faults files.old) }
+{
+    let policy = load(alloc, files, policy, TextKind::Policy)?;
+    let trace = load(alloc, files, trace, TextKind::Trace)?;
+    let history = load(alloc, files, history, TextKind::History)?;
+    Ok(Texts {
+        policy,
+        trace,
+        history,
+    })
 }

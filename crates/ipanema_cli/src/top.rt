@@ -42,8 +42,8 @@ pub fn ipanema<R: Threads + Wait + Sync, F: Files, S: Sink, G: Gate>(
     ensures loads { FirstAreLoaded (asked_by (words_of words.now.items)) (F.told files.old)
         (F.asked files.old) (F.asked files.new) }
     // And where a text was answered, or no command was, all of them are.
-    ensures loaded { OneOf (0 ∷ 1 ∷ 2 ∷ 3 ∷ 7 ∷ 8 ∷ []) result → Asks (files_of (asked_by (words_of words.now.items)))
-        (F.asked files.old) (F.asked files.new) }
+    ensures loaded { OneOf (0 ∷ 1 ∷ 2 ∷ 3 ∷ 7 ∷ 8 ∷ 9 ∷ []) result →
+        Asks (files_of (asked_by (words_of words.now.items))) (F.asked files.old) (F.asked files.new) }
     // Where the files' count of faults moves, the call ends with 4, and where the sink's does, with 5.
     ensures calm { (result ≡ 4) ⊎ (F.faults files.new ≡ F.faults files.old) }
     ensures quiet { (result ≡ 5) ⊎ ((S.shown out.new).faults ≡ (S.shown out.old).faults) }

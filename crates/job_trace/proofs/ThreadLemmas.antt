@@ -143,40 +143,27 @@ threads-fit p (f ∷ front) (n ∷ rest) cores some is long (spelt, may, all) al
       later,
     )
 
--- the cores of an order in their ranges, counted from that one on
-record CoresFit (last count : ℕ) (cores : List ℕ) : Type 0 where
-  each : AllByRecursion (λ c. c ≤ last) cores
-  few : count + length cores ≤ MAX_ORDER_CORES + 1
-
-cores-fit : (last count : ℕ) (cores : List ℕ) → count ≤ MAX_ORDER_CORES + 1 → first_passed (order_measures last count cores) ≡ None → CoresFit last count cores
-cores-fit last count [] small inside = record { each = tt; few = omega arith }
-cores-fit last count (core ∷ rest) small inside =
+-- the cores of an order in their range
+cores-fit : (last count : ℕ) (cores : List ℕ) → first_passed (order_measures last count cores) ≡ None → AllByRecursion (λ c. c ≤ last) cores
+cores-fit last count [] inside = tt
+cores-fit last count (core ∷ rest) inside =
     let measures : List Measure = order_measures last (count + 1) rest in
     let at_count = first-none (ranged count 1 MAX_ORDER_CORES) (ranged core 0 last ∷ measures) inside in
     let at_core = first-none (ranged core 0 last) measures at_count.1 in
-    let counted = in-range count 1 MAX_ORDER_CORES at_count.0 in
     let range = in-range core 0 last at_core.0 in
-    let later = cores-fit last (count + 1) rest (omega (arith, counted.below)) at_core.1 in
-    let few = later.few in
-    record { each = (range.below, later.each); few = omega (arith, few) }
+    (range.below, cores-fit last (count + 1) rest at_core.1)
 
 below-cores : (cores : ℕ) (xs : List ℕ) → 1 ≤ cores → AllByRecursion (λ c. c ≤ cores - 1) xs → AllByRecursion (λ c. c < cores) xs
 below-cores cores [] some each = tt
 below-cores cores (x ∷ xs) some (first, each) = (omega (arith, first, some), below-cores cores xs some each)
 
-some-spelt : (first : List ℕ) (rest : List (List ℕ)) (numbers : List ℕ) → SpellsNumbers (first ∷ rest) numbers → 1 ≤ length numbers
-some-spelt first rest numbers (next_number n more spells later) = omega arith
-
 order-fits : (front : List Numbered) (o : OrderLine) → 1 ≤ cores_of front → HasSpelling (Order o) → MayFollow front (Order o) → OrderFits (cores_of front) o
 order-fits front o some (words, order_line r first rest {round = round} {cores = cores} round_is given) may =
     let last : ℕ = cores_of front - 1 in
     let at_round = first-none (ranged round 1 MAX_ROUNDS) (order_measures last 1 cores) may.within in
-    let fit = cores-fit last 1 cores (omega arith) at_round.1 in
-    let few = fit.few in
+    let fit = cores-fit last 1 cores at_round.1 in
     record {
-      some_cores = some-spelt first rest cores given;
-      few_cores = omega (arith, few);
-      each = All-from_recursion (λ c. c < cores_of front) cores (below-cores (cores_of front) cores some fit.each);
+      each = All-from_recursion (λ c. c < cores_of front) cores (below-cores (cores_of front) cores some fit);
     }
 
 -- the orders of lines that follow others of so many cores

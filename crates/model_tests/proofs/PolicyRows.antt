@@ -158,8 +158,6 @@ eight_threads_fit = record {
   distinct = λ i j d below inside same. absurd (omega (arith, numbered i d (omega arith), numbered j d inside));
   orders = All-from_recursion (OrderFits 4) eight_threads.orders (
     record {
-      some_cores = omega arith;
-      few_cores = omega arith;
       each = All-from_recursion (λ c. c < 4) (1 ∷ 1 ∷ 1 ∷ 2 ∷ 2 ∷ 2 ∷ 3 ∷ 3 ∷ 3 ∷ []) (lit< tt, (lit< tt, (lit< tt, (lit< tt, (lit< tt, (lit< tt, (lit< tt, (lit< tt, (lit< tt, tt)))))))));
     },
     tt,

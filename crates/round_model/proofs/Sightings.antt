@@ -10,7 +10,8 @@ use Rattle.round_model.specs.declared.plan.Plan.{Plan}
 use Rattle.round_model.specs.Choices.{values_in}
 use Rattle.round_model.specs.Fits.{Fits}
 use Rattle.round_model.specs.Code.Outcomes.{ReadIn}
-use Rattle.round_model.specs.Code.Past.{IsPastOf, StandsFor, seen_in}
+use Rattle.round_model.specs.declared.state.CountAndLoad.{CountAndLoad}
+use Rattle.round_model.specs.Code.Past.{IsKeptPosition, IsPastOf, StandsFor, seen_in}
 use Rattle.round_model.specs.Reads.{read_values, round_start, value_read, values_of}
 
 -- of each core below that one the values are those of the row that was read
@@ -39,3 +40,16 @@ module _ (plan : Plan) (past : Past) (reads : List ℕ) (read : ReadIn plan past
       let at : round_start history + row.0 ≡ slice_index reads c = omega arith in
       are c row.0 there row.1
       ∙ ap (values_of plan c) (stands.rows.each row.0 c (omega arith) there ∙ ap (value_read p plan history c) at)
+
+-- what a row shows of a core at a position that is kept
+pub seen_kept : (past : Past) (core position : ℕ) (seen : CountAndLoad) → IsKeptPosition past position
+    → ((k : ℕ) → past.entries + k + 1 ≡ position + length past.rows → seen ≡ seen_in past.rows k core)
+    → (p : Meaning) (plan : Plan) (history : List Entry) → StandsFor p plan past history → core < plan.cores
+    → seen ≡ value_read p plan history core position
+seen_kept past core position seen kept shown p plan history stands there =
+    let first = kept.not_before in let last = kept.not_after in
+    let entries = stands.entries in let window = stands.rows.window in
+    let k : ℕ = position + length past.rows - (past.entries + 1) in
+    let row : past.entries + k + 1 ≡ position + length past.rows = omega arith in
+    let at : round_start history + k ≡ position = omega arith in
+    shown k row ∙ stands.rows.each k core (omega arith) there ∙ ap (value_read p plan history core) at

@@ -1,6 +1,6 @@
 -- Plans that fit a policy.
 use Rattle.std.specs.Prelude.{◌≡◌, ◌≢◌, ℕ, ◌<◌, ◌≤◌, List, [], ◌∷◌, length, All, AllPairs}
-use Rattle.sched_base.specs.declared.limits.TheConstants.{MAX_BLOCK_ROUNDS, MAX_BURSTS, MAX_CORES, MAX_ENTRIES, MAX_ORDER_CORES, MAX_ROUNDS, MAX_THREADS, MAX_UNITS}
+use Rattle.sched_base.specs.declared.limits.TheConstants.{MAX_BLOCK_ROUNDS, MAX_BURSTS, MAX_CORES, MAX_ENTRIES, MAX_ROUNDS, MAX_THREADS, MAX_UNITS}
 use Rattle.policy_tree.specs.Meaning.{Meaning}
 use Rattle.policy_eval.specs.Fitting.{IsWeight}
 use Rattle.policy_eval.specs.Ranges.{AreIn, attribute_ranges}
@@ -41,10 +41,8 @@ pub record ThreadFits (p : Meaning) (cores : ℕ) (t : Planned) : Type 0 where
   pub program : IsProgram t.bursts
   pub few_bursts : length t.bursts ≤ MAX_BURSTS
 
--- an order line of a plan
+-- an order line of a plan: any number of its cores
 pub record OrderFits (cores : ℕ) (line : OrderLine) : Type 0 where
-  pub some_cores : 1 ≤ length line.cores
-  pub few_cores : length line.cores ≤ MAX_ORDER_CORES
   pub each : All (λ c. c < cores) line.cores
 
 -- the plan fits the policy. Its order lines are of different rounds, and a round takes its own line alone, so that

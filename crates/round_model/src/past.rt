@@ -1,6 +1,6 @@
 //! What has to be kept of a history to judge its next entry, and to add it.
 
-ghost use Rattle.std.specs.Prelude.{◌≡◌, ◌+◌, ◌≤◌, IfOk, List, [], false, length, not};
+ghost use Rattle.std.specs.Prelude.{◌≡◌, ◌+◌, ◌<◌, ◌≤◌, ℕ, IfOk, List, [], false, length, not, slice_index_or};
 ghost use Rattle.policy_tree.specs.Meaning.{Meaning};
 ghost use Rattle.round_model.specs.declared.entry.Entry.{Entry};
 ghost use Rattle.round_model.specs.declared.plan.Planned.{Planned};
@@ -8,8 +8,9 @@ ghost use Rattle.round_model.specs.After.{after};
 ghost use Rattle.round_model.specs.Cores.{listed, opening_state};
 ghost use Rattle.round_model.specs.Fits.{Fits};
 ghost use Rattle.std.specs.List.{list_all, list_any};
-ghost use Rattle.round_model.specs.Legal.{is_complete as is_complete_after, is_due as is_due_after};
-ghost use Rattle.round_model.specs.Code.Past.{IsPastOf, IsWindow, StandsFor, is_flagged};
+ghost use Rattle.round_model.specs.Legal.{is_complete as is_complete_after, is_due as is_due_after, rounds_begun};
+ghost use Rattle.round_model.specs.Code.Past.{IsKeptPosition, IsPastOf, IsWindow, StandsFor, is_flagged};
+ghost use Rattle.round_model.specs.Reads.{value_read};
 
 use crate::directory::{Directory, directory_of};
 use crate::memory::ModelMemory;
@@ -98,12 +99,41 @@ impl Past {
         self.entries
     }
 
+    /// The number of rounds so far, the open one included.
+    pub fn rounds(&self) -> u32
+        ensures { (p : Meaning) (plan : Plan) (history : List Entry) → StandsFor p plan self.now history →
+            result ≡ rounds_begun history }
+    {
+        self.rounds
+    }
+
     /// The position just after the last Round.
     pub(crate) fn start(&self) -> Pos
         requires { IsWindow self.now }
         ensures { result + length self.now.rows ≡ self.now.entries + 1 }
     {
         self.entries + 1 - self.rows.len()
+    }
+
+    /// Thread count and load of the core after so many entries, of which the last Round is one.
+    pub fn seen_at(&self, core: CoreId, position: Pos) -> CountAndLoad
+        requires window { IsWindow self.now }
+        requires core { core < MAX_CORES }
+        requires position { IsKeptPosition self.now position }
+        ensures { (p : Meaning) (plan : Plan) (history : List Entry) → StandsFor p plan self.now history →
+            core < plan.cores → result ≡ value_read p plan history core position }
+    {
+        self.row_at(position)[core as usize]
+    }
+
+    /// What was to be seen of the cores after so many entries.
+    fn row_at(&self, position: Pos) -> &Row
+        requires window { IsWindow self.now }
+        requires position { IsKeptPosition self.now position }
+        ensures { (k : ℕ) → self.now.entries + k + 1 ≡ position + length self.now.rows →
+            result.now ≡ slice_index_or self.now.rows k [] }
+    {
+        self.rows.get(position - self.start())
     }
 
     /// Whether the thread has ended.
@@ -113,8 +143,8 @@ impl Past {
         id < self.ended.len() && *self.ended.get(id)
     }
 
-    /// Whether each core has made its attempt of the last round.
-    pub(crate) fn is_complete(&self) -> bool
+    /// Whether each core has made its attempt of the last round. Before the first round nothing is open.
+    pub fn is_complete(&self) -> bool
         ensures { (p : Meaning) (plan : Plan) (history : List Entry) → StandsFor p plan self.now history →
             result ≡ is_complete_after plan history }
     {

@@ -1,5 +1,5 @@
 -- What serial play of a trace's text comes to.
-use Rattle.std.specs.Prelude.{◌≡◌, ℕ, List, [], ◌∷◌, All, Option, Some}
+use Rattle.std.specs.Prelude.{◌≡◌, ℕ, List, [], ◌∷◌, All, Option, Some, None}
 use Rattle.policy_tree.specs.Meaning.{Meaning}
 use Rattle.round_model.specs.declared.entry.Entry.{Entry}
 use Rattle.round_model.specs.declared.plan.Plan.{Plan}
@@ -18,6 +18,8 @@ use Rattle.sched_history.specs.Spelling.{lines_of_history, text_of_history}
 use Rattle.trace_play.specs.declared.answer.PlayAnswer.{PlayAnswer}
 use Rattle.trace_play.specs.declared.answer.PlayAnswer.TheVariants as answer
 use Rattle.trace_play.specs.declared.fault.LineFault.{LineFault}
+use Rattle.trace_play.specs.declared.planning.PlanStop.{PlanStop}
+use Rattle.trace_play.specs.declared.planning.PlanStop.TheVariants as stop
 use Rattle.trace_play.specs.Told.{fault_line, told_of_plan, told_of_trace}
 
 -- the history that was played
@@ -40,16 +42,28 @@ abbrev pub IsShown : PlayAnswer → Type 0
 IsShown (answer.Broken fault) = Unit {0}
 IsShown (answer.Played play) = All IsPrintable (history_of play)
 
--- the answer is that fault
-abbrev pub IsBrokenBy : Option LineFault → PlayAnswer → Type 0
-IsBrokenBy fault (answer.Broken found) = fault ≡ Some found
-IsBrokenBy fault (answer.Played play) = ⊥
-
 -- the text has that fault, or it spells a trace that doesn't fit the policy for it
 pub data HasFault (p : Meaning) (text : List ℕ) (fault : LineFault) : Type 0 where
   no_trace : (found : TraceFault) → IsBroken text found → told_of_trace found ≡ Some fault → HasFault p text fault
   no_plan : (trace : List Numbered) (found : PlanFault) → SpellsTrace text trace → IsForeign p trace found →
       told_of_plan found ≡ Some fault → HasFault p text fault
+
+-- the text spells a trace, which means that plan under the policy
+pub record MeansPlan (p : Meaning) (text : List ℕ) (plan : Plan) : Type 0 where
+  pub trace : List Numbered
+  pub spells : SpellsTrace text trace
+  pub means : SpellsPlan p trace plan
+  pub fits : Fits p plan
+
+-- that fault, or want of memory
+abbrev pub stop_of : Option LineFault → PlanStop
+stop_of (Some fault) = stop.Broken fault
+stop_of None = stop.Memory
+
+-- that is why the text gives no plan
+abbrev pub IsPlanStop : Meaning → List ℕ → PlanStop → Type 0
+IsPlanStop p text (stop.Broken fault) = HasFault p text fault
+IsPlanStop p text stop.Memory = Unit {0}
 
 -- the text spells a trace, whose plan fits the policy, and that is what serial play of the plan comes to
 pub record PlaysText (p : Meaning) (text : List ℕ) (play : Played) : Type 0 where

@@ -1,9 +1,10 @@
 //! A fault of a trace's text, or of a trace that doesn't fit its policy.
 
 ghost use Rattle.std.specs.Prelude.{◌≡◌};
-ghost use Rattle.trace_play.specs.Told.{told_of_plan, told_of_trace, word_of};
+ghost use Rattle.trace_play.specs.Told.{fault_line, told_of_plan, told_of_trace, word_of};
 
 use job_trace::{PlanFault, TraceFault};
+use sched_io::Line;
 
 /// The kinds of faults of a trace.
 #[derive(Clone, Copy)]
@@ -44,6 +45,21 @@ impl FaultWord {
             FaultWord::ConstRange => "const-range",
             FaultWord::ConstName => "const-name",
         }
+    }
+}
+
+impl LineFault {
+    /// What is written of it: its line and its word.
+    pub fn to_line(&self) -> Line
+        ensures { result ≡ fault_line self.now }
+    {
+        let mut line = Line::new();
+        line.add(b"trace ");
+        line.add_number(u64::from(self.line));
+        line.add(b" ");
+        line.add(self.word.text().as_bytes());
+        line.add(b"\n");
+        line
     }
 }
 

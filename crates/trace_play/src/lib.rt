@@ -3,8 +3,10 @@
 
 mod answer;
 mod fault;
+mod planning;
 mod playing;
 
 pub use answer::PlayAnswer;
 pub use fault::{FaultWord, LineFault};
+pub use planning::{PlanStop, plan_text};
 pub use playing::{PlayMemory, play_text};

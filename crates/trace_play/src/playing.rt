@@ -7,8 +7,7 @@ ghost use Rattle.policy_eval.specs.Resolved.{IsResolved};
 ghost use Rattle.trace_play.specs.Plays.{IsPlayOf, IsShown};
 
 use crate::answer::PlayAnswer;
-use crate::fault::{of_plan, of_trace};
-use job_trace::{plan, read_trace};
+use crate::planning::{PlanStop, plan_text};
 use policy_tree::Policy;
 use round_model::ModelMemory;
 use serial_play::play_rounds;
@@ -39,13 +38,9 @@ pub fn play_text(alloc: Global, policy: &Policy, text: &[u8]) -> Result<PlayAnsw
     ensures play { IfOk result (IsPlayOf (meaning_of policy.now) text.now) }
     ensures shown { IfOk result IsShown }
 {
-    let trace = match read_trace(alloc, text) {
-        Ok(trace) => trace,
-        Err(fault) => return PlayAnswer::broken(of_trace(fault)),
-    };
-    let plan = match plan(alloc, &trace, policy) {
-        Ok(plan) => plan,
-        Err(fault) => return PlayAnswer::broken(of_plan(fault)),
-    };
-    Ok(PlayAnswer::Played(play_rounds(alloc, policy, &plan)?))
+    match plan_text(alloc, policy, text) {
+        Ok(plan) => Ok(PlayAnswer::Played(play_rounds(alloc, policy, &plan)?)),
+        Err(PlanStop::Broken(fault)) => Ok(PlayAnswer::Broken(fault)),
+        Err(PlanStop::Memory) => Err(PlayMemory::Memory),
+    }
 }

@@ -70,6 +70,11 @@ pub record IsWindow (past : Past) : Type 0 where
   pub within : length past.rows ≤ past.entries + 1
   pub few : past.entries ≤ MAX_ENTRIES
 
+-- the position is one of the rows: from the last Round on, and no later than the end
+pub record IsKeptPosition (past : Past) (position : ℕ) : Type 0 where
+  pub not_after : position ≤ past.entries
+  pub not_before : past.entries + 1 ≤ position + length past.rows
+
 -- the past was made for that plan, and its numbers lie in the policy's ranges
 pub record IsPastOf (p : Meaning) (plan : Plan) (past : Past) : Type 0 where
   pub cores : length past.state ≡ plan.cores

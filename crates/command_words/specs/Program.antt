@@ -1,0 +1,64 @@
+-- How `clap` is told of the commands, and what is read from what it finds. No contract of a public call speaks of this.
+use Rattle.std.specs.Prelude.{List, [], ◌∷◌, Option, Some, None, codes, if◌then◌else◌, map, option_and_then, option_map, true, false, unwrap_or}
+use Rattle.std.specs.Str.{bytes_eq}
+use Rattle.clap.specs.Words.{App, Row, Rule, Shape, Text, first_of, new_rule}
+use Rattle.clap.specs.Simple.{new_shape}
+use Rattle.clap.specs.declared.builder.ArgAction.TheVariants.{Set}
+use Rattle.command_words.specs.Command.{Asked, check, explain, made_by, name_of, play, replay, report}
+
+-- a word that has to be there
+abbrev pub wanted : Text → Rule
+wanted id = record (new_rule id) { required = true; action = Some Set }
+
+-- a command: its verb, and the words that it wants behind it
+abbrev pub command_of : Text → List Text → Shape
+command_of verb ids = record (new_shape verb) { rules = map wanted ids }
+
+-- the program with no command so far: it has no help and no version, and wants a command
+abbrev pub no_commands : App
+no_commands = record {
+  top = record (new_shape (codes "ipanema")) {
+    no_binary_name = true;
+    disable_help_flag = true;
+    disable_help_subcommand = true;
+    disable_version_flag = true;
+    subcommand_required = true;
+  };
+  subs = [];
+}
+
+abbrev pub commands : List Shape
+commands =
+    command_of (codes "check") (codes "POLICY" ∷ [])
+    ∷ command_of (codes "explain") (codes "POLICY" ∷ codes "NAME" ∷ [])
+    ∷ command_of (codes "play") (codes "POLICY" ∷ codes "TRACE" ∷ [])
+    ∷ command_of (codes "replay") (codes "POLICY" ∷ codes "TRACE" ∷ codes "HISTORY" ∷ [])
+    ∷ command_of (codes "report") (codes "POLICY" ∷ codes "TRACE" ∷ codes "HISTORY" ∷ [])
+    ∷ command_of (codes "make") (codes "SEED" ∷ codes "SIZE" ∷ [])
+    ∷ []
+
+-- the program with its commands
+abbrev pub program : App
+program = record { top = record no_commands.top { is_leaf = false }; subs = commands }
+
+-- the word that was found for a name, and an empty one where there is none
+abbrev pub word_in : List Row → Text → Text
+word_in rows id = unwrap_or (first_of id rows) []
+
+-- what the verb that was found asks for, with its words
+abbrev pub asked_in : Text → List Row → Option Asked
+asked_in verb rows =
+    if bytes_eq verb (codes "check") then Some (check (word_in rows (codes "POLICY")))
+    else if bytes_eq verb (codes "explain") then
+    option_map (explain (word_in rows (codes "POLICY"))) (name_of (word_in rows (codes "NAME")))
+    else if bytes_eq verb (codes "play") then Some (play (word_in rows (codes "POLICY")) (word_in rows (codes "TRACE")))
+    else if bytes_eq verb (codes "replay") then
+    Some (replay (word_in rows (codes "POLICY")) (word_in rows (codes "TRACE")) (word_in rows (codes "HISTORY")))
+    else if bytes_eq verb (codes "report") then
+    Some (report (word_in rows (codes "POLICY")) (word_in rows (codes "TRACE")) (word_in rows (codes "HISTORY")))
+    else if bytes_eq verb (codes "make") then made_by (word_in rows (codes "SEED")) (word_in rows (codes "SIZE"))
+    else None
+
+-- what is asked for by the verb and the words that were found, if any
+abbrev pub asked_from : Option (Text × List Row) → Option Asked
+asked_from found = option_and_then (λ p. asked_in p.0 p.1) found

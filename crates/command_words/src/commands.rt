@@ -1,0 +1,71 @@
+//! How `clap` is told of the commands.
+//!
+//! A command is a verb and the words that it wants behind it, each under a name. There are no options, no help and no
+//! version: such words are no command.
+
+ghost use Rattle.std.specs.Prelude.{◌≡◌, [], IfOk, false, map};
+ghost use Rattle.clap.specs.Words.{app_of, rule_of, with_subcommand};
+ghost use Rattle.clap.specs.declared.builder.command.Command.TheViews.{out-Command as fields_of};
+ghost use Rattle.command_words.specs.Program.{command_of, no_commands, program, wanted};
+
+use clap::{Arg, ArgAction, Command};
+use std::alloc::{AllocError, Global};
+
+/// The program with its commands.
+pub(crate) fn program<'a>(alloc: Global) -> Result<Command<'a>, AllocError>
+    ensures { IfOk result (λ made. app_of made ≡ program) }
+{
+    let program = no_commands(alloc);
+    let program = with_command(program, alloc, "check", &["POLICY"])?;
+    let program = with_command(program, alloc, "explain", &["POLICY", "NAME"])?;
+    let program = with_command(program, alloc, "play", &["POLICY", "TRACE"])?;
+    let program = with_command(program, alloc, "replay", &["POLICY", "TRACE", "HISTORY"])?;
+    let program = with_command(program, alloc, "report", &["POLICY", "TRACE", "HISTORY"])?;
+    with_command(program, alloc, "make", &["SEED", "SIZE"])
+}
+
+/// The program with no command so far.
+fn no_commands<'a>(alloc: Global) -> Command<'a>
+    ensures { app_of result ≡ no_commands }
+{
+    Command::new(alloc, "ipanema")
+        .no_binary_name(true)
+        .disable_help_flag(true)
+        .disable_help_subcommand(true)
+        .disable_version_flag(true)
+        .subcommand_required(true)
+}
+
+/// The program with one more command, which wants the words of these names.
+fn with_command<'a>(
+    program: Command<'a>,
+    alloc: Global,
+    verb: &'a str,
+    ids: &[&'a str],
+) -> Result<Command<'a>, AllocError>
+    ensures { IfOk result (λ made. app_of made
+        ≡ with_subcommand (app_of program.entry) (command_of verb.now (map (λ id. id.now) ids.now))) }
+{
+    program.subcommand(command_of(alloc, verb, ids)?)
+}
+
+/// A command that wants the words of these names.
+fn command_of<'a>(alloc: Global, verb: &'a str, ids: &[&'a str]) -> Result<Command<'a>, AllocError>
+    ensures shape { IfOk result (λ made. app_of made
+        ≡ record { top = command_of verb.now (map (λ id. id.now) ids.now); subs = [] }) }
+    ensures local { IfOk result (λ made. (fields_of made).has_globals ≡ false) }
+{
+    let mut command = Command::new(alloc, verb);
+    for id in ids {
+        command = command.arg(wanted(alloc, id))?;
+    }
+    Ok(command)
+}
+
+/// A word that has to be there, under this name.
+fn wanted<'a>(alloc: Global, id: &'a str) -> Arg<'a>
+    ensures rule { rule_of result ≡ wanted id.now }
+    ensures local { result.global ≡ false }
+{
+    Arg::new(alloc, id).required(true).action(ArgAction::Set)
+}

@@ -1,0 +1,4 @@
+pub mod Logs
+pub mod Placing
+pub mod Quiet
+pub mod Taking

@@ -1,0 +1,29 @@
+-- What is written of a history that was judged.
+use Rattle.std.specs.Prelude.{ℕ, List, [], ◌∷◌, ◌++◌, codes, decimal}
+use Rattle.sched_report.specs.Lines.{report_lines}
+use Rattle.trace_play.specs.Told.{fault_line}
+use Rattle.history_replay.specs.declared.answer.HistoryAnswer.{HistoryAnswer}
+use Rattle.history_replay.specs.declared.answer.HistoryAnswer.TheVariants as answer
+use Rattle.history_replay.specs.declared.refusal.HistoryRefusal.{HistoryRefusal}
+use Rattle.history_replay.specs.declared.refusal.HistoryRefusal.TheVariants as refusal
+
+-- a number in decimal between these bytes
+abbrev pub numbered_line : List ℕ → ℕ → List ℕ → List ℕ
+numbered_line front number behind = front ++ (decimal number ++ behind)
+
+-- the line of a refusal
+abbrev pub refusal_line : HistoryRefusal → List ℕ
+refusal_line (refusal.Trace fault) = fault_line fault
+refusal_line (refusal.BadLine line) = numbered_line (codes "history ") line (codes " bad-line\n")
+refusal_line (refusal.Illegal position) = numbered_line (codes "illegal ") position (codes "\n")
+refusal_line (refusal.Short count) = numbered_line (codes "short ") count (codes "\n")
+
+-- the line of a whole history of so many entries
+abbrev pub whole_line : ℕ → List ℕ
+whole_line count = numbered_line (codes "whole ") count (codes "\n")
+
+-- the lines of an answer
+abbrev pub lines_of : HistoryAnswer → List (List ℕ)
+lines_of (answer.Whole count) = whole_line count ∷ []
+lines_of (answer.Reported report) = report_lines report
+lines_of (answer.Refused why) = refusal_line why ∷ []

@@ -1,0 +1,103 @@
+//! What a history's text comes to, and how it is written.
+
+ghost use Rattle.std.specs.Prelude.{◌<◌, ◌≤◌, ◌≡◌, IfOk, length};
+ghost use Rattle.sched_base.specs.declared.limits.TheConstants.{MAX_ENTRIES};
+ghost use Rattle.policy_tree.specs.Meaning.{meaning_of};
+ghost use Rattle.policy_eval.specs.Obligations.{MeetsHandlerObligations, MeetsObligations};
+ghost use Rattle.policy_eval.specs.Resolved.{IsResolved};
+ghost use Rattle.sched_io.specs.Puts.{Puts};
+ghost use Rattle.round_model.specs.Fits.{Fits};
+ghost use Rattle.round_model.specs.Legal.{Whole};
+ghost use Rattle.history_replay.specs.Judges.{IsReplayOf, IsReportOf, TellsOf};
+ghost use Rattle.history_replay.specs.Lines.{lines_of, whole_line};
+
+use crate::judging::{JudgeStop, Judged, judge_texts};
+use crate::refusal::{HistoryRefusal, numbered};
+use policy_tree::Policy;
+use sched_io::{Line, PutFault, Sink, put_all};
+use sched_report::{FullReport, ReportMemory, print_report, report};
+use std::alloc::Global;
+use trace_play::PlayMemory;
+
+/// What a history's text comes to.
+#[derive(Drop)]
+pub enum HistoryAnswer {
+    /// It spells a whole history, which has so many entries.
+    Whole(u32),
+    /// It spells a whole history, of which that is told.
+    Reported(FullReport),
+    /// The texts give no whole history.
+    Refused(HistoryRefusal),
+}
+
+impl HistoryAnswer {
+    /// Writes the answer, a line at a time.
+    pub fn put<S: Sink>(&self, out: &mut S) -> Result<(), PutFault>
+        ensures { Puts (lines_of self.now) result (S.shown out.old) (S.shown out.new) }
+    {
+        match self {
+            HistoryAnswer::Whole(count) => put_all(out, whole_line(*count).as_bytes()),
+            HistoryAnswer::Reported(report) => print_report(out, report),
+            HistoryAnswer::Refused(refusal) => put_all(out, refusal.to_line().as_bytes()),
+        }
+    }
+}
+
+/// The line of a whole history of so many entries.
+fn whole_line(count: u32) -> Line
+    ensures { result ≡ whole_line count }
+{
+    numbered(b"whole ", count, b"\n")
+}
+
+/// Replays the history of the one text, of the plan that the other means under the policy.
+pub fn replay_texts(
+    alloc: Global,
+    policy: &Policy,
+    trace: &[u8],
+    history: &[u8],
+) -> Result<HistoryAnswer, PlayMemory>
+    requires resolved { IsResolved (meaning_of policy.now) }
+    requires handlers { MeetsHandlerObligations (meaning_of policy.now) }
+    requires small { length trace.now < u32.MAX }
+    ensures { IfOk result (IsReplayOf (meaning_of policy.now) trace.now history.now) }
+{
+    match judge_texts(alloc, policy, trace, history) {
+        Ok(judged) => Ok(HistoryAnswer::Whole(judged.history.len())),
+        Err(JudgeStop::Refused(refusal)) => Ok(HistoryAnswer::Refused(refusal)),
+        Err(JudgeStop::Memory) => Err(PlayMemory::Memory),
+    }
+}
+
+/// Reports of the history of the one text, of the plan that the other means under the policy.
+pub fn report_texts(
+    alloc: Global,
+    policy: &Policy,
+    trace: &[u8],
+    history: &[u8],
+) -> Result<HistoryAnswer, PlayMemory>
+    requires resolved { IsResolved (meaning_of policy.now) }
+    requires meets { MeetsObligations (meaning_of policy.now) }
+    requires small { length trace.now < u32.MAX }
+    ensures { IfOk result (IsReportOf (meaning_of policy.now) trace.now history.now) }
+{
+    match judge_texts(alloc, policy, trace, history) {
+        Ok(judged) => reported(alloc, policy, &judged),
+        Err(JudgeStop::Refused(refusal)) => Ok(HistoryAnswer::Refused(refusal)),
+        Err(JudgeStop::Memory) => Err(PlayMemory::Memory),
+    }
+}
+
+/// What is told of a whole history.
+fn reported(alloc: Global, policy: &Policy, judged: &Judged) -> Result<HistoryAnswer, PlayMemory>
+    requires fits { Fits (meaning_of policy.now) judged.now.plan }
+    requires meets { MeetsObligations (meaning_of policy.now) }
+    requires whole { Whole (meaning_of policy.now) judged.now.plan judged.now.history }
+    requires few { length judged.now.history ≤ MAX_ENTRIES }
+    ensures { IfOk result (TellsOf (meaning_of policy.now) judged.now.plan judged.now.history) }
+{
+    match report(alloc, policy, &judged.plan, &judged.history) {
+        Ok(told) => Ok(HistoryAnswer::Reported(told)),
+        Err(ReportMemory::Memory) => Err(PlayMemory::Memory),
+    }
+}

@@ -1,0 +1,406 @@
+-- From how a command that judges a history ends to the truth of what it says.
+use Rattle.std.proofs.Common.{◌≡◌, ◌≢◌, ℕ, inl, inr, List, [], ◌∷◌, Option, refl, sym, ◌∙◌, ap, arith, subst}
+use Rattle.sched_io.specs.Puts.{joined}
+use Rattle.sched_io.specs.Shown.{Shown}
+use Rattle.sched_io.specs.Told.{Told}
+use Rattle.sched_io.specs.Written.{Adds}
+use Rattle.policy_eval.specs.Obligations.{MeetsObligations}
+use Rattle.policy_tree.specs.declared.typed.Policy.{Policy}
+use Rattle.policy_tree.specs.Meaning.{Meaning, meaning_of}
+use Rattle.policy_checker.specs.declared.answer.Answered.{Answered}
+use Rattle.policy_checker.specs.declared.verdict.Verdict.{Verdict}
+use Rattle.policy_checker.specs.declared.verdict.Verdict.TheVariants as verdict
+use Rattle.policy_checker.proofs.True.{meets}
+use Rattle.policy_check.specs.Lines.{check_lines}
+use Rattle.policy_check.specs.declared.answer.CheckAnswer.{CheckAnswer}
+use Rattle.policy_check.specs.declared.answer.CheckAnswer.TheVariants as checked
+use Rattle.policy_check.specs.declared.reading.Refusal.{Refusal}
+use Rattle.policy_check.specs.declared.reading.Refusal.TheVariants as refusal
+use Rattle.round_model.specs.declared.entry.Entry.{Entry}
+use Rattle.round_model.specs.declared.plan.Plan.{Plan}
+use Rattle.round_model.specs.Legal.{Whole}
+use Rattle.job_trace.specs.declared.trace.Numbered.{Numbered}
+use Rattle.job_trace.specs.Plans.{SpellsPlan}
+use Rattle.trace_play.specs.declared.fault.LineFault.{LineFault}
+use Rattle.trace_play.specs.Plays.{HasFault, MeansPlan}
+use Rattle.trace_play.proofs.OnePlay.{never_faulty, one_plan, one_trace}
+use Rattle.history_reader.specs.Reading.{IsFirstBadLine, SpellsHistory}
+use Rattle.history_reader.proofs.OneReading.{not_both, one_history}
+use Rattle.history_judge.proofs.Judged.{one_judgement}
+use Rattle.history_replay.specs.declared.answer.HistoryAnswer.{HistoryAnswer}
+use Rattle.history_replay.specs.declared.answer.HistoryAnswer.TheVariants as judged
+use Rattle.history_replay.specs.declared.refusal.HistoryRefusal.{HistoryRefusal}
+use Rattle.history_replay.specs.declared.refusal.HistoryRefusal.TheVariants as no_history
+use Rattle.history_replay.specs.Judges.{Gives, HasRefusal, IsReplayOf, IsReportOf}
+use Rattle.history_replay.specs.Lines as histories
+use Rattle.sched_report.specs.Lines.{report_lines}
+use Rattle.round_laws.proofs.MainTheorem.{main_theorem}
+use Rattle.ipanema_cli.specs.Answers.{AnswersJudging, IsAccepted, JudgesTexts, Judging}
+use Rattle.ipanema_cli.specs.Causes.{OneOf}
+use Rattle.ipanema_cli.specs.Ends.{Writes}
+use Rattle.ipanema_cli.specs.Status.{check_status, code_of, history_refusal_status, history_status, refusal_status, verdict_status}
+use Rattle.ipanema_cli.specs.Texts.{MayRead}
+use Rattle.ipanema_cli.specs.Truths.{Decides, DoHoldAll, Holds, JudgesTruly, MayJudge, MustJudge, Refuses, SaysReport, SaysWhole, Spells, TellsWhy, illegal, short}
+use Rattle.ipanema_cli.specs.declared.answers.Answer.{Answer}
+use Rattle.ipanema_cli.specs.declared.answers.Answer.TheVariants as answer
+use Rattle.ipanema_cli.specs.declared.texts.TextKind.TheVariants as kind
+use Rattle.ipanema_cli.proofs.CheckTruths.{Stopped, at_4, at_5, at_6, not_long, refusal_not_0, stopped_not, stopped_refuses, tells_fault, verdict_answers}
+use Rattle.ipanema_cli.proofs.PlayTruths.{low_or_stopped, no_line, refused_left}
+use Rattle.ipanema_cli.proofs.PolicyFacts.{judged_refuses, read_decides, read_refuses, refused_text, resolved, same_policy, text_read}
+use Rattle.ipanema_cli.proofs.WritesLemmas.{code_among, no_stop, one_line, whole}
+
+-- what a command says of a whole history
+abbrev Saying : Type 1
+Saying = Meaning → Plan → List Entry → List ℕ → Type 0
+
+stopped_must : (policy trace history : Told) (code : ℕ) → Stopped code → MustJudge policy trace history code
+stopped_must policy trace history code stop = record {
+  whole = λ p jobs lines plan entries held gives is. elim stop [ at_4 e ↦ rw e refl | at_5 e ↦ rw e refl | at_6 e ↦ rw e refl ];
+  not_whole = λ p jobs lines plan entries held gives is. elim stop [ at_4 e ↦ rw e refl | at_5 e ↦ rw e refl | at_6 e ↦ rw e refl ];
+  faulty = λ p jobs lines fault held has. elim stop [ at_4 e ↦ rw e refl | at_5 e ↦ rw e refl | at_6 e ↦ rw e refl ];
+  bad_line = λ p jobs lines line held bad. elim stop [ at_4 e ↦ rw e refl | at_5 e ↦ rw e refl | at_6 e ↦ rw e refl ];
+  decides = λ p jobs lines held also too none. stopped_not code 3 (λ e. omega arith) (λ e. omega arith) (λ e. omega arith) stop;
+  refuses = λ p jobs lines held also too unmet. elim stop [ at_4 e ↦ rw e refl | at_5 e ↦ rw e refl | at_6 e ↦ rw e refl ];
+  unjudged = λ jobs lines also too. stopped_refuses policy code stop;
+}
+
+pub stopped_judge : (Says : Saying) (policy trace history : Told) (before after : Option (List ℕ)) (code : ℕ) → Stopped code → JudgesTruly Says policy trace history before after code
+stopped_judge Says policy trace history before after code stop = record {
+  whole = λ h. absurd (stopped_not code 0 (λ e. omega arith) (λ e. omega arith) (λ e. omega arith) stop h);
+  not_whole = λ h. absurd (stopped_not code 9 (λ e. omega arith) (λ e. omega arith) (λ e. omega arith) stop h);
+  must = stopped_must policy trace history code stop;
+  lines = λ low. absurd (low_or_stopped code low stop);
+  bad_text = λ h. absurd (stopped_not code 2 (λ e. omega arith) (λ e. omega arith) (λ e. omega arith) stop h);
+}
+
+-- a file is too long, which one doesn't matter
+long_judge : (Says : Saying) (policy trace history : Told) (before after : Option (List ℕ)) (code : ℕ)
+    → ((text jobs lines : List ℕ) → Holds kind.Policy policy text → Holds kind.Trace trace jobs → Holds kind.History history lines → ⊥) → code ≡ 10
+    → JudgesTruly Says policy trace history before after code
+long_judge Says policy trace history before after code none own =
+    let never : (p : Meaning) (jobs lines : List ℕ) → DoHoldAll policy trace history p jobs lines → ⊥ =
+    λ p jobs lines held. none held.spells.text jobs lines held.spells.held held.trace_held held.history_held in
+    record {
+      whole = λ h. absurd (omega arith);
+      not_whole = λ h. absurd (omega arith);
+      must = record {
+        whole = λ p jobs lines plan entries held _ _. absurd (never p jobs lines held);
+        not_whole = λ p jobs lines plan entries held _ _. absurd (never p jobs lines held);
+        faulty = λ p jobs lines fault held _. absurd (never p jobs lines held);
+        bad_line = λ p jobs lines line held _. absurd (never p jobs lines held);
+        decides = λ p jobs lines held also too _ three. none held.text jobs lines held.held also too;
+        refuses = λ p jobs lines held also too _. absurd (none held.text jobs lines held.held also too);
+        unjudged = λ jobs lines also too. record {
+          crowded = λ text p held _ _. absurd (none text jobs lines held also too);
+          faulty = λ text fault held _. absurd (none text jobs lines held also too);
+        };
+      };
+      lines = λ low. absurd (let bad = rw own at low in cc);
+      bad_text = λ h. absurd (omega arith);
+    }
+
+-- Under a policy that isn't accepted, what must come of the policy's text must come of the call. One that meets its
+-- obligations is left undecided.
+must_of : (policy trace history : Told) (code : ℕ) → ((p : Meaning) → Spells policy p → MeetsObligations p → code ≡ 3) → Decides policy code → Refuses policy code
+    → MustJudge policy trace history code
+must_of policy trace history code left decides refuses = record {
+  whole = λ p jobs lines plan entries held _ _. rw (left p held.spells held.meets) refl;
+  not_whole = λ p jobs lines plan entries held _ _. rw (left p held.spells held.meets) refl;
+  faulty = λ p jobs lines fault held _. rw (left p held.spells held.meets) refl;
+  bad_line = λ p jobs lines line held _. rw (left p held.spells held.meets) refl;
+  decides = λ p jobs lines held also too none. decides.decides p held none;
+  refuses = λ p jobs lines held also too unmet. decides.refuses p held unmet;
+  unjudged = λ jobs lines also too. refuses;
+}
+
+module _ (Is : Judging) (Says : Saying) (policy trace history : Told) where
+  -- the policy was judged, and isn't accepted
+  verdict_judge : (v : Verdict) (before after : Option (List ℕ)) (code : ℕ) → JudgesTexts Is policy trace history (answer.Checked (checked.Judged v))
+      → code ≡ code_of (verdict_status v) → code ≢ 0 → code ≢ 9 → code ≢ 2 → ((p : Meaning) → Spells policy p → MeetsObligations p → code ≡ 3)
+      → Adds (joined (check_lines (checked.Judged v))) before after → JudgesTruly Says policy trace history before after code
+  verdict_judge v before after code texts own not_0 not_9 not_2 left added = record {
+    whole = λ h. absurd (not_0 h);
+    not_whole = λ h. absurd (not_9 h);
+    must = must_of policy trace history code left (read_decides policy texts.text (checked.Judged v) code texts.policy_read texts.answers.0 own)
+        (read_refuses policy texts.text (checked.Judged v) code texts.policy_read texts.answers.0 own);
+    lines = λ low. verdict_answers policy texts.text v before after code texts.policy_read texts.answers.0 own added;
+    bad_text = λ h. absurd (not_2 h);
+  }
+
+  refusal_not_9 : (why : Refusal) (code : ℕ) → code ≡ code_of (refusal_status why) → code ≢ 9
+  refusal_not_9 (refusal.Faulty fault) code own e = omega arith
+  refusal_not_9 (refusal.Crowded name) code own e = omega arith
+
+  -- the policy isn't accepted
+  unaccepted : (c : CheckAnswer) (before after : Option (List ℕ)) (code : ℕ) → JudgesTexts Is policy trace history (answer.Checked c)
+      → code ≡ code_of (check_status c) → Adds (joined (check_lines c)) before after → JudgesTruly Says policy trace history before after code
+  unaccepted (checked.Judged (verdict.Accepted kept)) before after code texts own added =
+      absurd (let refusal = texts.answers.1 in let clash : ⊥ = cc in clash)
+  unaccepted (checked.Judged (verdict.Refused answers kept)) before after code texts own added =
+      verdict_judge (verdict.Refused answers kept) before after code texts own (λ e. omega arith) (λ e. omega arith) (λ e. omega arith)
+      (refused_left policy texts.text answers kept code texts.policy_read texts.answers.0) added
+  unaccepted (checked.Judged (verdict.Undecided answers kept)) before after code texts own added =
+      verdict_judge (verdict.Undecided answers kept) before after code texts own (λ e. omega arith) (λ e. omega arith) (λ e. omega arith) (λ p held met. own) added
+  unaccepted (checked.Unjudged why) before after code texts own added = record {
+    whole = λ h. absurd (refusal_not_0 why code own h);
+    not_whole = λ h. absurd (refusal_not_9 why code own h);
+    must = must_of policy trace history code (λ p held met. absurd (refused_text policy texts.text why p texts.policy_read texts.answers.0 held))
+        (read_decides policy texts.text (checked.Unjudged why) code texts.policy_read texts.answers.0 own)
+        (read_refuses policy texts.text (checked.Unjudged why) code texts.policy_read texts.answers.0 own);
+    lines = λ low. absurd (no_line why code own low);
+    bad_text = λ h. inl (tells_fault policy texts.text why before after code texts.policy_read texts.answers.0 own added h);
+  }
+
+-- the three files were read, and the policy is accepted
+record Read (policy trace history : Told) (text jobs lines : List ℕ) (p : Meaning) : Type 0 where
+  policy_read : MayRead kind.Policy policy text
+  trace_read : MayRead kind.Trace trace jobs
+  history_read : MayRead kind.History history lines
+  accepted : IsAccepted text p
+
+-- what else the same texts give is the same
+record SameGiven (plan other : Plan) (entries others : List Entry) : Type 0 where
+  same_plan : plan ≡ other
+  same_entries : entries ≡ others
+
+same_given : (p : Meaning) (jobs lines : List ℕ) (plan other : Plan) (entries others : List Entry) → Gives p jobs lines plan entries → Gives p jobs lines other others
+    → SameGiven plan other entries others
+same_given p jobs lines plan other entries others one two =
+    let first = one.means in let second = two.means in
+    let same = one_trace jobs first.trace second.trace first.spells second.spells in
+    record {
+      same_plan = one_plan p second.trace plan other (subst (λ (l : List Numbered). SpellsPlan p l plan) same first.means) second.means;
+      same_entries = one_history lines entries others one.spells two.spells;
+    }
+
+module _ (policy trace history : Told) (text jobs lines : List ℕ) (p : Meaning) (read : Read policy trace history text jobs lines p) where
+  -- the policy that the file holds is the one that was read
+  the_policy : (other : Meaning) → Spells policy other → p ≡ other
+  the_policy other held = same_policy policy text p other read.policy_read read.accepted.spells held
+
+  -- an accepted policy meets its obligations, and so does the one that is held
+  met : MeetsObligations p
+  met = meets p (resolved policy text p read.policy_read read.accepted.spells) read.accepted.certified
+
+  still_met : (other : Meaning) → Spells policy other → MeetsObligations other
+  still_met other held = subst MeetsObligations (the_policy other held) met
+
+  -- what the texts that are held give was given by those that were read
+  still_given : (other : Meaning) (also_jobs also_lines : List ℕ) (plan : Plan) (entries : List Entry) → DoHoldAll policy trace history other also_jobs also_lines
+      → Gives other also_jobs also_lines plan entries → Gives p jobs lines plan entries
+  still_given other also_jobs also_lines plan entries held gives =
+      let same_jobs = text_read kind.Trace trace jobs also_jobs read.trace_read held.trace_held in
+      let same_lines = text_read kind.History history lines also_lines read.history_read held.history_held in
+      subst (λ (q : Meaning). Gives q jobs lines plan entries) (sym (the_policy other held.spells))
+      (subst (λ (t : List ℕ). Gives other t lines plan entries) (sym same_jobs)
+      (subst (λ (t : List ℕ). Gives other also_jobs t plan entries) (sym same_lines) gives))
+
+  still_faulty : (other : Meaning) (also_jobs also_lines : List ℕ) (fault : LineFault) → DoHoldAll policy trace history other also_jobs also_lines
+      → HasFault other also_jobs fault → HasFault p jobs fault
+  still_faulty other also_jobs also_lines fault held has =
+      subst (λ (q : Meaning). HasFault q jobs fault) (sym (the_policy other held.spells))
+      (subst (λ (t : List ℕ). HasFault other t fault) (sym (text_read kind.Trace trace jobs also_jobs read.trace_read held.trace_held)) has)
+
+  still_bad : (other : Meaning) (also_jobs also_lines : List ℕ) (line : ℕ) → DoHoldAll policy trace history other also_jobs also_lines
+      → IsFirstBadLine also_lines line → IsFirstBadLine lines line
+  still_bad other also_jobs also_lines line held bad =
+      subst (λ (t : List ℕ). IsFirstBadLine t line) (sym (text_read kind.History history lines also_lines read.history_read held.history_held)) bad
+
+  still_whole : (other : Meaning) (also_jobs also_lines : List ℕ) (plan also : Plan) (entries others : List Entry) → Gives p jobs lines plan entries
+      → DoHoldAll policy trace history other also_jobs also_lines → Gives other also_jobs also_lines also others → Whole other also others → Whole p plan entries
+  still_whole other also_jobs also_lines plan also entries others gives held also_gives is =
+      let same = same_given p jobs lines plan also entries others gives (still_given other also_jobs also_lines also others held also_gives) in
+      subst (λ (q : Meaning). Whole q plan entries) (sym (the_policy other held.spells))
+      (subst (λ (x : Plan). Whole other x entries) (sym same.same_plan)
+      (subst (λ (es : List Entry). Whole other also es) (sym same.same_entries) is))
+
+  whole_still : (other : Meaning) (also_jobs also_lines : List ℕ) (plan also : Plan) (entries others : List Entry) → Gives p jobs lines plan entries
+      → DoHoldAll policy trace history other also_jobs also_lines → Gives other also_jobs also_lines also others → Whole p plan entries → Whole other also others
+  whole_still other also_jobs also_lines plan also entries others gives held also_gives is =
+      let same = same_given p jobs lines plan also entries others gives (still_given other also_jobs also_lines also others held also_gives) in
+      subst (λ (es : List Entry). Whole other also es) same.same_entries
+      (subst (λ (x : Plan). Whole other x entries) same.same_plan
+      (subst (λ (q : Meaning). Whole q plan entries) (the_policy other held.spells) is))
+
+  may_judge : (plan : Plan) (entries : List Entry) → Gives p jobs lines plan entries → MayJudge policy trace history p plan entries
+  may_judge plan entries gives = record {
+    text = text;
+    jobs = jobs;
+    lines = lines;
+    policy_read = read.policy_read;
+    trace_read = read.trace_read;
+    history_read = read.history_read;
+    accepted = read.accepted;
+    meets = met;
+    gives = gives;
+  }
+
+  -- the history is whole
+  judged_whole : (Says : Saying) (plan : Plan) (entries : List Entry) (bytes : List ℕ) (before after : Option (List ℕ)) (code : ℕ) → Gives p jobs lines plan entries
+      → Whole p plan entries → Says p plan entries bytes → code ≡ 0 → Adds bytes before after → JudgesTruly Says policy trace history before after code
+  judged_whole Says plan entries bytes before after code gives is says own added = record {
+    whole = λ h. record {
+      p = p;
+      plan = plan;
+      entries = entries;
+      may = may_judge plan entries gives;
+      whole = is;
+      keeps = main_theorem p met plan entries gives.means.fits is.legal;
+      bytes = bytes;
+      says = says;
+      written = added;
+    };
+    not_whole = λ h. absurd (omega arith);
+    must = record {
+      whole = λ other also_jobs also_lines also others held also_gives whole. rw own refl;
+      not_whole = λ other also_jobs also_lines also others held also_gives none.
+          absurd (none (whole_still other also_jobs also_lines plan also entries others gives held also_gives is));
+      faulty = λ other also_jobs also_lines fault held has.
+          absurd (never_faulty p jobs gives.means.trace plan fault gives.means.spells gives.means.means (still_faulty other also_jobs also_lines fault held has));
+      bad_line = λ other also_jobs also_lines line held bad. absurd (not_both lines entries line gives.spells (still_bad other also_jobs also_lines line held bad));
+      decides = λ other also_jobs also_lines held also too none three. absurd (omega arith);
+      refuses = λ other also_jobs also_lines held also too unmet. absurd (unmet (still_met other held));
+      unjudged = λ also_jobs also_lines also too. judged_refuses policy text p code read.policy_read read.accepted.spells read.accepted.few;
+    };
+    lines = λ low. absurd (let bad = rw own at low in cc);
+    bad_text = λ h. absurd (omega arith);
+  }
+
+  -- the history isn't whole
+  judged_not_whole : (Says : Saying) (plan : Plan) (entries : List Entry) (before after : Option (List ℕ)) (code : ℕ) → Gives p jobs lines plan entries
+      → (Whole p plan entries → ⊥) → TellsWhy p plan entries before after → code ≡ 9 → JudgesTruly Says policy trace history before after code
+  judged_not_whole Says plan entries before after code gives not_is why own = record {
+    whole = λ h. absurd (omega arith);
+    not_whole = λ h. record { p = p; plan = plan; entries = entries; may = may_judge plan entries gives; why = why };
+    must = record {
+      whole = λ other also_jobs also_lines also others held also_gives is.
+          absurd (not_is (still_whole other also_jobs also_lines plan also entries others gives held also_gives is));
+      not_whole = λ other also_jobs also_lines also others held also_gives none. rw own refl;
+      faulty = λ other also_jobs also_lines fault held has.
+          absurd (never_faulty p jobs gives.means.trace plan fault gives.means.spells gives.means.means (still_faulty other also_jobs also_lines fault held has));
+      bad_line = λ other also_jobs also_lines line held bad. absurd (not_both lines entries line gives.spells (still_bad other also_jobs also_lines line held bad));
+      decides = λ other also_jobs also_lines held also too none three. absurd (omega arith);
+      refuses = λ other also_jobs also_lines held also too unmet. absurd (unmet (still_met other held));
+      unjudged = λ also_jobs also_lines also too. judged_refuses policy text p code read.policy_read read.accepted.spells read.accepted.few;
+    };
+    lines = λ low. absurd (let bad = rw own at low in cc);
+    bad_text = λ h. absurd (omega arith);
+  }
+
+  -- a text has a fault, so that nothing is given
+  must_refuse : (code : ℕ) → code ≡ 2 → ((plan : Plan) (entries : List Entry) → Gives p jobs lines plan entries → ⊥) → MustJudge policy trace history code
+  must_refuse code own never = record {
+    whole = λ other also_jobs also_lines also others held also_gives is. absurd (never also others (still_given other also_jobs also_lines also others held also_gives));
+    not_whole = λ other also_jobs also_lines also others held also_gives none. absurd (never also others (still_given other also_jobs also_lines also others held also_gives));
+    faulty = λ other also_jobs also_lines fault held has. rw own refl;
+    bad_line = λ other also_jobs also_lines line held bad. rw own refl;
+    decides = λ other also_jobs also_lines held also too none three. absurd (omega arith);
+    refuses = λ other also_jobs also_lines held also too unmet. absurd (unmet (still_met other held));
+    unjudged = λ also_jobs also_lines also too. judged_refuses policy text p code read.policy_read read.accepted.spells read.accepted.few;
+  }
+
+  refused_history : (Says : Saying) (why : HistoryRefusal) (before after : Option (List ℕ)) (code : ℕ) → HasRefusal p jobs lines why
+      → code ≡ code_of (history_refusal_status why) → Adds (histories.refusal_line why) before after → JudgesTruly Says policy trace history before after code
+  refused_history Says (no_history.Trace fault) before after code has own added = record {
+    whole = λ h. absurd (omega arith);
+    not_whole = λ h. absurd (omega arith);
+    must = must_refuse code own (λ plan entries gives. never_faulty p jobs gives.means.trace plan fault gives.means.spells gives.means.means has);
+    lines = λ low. absurd (let bad = rw own at low in cc);
+    bad_text = λ h. inr (inl (record {
+      text = text;
+      jobs = jobs;
+      policy_read = read.policy_read;
+      trace_read = read.trace_read;
+      p = p;
+      accepted = read.accepted;
+      fault = fault;
+      has = has;
+      written = added;
+    }));
+  }
+  refused_history Says (no_history.BadLine line) before after code has own added = record {
+    whole = λ h. absurd (omega arith);
+    not_whole = λ h. absurd (omega arith);
+    must = must_refuse code own (λ plan entries gives. not_both lines entries line gives.spells has.1);
+    lines = λ low. absurd (let bad = rw own at low in cc);
+    bad_text = λ h. inr (inr (record {
+      text = text;
+      jobs = jobs;
+      lines = lines;
+      policy_read = read.policy_read;
+      trace_read = read.trace_read;
+      history_read = read.history_read;
+      p = p;
+      accepted = read.accepted;
+      plan = has.0.0;
+      means = has.0.1;
+      line = line;
+      bad = has.1;
+      written = added;
+    }));
+  }
+  refused_history Says (no_history.Illegal position) before after code (plan, entries, gives, first) own added =
+      judged_not_whole Says plan entries before after code gives (λ is. one_judgement.legal p plan entries position is.legal first) (illegal position first added) own
+  refused_history Says (no_history.Short count) before after code (plan, entries, gives, too_short) own added =
+      judged_not_whole Says plan entries before after code gives too_short.unfinished (short count too_short added) own
+
+-- the answers of `replay` to a history that was judged
+replay_answer : (policy trace history : Told) (text jobs lines : List ℕ) (p : Meaning) → Read policy trace history text jobs lines p → (h : HistoryAnswer) (before after : Option (List ℕ)) (code : ℕ)
+    → IsReplayOf p jobs lines h → code ≡ code_of (history_status h) → Adds (joined (histories.lines_of h)) before after → JudgesTruly SaysWhole policy trace history before after code
+replay_answer policy trace history text jobs lines p read (judged.Whole count) before after code is own added =
+    let line : List ℕ = histories.whole_line count in
+    judged_whole policy trace history text jobs lines p read SaysWhole is.plan is.history line before after code is.gives is.whole
+    (ap histories.whole_line is.count_is) own (one_line line before after added)
+replay_answer policy trace history text jobs lines p read (judged.Reported report) before after code is own added = absurd is
+replay_answer policy trace history text jobs lines p read (judged.Refused why) before after code is own added =
+    refused_history policy trace history text jobs lines p read SaysWhole why before after code is own (one_line (histories.refusal_line why) before after added)
+
+-- and those of `report`
+report_answer : (policy trace history : Told) (text jobs lines : List ℕ) (p : Meaning) → Read policy trace history text jobs lines p → (h : HistoryAnswer) (before after : Option (List ℕ)) (code : ℕ)
+    → IsReportOf p jobs lines h → code ≡ code_of (history_status h) → Adds (joined (histories.lines_of h)) before after → JudgesTruly SaysReport policy trace history before after code
+report_answer policy trace history text jobs lines p read (judged.Whole count) before after code is own added = absurd is
+report_answer policy trace history text jobs lines p read (judged.Reported report) before after code is own added =
+    judged_whole policy trace history text jobs lines p read SaysReport is.plan is.history (joined (report_lines report)) before after code is.gives is.whole
+    (report, is.tells, refl) own added
+report_answer policy trace history text jobs lines p read (judged.Refused why) before after code is own added =
+    refused_history policy trace history text jobs lines p read SaysReport why before after code is own (one_line (histories.refusal_line why) before after added)
+
+-- what follows for a command from what its answers to judged histories are worth
+judges : (Is : Judging) (Says : Saying) → ((policy trace history : Told) (text jobs lines : List ℕ) (p : Meaning) → Read policy trace history text jobs lines p → (h : HistoryAnswer) (before after : Option (List ℕ)) (code : ℕ)
+    → Is p jobs lines h → code ≡ code_of (history_status h) → Adds (joined (histories.lines_of h)) before after → JudgesTruly Says policy trace history before after code)
+    → (policy trace history : Told) (before after : Shown) (code : ℕ) (a : Answer) → AnswersJudging Is policy trace history a
+    → Writes a before after code → JudgesTruly Says policy trace history before.written after.written code
+judges Is Says worth policy trace history before after code (answer.Checked c) texts writes = elim (code_among _ _ _ _ writes) [
+  | inr e ↦ stopped_judge Says policy trace history before.written after.written code (at_5 e)
+  | inl e ↦ unaccepted Is Says policy trace history c before.written after.written code texts e (whole _ _ _ _ writes (λ five. (no_stop (answer.Checked c)).1 (sym e ∙ five)))
+]
+judges Is Says worth policy trace history before after code (answer.Explained told) is writes = absurd is
+judges Is Says worth policy trace history before after code (answer.Played outcome) is writes = absurd is
+judges Is Says worth policy trace history before after code (answer.Judged h) texts writes = elim (code_among _ _ _ _ writes) [
+  | inr e ↦ stopped_judge Says policy trace history before.written after.written code (at_5 e)
+  | inl e ↦ worth policy trace history texts.text texts.jobs texts.entries texts.answers.0
+      (record { policy_read = texts.policy_read; trace_read = texts.trace_read; history_read = texts.history_read; accepted = texts.answers.1 })
+      h before.written after.written code texts.answers.2 e (whole _ _ _ _ writes (λ five. (no_stop (answer.Judged h)).1 (sym e ∙ five)))
+]
+judges Is Says worth policy trace history before after code (answer.Made text) is writes = absurd is
+judges Is Says worth policy trace history before after code (answer.TooLong kind.Policy) long writes = elim (code_among _ _ _ _ writes) [
+  | inr e ↦ stopped_judge Says policy trace history before.written after.written code (at_5 e)
+  | inl e ↦ long_judge Says policy trace history before.written after.written code (λ text jobs lines held also too. not_long kind.Policy policy text long held) e
+]
+judges Is Says worth policy trace history before after code (answer.TooLong kind.Trace) long writes = elim (code_among _ _ _ _ writes) [
+  | inr e ↦ stopped_judge Says policy trace history before.written after.written code (at_5 e)
+  | inl e ↦ long_judge Says policy trace history before.written after.written code (λ text jobs lines held also too. not_long kind.Trace trace jobs long.1 also) e
+]
+judges Is Says worth policy trace history before after code (answer.TooLong kind.History) long writes = elim (code_among _ _ _ _ writes) [
+  | inr e ↦ stopped_judge Says policy trace history before.written after.written code (at_5 e)
+  | inl e ↦ long_judge Says policy trace history before.written after.written code (λ text jobs lines held also too. not_long kind.History history lines long.2 too) e
+]
+judges Is Says worth policy trace history before after code answer.BadWords is writes = absurd is
+
+pub replays : (policy trace history : Told) (before after : Shown) (code : ℕ) (a : Answer) → AnswersJudging IsReplayOf policy trace history a
+    → Writes a before after code → JudgesTruly SaysWhole policy trace history before.written after.written code
+replays = judges IsReplayOf SaysWhole replay_answer
+
+pub reports : (policy trace history : Told) (before after : Shown) (code : ℕ) (a : Answer) → AnswersJudging IsReportOf policy trace history a
+    → Writes a before after code → JudgesTruly SaysReport policy trace history before.written after.written code
+reports = judges IsReportOf SaysReport report_answer

@@ -1,0 +1,18 @@
+-- What `check` and `explain` load is the one file of their command.
+use Rattle.std.proofs.Common.{ap, subst, sym}
+use Rattle.command_words.specs.Asks.{asked}
+use Rattle.ipanema_cli.specs.Loads.{FirstAreLoaded}
+use Rattle.ipanema_cli.proofs.serial.answer_of.Goals as goal
+
+pub make-requires : goal.make-requires
+make-requires g c = c.requires.sized c.in-Make.seed c.in-Make.size (ap asked c.in-Make.is)
+
+pub returns-in-Check-clause-loads : goal.returns-in-Check-clause-loads
+returns-in-Check-clause-loads g c =
+    subst (λ request. FirstAreLoaded (asked request) (g.F.Files.told c.args.files.now) (g.F.Files.asked c.args.files.now) (g.F.Files.asked c.check.new.files))
+    (sym c.in-Check.is) (record { count = 1; loaded = c.check.ensures.loads; goes_on = tt })
+
+pub returns-in-Explain-clause-loads : goal.returns-in-Explain-clause-loads
+returns-in-Explain-clause-loads g c =
+    subst (λ request. FirstAreLoaded (asked request) (g.F.Files.told c.args.files.now) (g.F.Files.asked c.args.files.now) (g.F.Files.asked c.explain.new.files))
+    (sym c.in-Explain.is) (record { count = 1; loaded = c.explain.ensures.loads; goes_on = tt })

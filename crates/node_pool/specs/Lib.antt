@@ -1,0 +1,3 @@
+pub mod FreeLine
+pub mod Lends
+pub mod Nodes

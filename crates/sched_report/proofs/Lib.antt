@@ -1,0 +1,14 @@
+pub mod Fronts
+pub mod OpeningRows
+pub mod Puttings
+pub mod RunCounts
+pub mod RunLemmas
+pub mod FlagLemmas
+pub mod WalkLemmas
+pub mod RoundRowLemmas
+pub mod StretchLemmas
+pub mod BesideLemmas
+pub mod LastRounds
+pub mod PaidLemmas
+pub mod ReportLemmas
+pub mod OneReport

@@ -1,0 +1,75 @@
+-- What was told of a whole history is its report.
+use Rattle.std.proofs.Common.{◌≡◌, ℕ, ◌+◌, ◌*◌, ◌≤◌, Bool, true, false, cond, List, [], ◌∷◌, None, Some, length, map, refl, sym, ap, subst, ◌∙◌, arith}
+use Rattle.std.specs.Prelude.{count_by, filter_map}
+use Rattle.std.specs.List.{cons_option, enumerate_from}
+use Rattle.std.proofs.lemmas.List.{length-map}
+use Rattle.std.proofs.lemmas.List.Elements.{All-weaker}
+use Rattle.std.proofs.lemmas.List.Sums.{sum_by-cons}
+use Rattle.policy_tree.specs.Meaning.{Meaning}
+use Rattle.policy_eval.specs.Obligations.{MeetsObligations}
+use Rattle.round_model.specs.declared.entry.Entry.{Entry}
+use Rattle.round_model.specs.declared.plan.Plan.{Plan}
+use Rattle.round_model.specs.Fits.{Fits}
+use Rattle.round_model.specs.Legal.{Whole}
+use Rattle.sched_report.specs.FailRows.{AreFailRows, fail_at, is_fail}
+use Rattle.sched_report.specs.Reports.{AddsUp, IsPaid, IsReport, totals_of}
+use Rattle.sched_report.specs.Code.Runs.{AreNumbered, AreRuns}
+use Rattle.sched_report.specs.StillRows.{AreStillRows, IsStillRow}
+use Rattle.sched_report.specs.Code.Walks.{IsTally}
+use Rattle.sched_report.specs.declared.rows.FailRow.{FailRow}
+use Rattle.sched_report.specs.declared.rows.FullReport.{FullReport}
+use Rattle.sched_report.specs.declared.rows.StillRow.{StillRow}
+use Rattle.sched_report.specs.declared.rows.Totals.{Totals}
+use Rattle.sched_report.specs.declared.walk.Tally.{Tally}
+use Rattle.sched_report.proofs.PaidLemmas.{paid_row}
+use Rattle.sched_report.proofs.RoundRowLemmas.{rows_counted, rows_numbered}
+use Rattle.sched_report.proofs.StretchLemmas.{are_still_rows}
+
+abbrev one_if : Bool → ℕ
+one_if b = cond b 1 0
+
+-- there are as many positions of Fails as Fails
+fails_counted : (n : ℕ) (h : List Entry) → length (filter_map fail_at (enumerate_from n h)) ≡ count_by is_fail h
+fails_counted n [] = refl
+fails_counted n (e ∷ es) = by_test (is_fail e) refl (fails_counted (n + 1) es)
+  where
+    by_test : (b : Bool) → is_fail e ≡ b → length (filter_map fail_at (enumerate_from (n + 1) es)) ≡ count_by is_fail es
+        → length (cons_option (cond b (Some n) None) (filter_map fail_at (enumerate_from (n + 1) es))) ≡ count_by is_fail (e ∷ es)
+    by_test true is rest = let one : one_if (is_fail e) ≡ 1 = ap one_if is in omega (arith, sum_by-cons (λ x. one_if (is_fail x)) e es)
+    by_test false is rest = let none : one_if (is_fail e) ≡ 0 = ap one_if is in omega (arith, sum_by-cons (λ x. one_if (is_fail x)) e es)
+
+module _ (p : Meaning) (plan : Plan) (history : List Entry) (whole : Whole p plan history) (tally : Tally) (told : IsTally p plan history tally) where
+  -- a flag for each round, and the rounds in order
+  pub flags_counted : length tally.still ≡ length tally.rounds
+  flags_counted = told.still.count ∙ sym (ap length told.rounds ∙ rows_counted p plan history)
+
+  pub rounds_numbered : AreNumbered tally.rounds
+  rounds_numbered = subst AreNumbered (sym told.rounds) (rows_numbered p plan history whole.legal)
+
+  module _ (report : FullReport) (rounds : report.rounds ≡ tally.rounds) (runs : AreRuns tally.still tally.rounds report.stills) (fails : report.fails ≡ tally.fails)
+      (totals : report.totals ≡ totals_of history tally.rounds) where
+    stills_are : AreStillRows p plan history report.stills
+    stills_are = are_still_rows p plan history whole.legal tally.still told.still report.stills (subst (λ rows. AreRuns tally.still rows report.stills) told.rounds runs)
+
+    pub report_is : IsReport p plan history report
+    report_is = record {
+      rounds = rounds ∙ told.rounds;
+      stills = stills_are;
+      fails = subst (AreFailRows p plan history) (sym fails) told.fails;
+      totals = totals ∙ ap (totals_of history) told.rounds;
+    }
+
+    pub report_paid : Fits p plan → MeetsObligations p → IsPaid report
+    report_paid fits meets = All-weaker (IsStillRow p plan history) (λ (row : StillRow). 2 * row.bad ≤ row.spread) (paid_row p plan history whole fits meets) report.stills stills_are.each
+
+    pub report_adds_up : AddsUp report
+    unfolding totals_of
+    report_adds_up =
+        let is : report.totals ≡ totals_of history report.rounds = totals ∙ ap (totals_of history) (sym rounds) in
+        let number_of : FailRow → ℕ = λ row. row.at in
+        record {
+          rounds = ap (λ (t : Totals). t.rounds) is ∙ sym (ap length (rounds ∙ told.rounds) ∙ rows_counted p plan history);
+          fails = ap (λ (t : Totals). t.fails) is ∙ sym (sym (length-map report.fails number_of) ∙ (ap (λ rows. length (map number_of rows)) fails ∙ (ap length told.fails.positions ∙ fails_counted 0 history)));
+          bad = ap (λ (t : Totals). t.bad) is;
+          wasted = ap (λ (t : Totals). t.wasted) is;
+        }

@@ -1,0 +1,33 @@
+-- What the walk over a history keeps.
+use Rattle.std.specs.Prelude.{◌≡◌, ℕ, ◌≤◌, Bool, true, false, List, All, filter_map, length, map, take}
+use Rattle.std.specs.List.{enumerate_from}
+use Rattle.policy_tree.specs.Meaning.{Meaning}
+use Rattle.round_model.specs.declared.entry.Entry.{Entry}
+use Rattle.round_model.specs.declared.plan.Plan.{Plan}
+use Rattle.round_model.specs.Legal.{rounds_begun}
+use Rattle.round_model.specs.Rounds.{IsStill}
+use Rattle.sched_report.specs.FailRows.{AreFailRows, IsFailRow, fail_at}
+use Rattle.sched_report.specs.RoundRows.{round_rows, row_at}
+use Rattle.sched_report.specs.Code.Runs.{is_flagged}
+use Rattle.sched_report.specs.declared.rows.FailRow.{FailRow}
+use Rattle.sched_report.specs.declared.walk.Tally.{Tally}
+
+-- a flag for each round, set where the round is still
+pub record AreFlags (history : List Entry) (flags : List Bool) : Type 0 where
+  pub count : length flags ≡ rounds_begun history
+  pub still : (r : ℕ) → is_flagged flags r ≡ true → IsStill history r r
+  pub stirred : (r : ℕ) → 1 ≤ r → r ≤ length flags → is_flagged flags r ≡ false → ¬ IsStill history r r
+
+-- what was told of the first entries
+pub record IsTallySoFar (p : Meaning) (plan : Plan) (history : List Entry) (at : ℕ) (tally : Tally) : Type 0 where
+  pub rounds : tally.rounds ≡ filter_map (row_at p plan history) (enumerate_from 0 (take at history))
+  pub still : AreFlags (take at history) tally.still
+  pub positions : map (λ (row : FailRow). row.at) tally.fails
+      ≡ filter_map fail_at (enumerate_from 0 (take at history))
+  pub fails : All (IsFailRow p plan history) tally.fails
+
+-- what was told of all entries
+pub record IsTally (p : Meaning) (plan : Plan) (history : List Entry) (tally : Tally) : Type 0 where
+  pub rounds : tally.rounds ≡ round_rows p plan history
+  pub still : AreFlags history tally.still
+  pub fails : AreFailRows p plan history tally.fails

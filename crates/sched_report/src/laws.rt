@@ -1,0 +1,18 @@
+//! Laws of reports, each a function without parameters whose contract is the law.
+
+ghost use Rattle.sched_report.specs.Laws.{BadRoundsLaw, BadRowsLaw, OneReportLaw};
+
+/// The row of a round is bad exactly where some core is idle beside an overloaded one as the round opens.
+pub fn law_bad_rows()
+    ensures { BadRowsLaw }
+{}
+
+/// The row of a round of a whole history is bad exactly where the round is bad.
+pub fn law_bad_rounds()
+    ensures { BadRoundsLaw }
+{}
+
+/// A legal history has no two reports.
+pub fn law_one_report()
+    ensures { OneReportLaw }
+{}

@@ -1,0 +1,136 @@
+//! How a report is written: a line for each row, and one for each total.
+
+ghost use Rattle.std.specs.Prelude.{◌≡◌, ◌+◌, ◌*◌, ◌≤◌, ℕ, List, ◌++◌, decimal, length, map};
+ghost use Rattle.sched_io.specs.Puts.{Puts};
+ghost use Rattle.sched_report.specs.declared.printing.TheConstants.{WORD_ROOM};
+ghost use Rattle.sched_report.specs.Lines.{line_of_fail, line_of_round, line_of_still, line_of_total, report_lines, totals_lines};
+
+use crate::rows::{FailRow, FullReport, RoundRow, StillRow, Totals};
+use sched_io::{LINE_ROOM, Line, NUMBER_ROOM, PutFault, Sink, put_all};
+
+/// Writes the lines of the report.
+pub fn print_report<S: Sink>(out: &mut S, report: &FullReport) -> Result<(), PutFault>
+    ensures { Puts (report_lines report.now) result (S.shown out.old) (S.shown out.new) }
+{
+    put_rows(out, report.rounds.as_slice())?;
+    put_rows(out, report.stills.as_slice())?;
+    put_rows(out, report.fails.as_slice())?;
+    print_totals(out, &report.totals)
+}
+
+/// Writes the lines of the totals.
+pub fn print_totals<S: Sink>(out: &mut S, totals: &Totals) -> Result<(), PutFault>
+    ensures { Puts (totals_lines totals.now) result (S.shown out.old) (S.shown out.new) }
+{
+    let rows = [
+        Total::of(b"rounds ", totals.rounds),
+        Total::of(b"entries ", totals.entries),
+        Total::of(b"steals ", totals.steals),
+        Total::of(b"fails ", totals.fails),
+        Total::of(b"bad ", totals.bad),
+        Total::of(b"wasted ", totals.wasted),
+    ];
+    put_rows(out, &rows)
+}
+
+/// What is written as one line.
+trait Row {
+    /// The bytes of the line, its line feed at their end.
+    ghost text: { Self → List ℕ };
+
+    fn line(&self) -> Line
+        ensures { result ≡ text self.now };
+}
+
+/// Writes the rows, a line at a time.
+fn put_rows<S: Sink, R: Row>(out: &mut S, rows: &[R]) -> Result<(), PutFault>
+    ensures { Puts (map R.text rows.now) result (S.shown out.old) (S.shown out.new) }
+{
+    for row in rows {
+        let line = row.line();
+        put_all(out, line.as_bytes())?;
+    }
+    Ok(())
+}
+
+impl Row for RoundRow {
+    ghost text = { line_of_round };
+
+    fn line(&self) -> Line {
+        let mut line = Line::new();
+        add_named(&mut line, b"round ", u64::from(self.number));
+        add_named(&mut line, b" spread ", self.spread);
+        add_named(&mut line, b" idle ", u64::from(self.idle));
+        line.add(b"\n");
+        line
+    }
+}
+
+impl Row for StillRow {
+    ghost text = { line_of_still };
+
+    fn line(&self) -> Line {
+        let mut line = Line::new();
+        add_named(&mut line, b"still ", u64::from(self.first));
+        add_named(&mut line, b" ", u64::from(self.last));
+        add_named(&mut line, b" spread ", self.spread);
+        add_named(&mut line, b" bad ", u64::from(self.bad));
+        line.add(b"\n");
+        line
+    }
+}
+
+impl Row for FailRow {
+    ghost text = { line_of_fail };
+
+    fn line(&self) -> Line {
+        let mut line = Line::new();
+        add_named(&mut line, b"fail ", u64::from(self.at));
+        add_named(&mut line, b" by ", u64::from(self.by));
+        line.add(b"\n");
+        line
+    }
+}
+
+/// The longest word of a line, its blanks counted.
+const WORD_ROOM: usize = 8;
+
+/// One of the totals, with the word that stands before it.
+#[derive(Clone, Copy)]
+struct Total<'a> {
+    word: &'a [u8],
+    number: u32,
+    ghost short: { length word.now ≤ WORD_ROOM },
+}
+
+impl<'a> Total<'a> {
+    fn of(word: &'a [u8], number: u32) -> Total<'a>
+        requires { length word.now ≤ WORD_ROOM }
+        ensures word { result.word.now ≡ word.now }
+        ensures number { result.number ≡ number }
+    {
+        Total { word, number }
+    }
+}
+
+impl Row for Total<'_> {
+    ghost text = { λ total. line_of_total total.word.now total.number };
+
+    fn line(&self) -> Line {
+        let mut line = Line::new();
+        add_named(&mut line, self.word, u64::from(self.number));
+        line.add(b"\n");
+        line
+    }
+}
+
+/// Adds a word and the number behind it.
+fn add_named(line: &mut Line, word: &[u8], number: u64)
+    requires short { length word.now ≤ WORD_ROOM }
+    requires room { length line.old + WORD_ROOM + NUMBER_ROOM ≤ LINE_ROOM }
+    ensures line { line.new ≡ line.old ++ word.now ++ decimal number }
+    ensures small { length line.new ≤ length line.old + WORD_ROOM + NUMBER_ROOM }
+{
+    line.add(word);
+    line.add_number(number);
+}

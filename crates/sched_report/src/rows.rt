@@ -1,0 +1,70 @@
+//! The rows of a report, and its totals.
+
+use lists::Items;
+use sched_base::Pos;
+
+/// What is told of a round as it opens.
+#[derive(Clone, Copy)]
+pub struct RoundRow {
+    /// The number of the round, from 1.
+    pub number: u32,
+    /// How far the loads of the cores lie apart: the distances of each pair of cores, added up.
+    pub spread: u64,
+    /// How many cores are idle where some core is overloaded, and 0 elsewhere.
+    pub idle: u32,
+}
+
+/// What is told of a longest stretch of still rounds.
+#[derive(Clone, Copy)]
+pub struct StillRow {
+    /// The number of its first round.
+    pub first: u32,
+    /// The number of its last round.
+    pub last: u32,
+    /// The spread as the first round opens.
+    pub spread: u64,
+    /// How many of its rounds are bad.
+    pub bad: u32,
+}
+
+/// What is told of a failed steal.
+#[derive(Clone, Copy)]
+pub struct FailRow {
+    /// The position of the Fail.
+    pub at: Pos,
+    /// The position of the first entry that explains it.
+    pub by: Pos,
+}
+
+/// A row for each round, in order.
+pub type RoundRows = Items<RoundRow>;
+/// A row for each longest stretch of still rounds, in order.
+pub type StillRows = Items<StillRow>;
+/// A row for each Fail, in order.
+pub type FailRows = Items<FailRow>;
+
+/// What a history comes to.
+#[derive(Clone, Copy)]
+pub struct Totals {
+    /// How many rounds began.
+    pub rounds: u32,
+    /// How many entries there are.
+    pub entries: u32,
+    /// How many threads were stolen.
+    pub steals: u32,
+    /// How many steals failed.
+    pub fails: u32,
+    /// How many rounds are bad.
+    pub bad: u32,
+    /// How many rounds the cores wasted, core by core: the idle cores of all rounds, added up.
+    pub wasted: u32,
+}
+
+/// What is told of a whole history.
+#[derive(Drop)]
+pub struct FullReport {
+    pub rounds: RoundRows,
+    pub stills: StillRows,
+    pub fails: FailRows,
+    pub totals: Totals,
+}

@@ -1,0 +1,63 @@
+//! One walk over the history, entry by entry.
+
+ghost use Rattle.std.specs.Prelude.{◌≡◌, ◌≤◌, [], IfOk, length};
+ghost use Rattle.policy_tree.specs.Meaning.{meaning_of};
+ghost use Rattle.policy_eval.specs.Obligations.{MeetsObligations};
+ghost use Rattle.round_model.specs.Fits.{Fits};
+ghost use Rattle.round_model.specs.Legal.{Legal};
+ghost use Rattle.sched_report.specs.Code.Walks.{IsTally};
+
+use crate::causes::note_fail;
+use crate::memory::ReportMemory;
+use crate::openings::note_round;
+use crate::rows::{FailRows, RoundRows};
+use crate::stretches::{Flags, note_still};
+use policy_tree::Policy;
+use round_model::{Entry, Past, Plan, step};
+use sched_base::MAX_ENTRIES;
+use std::alloc::Global;
+
+/// What a history tells, entry by entry.
+#[derive(Drop)]
+pub(crate) struct Tally {
+    pub(crate) rounds: RoundRows,
+    pub(crate) still: Flags,
+    pub(crate) fails: FailRows,
+}
+
+/// What the history tells.
+pub(crate) fn walk(
+    alloc: Global,
+    policy: &Policy,
+    plan: &Plan,
+    history: &[Entry],
+) -> Result<Tally, ReportMemory>
+    requires fits { Fits (meaning_of policy.now) plan.now }
+    requires meets { MeetsObligations (meaning_of policy.now) }
+    requires legal { Legal (meaning_of policy.now) plan.now history.now }
+    requires few { length history.now ≤ MAX_ENTRIES }
+    ensures { IfOk result (IsTally (meaning_of policy.now) plan.now history.now) }
+{
+    let mut past = Past::new(alloc, plan)?;
+    let mut tally = Tally::new(alloc);
+    for entry in history {
+        note_round(&mut tally.rounds, past.state(), entry)?;
+        note_still(&mut tally.still, entry)?;
+        note_fail(&mut tally.fails, &past, entry)?;
+        step(alloc, policy, plan, &mut past, *entry)?;
+    }
+    Ok(tally)
+}
+
+impl Tally {
+    /// Of no entry anything is told.
+    fn new(alloc: Global) -> Tally
+        ensures { result ≡ record { rounds = []; still = []; fails = [] } }
+    {
+        Tally {
+            rounds: RoundRows::from_vec(Vec::new(alloc)),
+            still: Flags::from_vec(Vec::new(alloc)),
+            fails: FailRows::from_vec(Vec::new(alloc)),
+        }
+    }
+}

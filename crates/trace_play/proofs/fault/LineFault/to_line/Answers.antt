@@ -1,0 +1,39 @@
+-- The line of a fault fits.
+use Rattle.std.proofs.Common.{◌<◌, ◌≤◌, ◌^◌, ℕ, List, ◌++◌, codes, length, ap, arith}
+use Rattle.std.specs.Prelude.{decimal}
+use Rattle.std.proofs.lemmas.Fmt.{length-decimal-le}
+use Rattle.std.proofs.lemmas.List.{length-append}
+use Rattle.trace_play.specs.declared.fault.FaultWord.{FaultWord}
+use Rattle.trace_play.specs.declared.fault.FaultWord.TheVariants as word
+use Rattle.trace_play.specs.Told.{word_of}
+use Rattle.trace_play.proofs.fault.LineFault.to_line.Goals as goal
+
+-- a fault's word is short
+word_short : (w : FaultWord) → length (word_of w) ≤ 12
+word_short word.BadLine = omega arith
+word_short word.Limit = omega arith
+word_short word.Twice = omega arith
+word_short word.WeightRange = omega arith
+word_short word.ConstRange = omega arith
+word_short word.ConstName = omega arith
+
+-- what stands in the line behind the number
+behind_number : (line : List ℕ) (n : ℕ) → length line ≤ 7 → n < 2 ^ 64 → length (line ++ decimal n) ≤ 27
+behind_number line n short small = omega (arith, length-append line (decimal n), length-decimal-le 20 n (omega arith) (omega arith) small)
+
+pub add-requires-2 : goal.add-requires-2
+add-requires-2 c =
+    let number = behind_number c.add.new.self c.from.result (omega (arith, ap length c.add.ensures, ap length c.new-line.ensures, length-append c.new-line.result (codes "trace "))) (omega (arith, c.from.type_inv)) in
+    omega (arith, ap length c.add_number.ensures)
+
+pub add-requires-3 : goal.add-requires-3
+add-requires-3 c =
+    let number = behind_number c.add.new.self c.from.result (omega (arith, ap length c.add.ensures, ap length c.new-line.ensures, length-append c.new-line.result (codes "trace "))) (omega (arith, c.from.type_inv)) in
+    let short = word_short c.args.self.now.word in
+    omega (arith, ap length c.add_number.ensures, ap length c.add-2.ensures, length-append c.add_number.new.self (codes " "), ap length c.as_bytes.ensures.value, ap length c.text.ensures)
+
+pub add-requires-4 : goal.add-requires-4
+add-requires-4 c =
+    let number = behind_number c.add.new.self c.from.result (omega (arith, ap length c.add.ensures, ap length c.new-line.ensures, length-append c.new-line.result (codes "trace "))) (omega (arith, c.from.type_inv)) in
+    let short = word_short c.args.self.now.word in
+    omega (arith, ap length c.add_number.ensures, ap length c.add-2.ensures, length-append c.add_number.new.self (codes " "), ap length c.add-3.ensures, length-append c.add-2.new.self c.as_bytes.result.now, ap length c.as_bytes.ensures.value, ap length c.text.ensures)
