@@ -8,7 +8,6 @@ pub mod closed;
 pub mod laws;
 pub mod logged;
 pub mod memory;
-mod programs;
 pub mod state;
 mod steps;
 

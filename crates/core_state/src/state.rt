@@ -18,11 +18,10 @@ ghost use Rattle.run_queue.specs.Tasks.{IsSeenTask};
 
 use crate::logged::Logged;
 use crate::memory::StateMemory;
-use crate::programs::{Meeting, meeting_of, next_burst, place_after};
 use crate::steps::{blocked_place, did_of};
 use policy_eval::apply_case;
 use policy_tree::{Event, Policy, Put};
-use round_model::{Blocked, Did, Entry, Plan};
+use round_model::{Blocked, Did, Entry, Meeting, Plan, meeting_of, next_burst, place_after};
 use run_queue::Queue;
 use sched_base::{CoreId, MAX_ATTRIBUTES, MAX_LOAD, MAX_ROUNDS, MAX_THREADS, Pos, Task, ThreadId};
 use std::alloc::Global;

@@ -27,7 +27,7 @@ use Rattle.job_trace.specs.Plans.{SpellsPlan}
 use Rattle.job_trace.specs.TraceText.{SpellsTrace}
 use Rattle.serial_play.specs.declared.rounds.Played.{Played}
 use Rattle.serial_play.specs.declared.rounds.Played.TheVariants as played
-use Rattle.serial_play.specs.Rounds.{IsFull}
+use Rattle.round_model.specs.SerialEnds.{IsFull}
 use Rattle.trace_play.specs.declared.answer.PlayAnswer.{PlayAnswer}
 use Rattle.trace_play.specs.declared.answer.PlayAnswer.TheVariants as play_answer
 use Rattle.trace_play.specs.declared.fault.LineFault.{LineFault}

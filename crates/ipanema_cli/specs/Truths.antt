@@ -36,7 +36,7 @@ use Rattle.job_trace.specs.declared.trace.Numbered.{Numbered}
 use Rattle.job_trace.specs.Plans.{SpellsPlan}
 use Rattle.job_trace.specs.TraceText.{SpellsTrace}
 use Rattle.sched_history.specs.Spelling.{text_of_history}
-use Rattle.serial_play.specs.Rounds.{EndsWhole, IsFull, StopsFull}
+use Rattle.round_model.specs.SerialEnds.{EndsWhole, IsFull, StopsFull}
 use Rattle.trace_maker.specs.Made.{made}
 use Rattle.trace_printer.specs.Printed.{trace_text}
 use Rattle.trace_play.specs.declared.fault.LineFault.{LineFault}

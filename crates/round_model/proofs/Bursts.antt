@@ -1,5 +1,5 @@
 -- Every thread that stands at a core has a burst to run next, and a unit of it is left.
-use Rattle.std.proofs.Common.{◌≡◌, ℕ, zero, suc, ◌+◌, ◌<◌, ◌==◌, nat_le, not, ◌&&◌, ℤ, Bool, true, false, cond, List, [], ◌∷◌, map, fold, slice_get, All, IfSome, IsSome, is_some, Option, Some, None, option_and_then, refl, sym, ap, ap₂, subst, ◌∙◌, arith}
+use Rattle.std.proofs.Common.{◌≡◌, ℕ, zero, suc, ◌+◌, ◌<◌, ◌==◌, nat_le, not, ◌&&◌, ℤ, Bool, true, false, cond, List, [], ◌∷◌, map, fold, slice_get, All, IfSome, Option, Some, None, option_and_then, refl, sym, ap, subst, ◌∙◌, arith}
 use Rattle.std.proofs.lemmas.Bool.Decides.{nat_tests}
 use Rattle.sched_base.specs.declared.task.Place.{Place}
 use Rattle.sched_base.specs.declared.task.Task.{Task}

@@ -28,9 +28,14 @@ pub mod Moved
 pub mod Openings
 pub mod Outcomes
 pub mod OwedBounds
+pub mod OwedTotals
 pub mod Owing
 pub mod Pasts
 pub mod Paying
+pub mod SerialEnding
+pub mod SerialSteps
+pub mod SerialTurns
+pub mod SerialWholes
 pub mod Sightings
 pub mod Spreads
 pub mod Standing
@@ -38,6 +43,7 @@ pub mod States
 pub mod Stillness
 pub mod There
 pub mod Totals
+pub mod Touched
 pub mod Turning
 pub mod Units
 pub mod Waking

@@ -97,6 +97,11 @@ owed_at_most p plan h c =
     by_begun true few = omega arith
     by_begun false few = few
 
+pub owed_few : (p : Meaning) (plan : Plan) (h : List Entry) (c : ℕ) → owed p plan h c ≤ length plan.threads + (standing_count (after p plan h c) + 2)
+owed_few p plan h c =
+    let most = owed_at_most p plan h c in
+    let entering = count_by-le-length (lets h c) plan.threads in omega arith
+
 pub owed_bound : OwedBoundLaw
 owed_bound p plan h fits handlers legal =
     let numbers = core_numbers plan in

@@ -104,7 +104,7 @@ module _ (p : Meaning) (named : ℕ → Bool) where
         })
 
     -- a thread becomes current
-    elected_gains : (core : ModelCore) → Holds p core → Gains 0 core (elected p core)
+    pub elected_gains : (core : ModelCore) → Holds p core → Gains 0 core (elected p core)
     elected_gains core holds = by_current core.current refl
       where
         by_best : core.current ≡ None → (best : Option (Task × List Task)) → IfSome best (Split (IsTask p) (has_name named) core.queue) → Gains 0 core (with_current core best)

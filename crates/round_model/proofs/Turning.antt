@@ -1,5 +1,5 @@
 -- The next step of a core in serial play, part by part.
-use Rattle.std.proofs.Common.{◌≡◌, ℕ, ◌<◌, true, false, cond, List, [], ◌∷◌, length, Option, Some, None, Contains, IsSomeAnd, IfSome, is_some, IsNone, option_map, option_to_list, refl, sym, ap, ap₂, subst, ◌∙◌, arith}
+use Rattle.std.proofs.Common.{◌≡◌, ℕ, ◌<◌, true, false, cond, List, [], ◌∷◌, length, Option, Some, None, Contains, IsSomeAnd, IfSome, IsNone, option_map, option_to_list, refl, sym, ap, ap₂, subst, ◌∙◌, arith}
 use Rattle.std.proofs.lemmas.Grind.{get_or_default_zero}
 use Rattle.policy_tree.specs.Meaning.{Meaning, PlaceTree, here, least}
 use Rattle.round_model.specs.declared.attempts.Attempt.{Attempt}
@@ -18,6 +18,7 @@ use Rattle.round_model.specs.declared.unit.Unit.TheVariants as unit
 use Rattle.round_model.specs.declared.turns.NextStep.{NextStep}
 use Rattle.round_model.specs.declared.turns.NextStep.TheVariants as next
 use Rattle.round_model.specs.After.{after, round_of}
+use Rattle.round_model.specs.Asked.{Asked, asked_behind_unit, asked_late, asked_of, asked_to_enter, asked_to_wake, over, working}
 use Rattle.round_model.specs.Attempts.{attempt_of}
 use Rattle.round_model.specs.Choices.{target_of}
 use Rattle.round_model.specs.FreshReads.{fresh_reads, placement_reads}
@@ -28,7 +29,7 @@ use Rattle.round_model.specs.Code.Progress.{HasLetIn, OwesAttempt, OwesUnit}
 use Rattle.round_model.specs.Reads.{ReadsFit, round_start}
 use Rattle.round_model.specs.Rows.{PlacementReads}
 use Rattle.round_model.specs.Scenes.{Scene, entering_next, has_attempted, has_worked, own_entries, scene_of, waking_next}
-use Rattle.round_model.specs.Serial.{attempt_step, enter_step, late_step, step_of, wake_step, with_entry, with_placed, with_work}
+use Rattle.round_model.specs.Serial.{SerialState, answered, step_of, with_entry, with_placed, with_work}
 use Rattle.round_model.specs.Code.Turns.{IsLateStepOf, IsStepOf, MayAdd, placement_by, step_of_dids, with_step}
 use Rattle.round_model.specs.Bursts.{HasBurst, HaveBursts, LiesIn}
 use Rattle.round_model.specs.Fits.{Fits}
@@ -61,17 +62,22 @@ placement_same here plan h s fresh is = refl
 placement_same (least e) plan h s fresh is = sym is
 
 module _ (p : Meaning) (plan : Plan) (h : List Entry) (a : ℕ) where
+  -- what the core's turn comes to by what it asks, after these looks
+  abbrev pub done : (ℕ → Option (List ℕ)) → Asked → SerialState
+  done looks asked =
+      answered p plan (record { history = h; looks = looks }) (scene_of p plan h a) a (placement_reads p.place plan h (scene_of p plan h a)) asked
+
   -- a thread enters
   pub enters : (looks : ℕ → Option (List ℕ)) (fresh reads : List ℕ) (thread at : ℕ) → fresh ≡ fresh_reads plan h (scene_of p plan h a) → reads ≡ placement_by p.place fresh
       → Some thread ≡ option_map (λ (t : Planned). t.id) (entering_next plan (round_of h) a (own_entries h a))
       → target_of p plan.cores (values_at p plan h reads) a ≡ Some at
       → step_of p plan (record { history = h; looks = looks }) a ≡ with_entry (record { history = h; looks = looks }) (entry.Enter thread a at reads)
-  unfolding step_of scene_of
+  unfolding step_of scene_of asked_of
   enters looks fresh reads thread at is_fresh is_read is target =
       by_found (entering_next plan (round_of h) a (own_entries h a)) (some_named thread (entering_next plan (round_of h) a (own_entries h a)) is)
     where
       by_found : (found : Option Planned) → IsSomeAnd found (λ t. t.id ≡ thread)
-          → enter_step p plan (record { history = h; looks = looks }) (scene_of p plan h a) a (placement_reads p.place plan h (scene_of p plan h a)) found
+          → done looks (asked_to_enter (scene_of p plan h a) a (looks a) found)
           ≡ with_entry (record { history = h; looks = looks }) (entry.Enter thread a at reads)
       by_found None none = absurd none
       by_found (Some t) same =
@@ -82,10 +88,10 @@ module _ (p : Meaning) (plan : Plan) (h : List Entry) (a : ℕ) where
   -- no thread is left to enter: the next one wakes, or the core's unit or attempt is to come
   past_entering : (looks : ℕ → Option (List ℕ)) → entering_next plan (round_of h) a (own_entries h a) ≡ None
       → step_of p plan (record { history = h; looks = looks }) a
-      ≡ wake_step p plan (record { history = h; looks = looks }) (scene_of p plan h a) a (placement_reads p.place plan h (scene_of p plan h a)) (waking_next (round_of h) (after p plan h a))
-  unfolding step_of scene_of
+      ≡ done looks (asked_to_wake (own_entries h a) (looks a) (waking_next (round_of h) (after p plan h a)))
+  unfolding step_of scene_of asked_of
   past_entering looks is =
-      ap (enter_step p plan (record { history = h; looks = looks }) (scene_of p plan h a) a (placement_reads p.place plan h (scene_of p plan h a))) is
+      ap (λ (found : Option Planned). done looks (asked_to_enter (scene_of p plan h a) a (looks a) found)) is
 
   -- a thread wakes
   pub wakes : (looks : ℕ → Option (List ℕ)) (fresh reads : List ℕ) (thread at : ℕ) → fresh ≡ fresh_reads plan h (scene_of p plan h a) → reads ≡ placement_by p.place fresh
@@ -99,7 +105,7 @@ module _ (p : Meaning) (plan : Plan) (h : List Entry) (a : ℕ) where
       ∙ by_found (waking_next (round_of h) (after p plan h a)) (some_blocked thread (waking_next (round_of h) (after p plan h a)) is)
     where
       by_found : (found : Option Blocked) → IsSomeAnd found (λ b. b.task.id ≡ thread)
-          → wake_step p plan (record { history = h; looks = looks }) (scene_of p plan h a) a (placement_reads p.place plan h (scene_of p plan h a)) found
+          → done looks (asked_to_wake (own_entries h a) (looks a) found)
           ≡ with_entry (record { history = h; looks = looks }) (entry.Wake thread a at reads)
       by_found None none = absurd none
       by_found (Some b) same =
@@ -112,23 +118,18 @@ module _ (p : Meaning) (plan : Plan) (h : List Entry) (a : ℕ) where
       → waking_next (round_of h) (after p plan h a) ≡ None → IsLateStepOf p plan h a look step → IsStepOf p plan h a fresh look step
   is_late fresh look step entered woken late looks is_fresh is_look =
       past_entering looks entered
-      ∙ (ap (wake_step p plan (record { history = h; looks = looks }) (scene_of p plan h a) a (placement_reads p.place plan h (scene_of p plan h a))) woken
+      ∙ (ap (λ (found : Option Blocked). done looks (asked_to_wake (own_entries h a) (looks a) found)) woken
       ∙ (late looks is_look ∙ ap (λ (reads : List ℕ). with_step (record { history = h; looks = looks }) a reads step) (sym is_fresh)))
 
   pub late_over : (look : Option (List ℕ)) → has_attempted (own_entries h a) ≡ true → IsLateStepOf p plan h a look next.Over
-  unfolding scene_of
   late_over look attempted looks is_look =
-      ap (λ b. cond b (record { history = h; looks = looks })
-      (cond (has_worked (own_entries h a)) (attempt_step p plan (record { history = h; looks = looks }) (scene_of p plan h a) a (looks a))
-      (with_work (record { history = h; looks = looks }) a (worked p plan (round_of h) (after p plan h a)).dids))) attempted
+      ap (λ b. done looks (cond b over (cond (has_worked (own_entries h a)) (asked_behind_unit (looks a)) working))) attempted
 
   pub late_work : (look : Option (List ℕ)) → has_attempted (own_entries h a) ≡ false → has_worked (own_entries h a) ≡ false
       → IsLateStepOf p plan h a look (step_of_dids a (worked p plan (round_of h) (after p plan h a)).dids)
   unfolding scene_of
   late_work look attempted first looks is_look =
-      ap₂ (λ b c. cond b (record { history = h; looks = looks })
-      (cond c (attempt_step p plan (record { history = h; looks = looks }) (scene_of p plan h a) a (looks a))
-      (with_work (record { history = h; looks = looks }) a (worked p plan (round_of h) (after p plan h a)).dids))) attempted first
+      ap₂ (λ b c. done looks (cond b over (cond c (asked_behind_unit (looks a)) working))) attempted first
       ∙ same (worked p plan (round_of h) (after p plan h a)).dids
     where
       same : (dids : List Did) → with_work (record { history = h; looks = looks }) a dids
@@ -137,13 +138,10 @@ module _ (p : Meaning) (plan : Plan) (h : List Entry) (a : ℕ) where
       same (d ∷ ds) = refl
 
   late_attempt : (looks : ℕ → Option (List ℕ)) (look : Option (List ℕ)) → has_attempted (own_entries h a) ≡ false → has_worked (own_entries h a) ≡ true → looks a ≡ look
-      → late_step p plan (record { history = h; looks = looks }) (scene_of p plan h a) a ≡ attempt_step p plan (record { history = h; looks = looks }) (scene_of p plan h a) a look
-  unfolding scene_of
+      → done looks (asked_late (own_entries h a) (looks a)) ≡ done looks (asked_behind_unit look)
   late_attempt looks look attempted has is_look =
-      ap₂ (λ b c. cond b (record { history = h; looks = looks })
-      (cond c (attempt_step p plan (record { history = h; looks = looks }) (scene_of p plan h a) a (looks a))
-      (with_work (record { history = h; looks = looks }) a (worked p plan (round_of h) (after p plan h a)).dids))) attempted has
-      ∙ ap (attempt_step p plan (record { history = h; looks = looks }) (scene_of p plan h a) a) is_look
+      ap₂ (λ b c. done looks (cond b over (cond c (asked_behind_unit (looks a)) working))) attempted has
+      ∙ ap (λ (l : Option (List ℕ)). done looks (asked_behind_unit l)) is_look
 
   pub late_look : has_attempted (own_entries h a) ≡ false → has_worked (own_entries h a) ≡ true → IsLateStepOf p plan h a None next.Looks
   late_look attempted has looks is_look = late_attempt looks None attempted has is_look

@@ -1,4 +1,5 @@
 pub mod After
+pub mod Asked
 pub mod Attempts
 pub mod Bounds
 pub mod BoundsLaws
@@ -25,6 +26,9 @@ pub mod Rounds
 pub mod Rows
 pub mod Scenes
 pub mod Serial
+pub mod SerialEnds
+pub mod SerialLaws
+pub mod SerialMoments
 pub mod SerialRounds
 pub mod Spread
 pub mod StillRounds

@@ -19,9 +19,13 @@ cores_in (Some line) = line.cores
 abbrev pub order_of : Plan → ℕ → List ℕ
 order_of plan number = cores_in (find (λ (l : OrderLine). l.round == number) plan.orders)
 
+-- the most steps of a turn: each thread may enter and wake, and there is a unit, a look and an attempt
+abbrev pub most_steps : Plan → ℕ
+most_steps plan = 2 * length plan.threads + 3
+
 -- each core so often that its turn is over: no turn has more steps, and a step past its end is none
 abbrev pub remaining_turns : Plan → List ℕ
-remaining_turns plan = flat_map (λ c. replicate (2 * length plan.threads + 3) c) (core_numbers plan)
+remaining_turns plan = flat_map (λ c. replicate (most_steps plan) c) (core_numbers plan)
 
 -- the history with one round more, where one is due
 unfoldable pub with_round : Meaning → Plan → List Entry → ℕ → List Entry

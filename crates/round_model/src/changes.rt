@@ -150,7 +150,7 @@ pub(crate) fn steal(
 }
 
 /// The thread as it enters.
-fn entering_task(policy: &Policy, thread: &Planned) -> Task
+pub fn entering_task(policy: &Policy, thread: &Planned) -> Task
     requires { IsResolved (meaning_of policy.now) }
     ensures { result ≡ task_entering (meaning_of policy.now) thread.now }
 {

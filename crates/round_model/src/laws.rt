@@ -4,6 +4,7 @@ ghost use Rattle.round_model.specs.Bursts.{BurstsLaw};
 ghost use Rattle.round_model.specs.BoundsLaws.{BoundsLaw, OpenRoundLaw};
 ghost use Rattle.round_model.specs.Laws.{ActingLaw, ConstantsLaw, EnteringLaw, LegalGrows, OneMoreLaw, OpeningLaw, PrefixLaw, UntouchedLaw};
 ghost use Rattle.round_model.specs.OwedLaws.{NoneFallsDueLaw, OwedBoundLaw, OwedLaw};
+ghost use Rattle.round_model.specs.SerialLaws.{SerialRoundsLaw, SerialWholeLaw, StopsFullLaw};
 
 /// The state after a longer history is what its last entry makes of the state before it.
 pub fn law_one_more()
@@ -73,4 +74,20 @@ pub fn law_none_falls_due()
 /// No more is ever owed than an entry for each thread and two for each core.
 pub fn law_owed_bound()
     ensures { OwedBoundLaw }
+{}
+
+/// So many rounds of serial play are complete, legal, and a beginning of the serial history.
+pub fn law_serial_rounds()
+    ensures { SerialRoundsLaw }
+{}
+
+/// The serial history of a plan is whole.
+pub fn law_serial_whole()
+    ensures { SerialWholeLaw }
+{}
+
+/// What is left where play stops before a round that might not fit begins the serial history, and has fewer rounds
+/// than the plan.
+pub fn law_stops_full()
+    ensures { StopsFullLaw }
 {}

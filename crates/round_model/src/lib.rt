@@ -17,23 +17,30 @@ mod moves;
 mod notes;
 pub mod past;
 pub mod plan;
+pub mod programs;
 mod progress;
 mod rounds;
+pub mod serial;
 pub mod state;
 pub mod turns;
 mod unit;
 pub mod windows;
 
 pub use crate::adding::step;
+pub use crate::changes::entering_task;
 pub use crate::choices::{choice, target};
 pub use crate::entry::{Did, Entry, History};
 pub use crate::judge::step_ok;
 pub use crate::measures::spread_of;
 pub use crate::memory::ModelMemory;
-pub use crate::past::{Past, opening, round_due};
+pub use crate::notes::note_end;
+pub use crate::past::{Arrival, Past, is_due_by, opening, round_due};
 pub use crate::plan::{
     Burst, BurstList, ConstList, CoreList, Ending, OrderLine, OrderList, Plan, Planned, PlannedList,
 };
+pub use crate::programs::{Meeting, meeting_of, next_burst, place_after, planned};
+pub use crate::progress::first_arrival;
+pub use crate::serial::{most_steps, ordered_cores, round_fits};
 pub use crate::state::{Blocked, BlockedList, ModelCore, State, TaskList};
 pub use crate::turns::{NextStep, next_step};
 pub use crate::windows::{reads_fit, round_start};

@@ -53,7 +53,7 @@ fn first_place(arrivals: &Items<Arrival>, core: CoreId) -> Option<u32>
 }
 
 /// The thread has ended. A number that no thread has is left out.
-pub(crate) fn note_end(ended: &mut Items<bool>, thread: ThreadId)
+pub fn note_end(ended: &mut Items<bool>, thread: ThreadId)
     ensures { ended.new ≡ slice_set ended.old thread true }
 {
     if thread < ended.len() {

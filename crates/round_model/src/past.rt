@@ -1,6 +1,6 @@
 //! What has to be kept of a history to judge its next entry, and to add it.
 
-ghost use Rattle.std.specs.Prelude.{◌≡◌, ◌+◌, ◌<◌, ◌≤◌, ℕ, IfOk, List, [], false, length, not, slice_index_or};
+ghost use Rattle.std.specs.Prelude.{◌≡◌, ◌+◌, ◌&&◌, ◌<◌, ◌≤◌, ℕ, IfOk, List, [], false, length, nat_lt, not, slice_index_or};
 ghost use Rattle.policy_tree.specs.Meaning.{Meaning};
 ghost use Rattle.round_model.specs.declared.entry.Entry.{Entry};
 ghost use Rattle.round_model.specs.declared.plan.Planned.{Planned};
@@ -29,10 +29,11 @@ pub(crate) struct Turn {
 
 /// A thread of the plan that is to enter in the open round.
 #[derive(Clone, Copy)]
-pub(crate) struct Arrival {
-    pub(crate) id: ThreadId,
-    pub(crate) core: CoreId,
-    pub(crate) weight: u32,
+pub struct Arrival {
+    pub id: ThreadId,
+    /// The core that lets it in.
+    pub core: CoreId,
+    pub weight: u32,
 }
 
 /// What was to be seen of each core at one position.
@@ -136,13 +137,6 @@ impl Past {
         self.rows.get(position - self.start())
     }
 
-    /// Whether the thread has ended.
-    pub(crate) fn has_ended(&self, id: ThreadId) -> bool
-        ensures { result ≡ is_flagged self.now.ended id }
-    {
-        id < self.ended.len() && *self.ended.get(id)
-    }
-
     /// Whether each core has made its attempt of the last round. Before the first round nothing is open.
     pub fn is_complete(&self) -> bool
         ensures { (p : Meaning) (plan : Plan) (history : List Entry) → StandsFor p plan self.now history →
@@ -192,13 +186,28 @@ pub fn round_due(plan: &Plan, past: &Past) -> bool
     ensures { (p : Meaning) (history : List Entry) → StandsFor p plan.now past.now history →
         result ≡ is_due_after plan.now history }
 {
-    past.rounds < plan.rounds && are_left(plan, past)
+    is_due_by(plan, past.rounds, &past.ended)
+}
+
+/// Whether a next round is due where so many have begun, and the flags of the threads that have ended are set.
+pub fn is_due_by(plan: &Plan, rounds: u32, ended: &Items<bool>) -> bool
+    ensures { result ≡ (nat_lt rounds plan.now.rounds
+        && list_any (λ (t : Planned). not (is_flagged ended.now t.id)) plan.now.threads) }
+{
+    rounds < plan.rounds && are_left(plan, ended)
 }
 
 /// Whether some thread of the plan hasn't ended.
-fn are_left(plan: &Plan, past: &Past) -> bool
-    ensures { result ≡ list_any (λ (t : Planned). not (is_flagged past.now.ended t.id)) plan.now.threads }
+fn are_left(plan: &Plan, ended: &Items<bool>) -> bool
+    ensures { result ≡ list_any (λ (t : Planned). not (is_flagged ended.now t.id)) plan.now.threads }
 {
     let threads = plan.threads.as_slice();
-    threads.iter().any(|thread| !past.has_ended(thread.id))
+    threads.iter().any(|thread| !has_ended(ended, thread.id))
+}
+
+/// Whether the flag of the thread is set.
+fn has_ended(ended: &Items<bool>, id: ThreadId) -> bool
+    ensures { result ≡ is_flagged ended.now id }
+{
+    id < ended.len() && *ended.get(id)
 }

@@ -31,7 +31,7 @@ pub(crate) fn arriving(past: &Past, core: CoreId) -> Option<ThreadId>
 }
 
 /// The number of the first of these arrivals that comes by the core.
-fn first_arrival(arrivals: &[Arrival], core: CoreId) -> Option<ThreadId>
+pub fn first_arrival(arrivals: &[Arrival], core: CoreId) -> Option<ThreadId>
     ensures { result ≡ option_map (λ x. x.id) (find (arrives_at core) arrivals.now) }
 {
     let arrival = arrivals.iter().find(|arrival| arrival.core == core)?;

@@ -9,19 +9,19 @@ ghost use Rattle.policy_eval.specs.Resolved.{IsResolved};
 ghost use Rattle.round_model.specs.Bounds.{CoreInBounds};
 ghost use Rattle.round_model.specs.Fits.{Fits};
 ghost use Rattle.round_model.specs.Code.Lists.{Lists};
-ghost use Rattle.round_model.specs.Programs.{is_endless as has_no_end, is_last_unit as is_last, meeting_of as meeting_at, place_after as next_place};
-ghost use Rattle.round_model.specs.Code.UnitSteps.{IsIdleCore, IsMeeting, IsMet, Runs};
+ghost use Rattle.round_model.specs.Code.UnitSteps.{IsIdleCore, IsMet, Runs};
 ghost use Rattle.round_model.specs.Code.Units.{HasTask, IsSmallCore, IsUnit, Stands, core_after_unit, dids_of_unit, with_listed, without};
 
 use crate::directory::{Directory, next_burst_of};
 use crate::election::best_place;
 use crate::entry::Did;
 use crate::memory::ModelMemory;
-use crate::plan::{Burst, Ending, Plan};
+use crate::plan::{Burst, Plan};
+use crate::programs::{Meeting, meeting_of, place_after};
 use crate::state::{Blocked, ModelCore};
 use policy_eval::apply_case;
 use policy_tree::{Event, Policy, Put};
-use sched_base::{MAX_BURSTS, MAX_ROUNDS, Place, Task, ThreadId};
+use sched_base::{MAX_ROUNDS, Task, ThreadId};
 
 /// What a unit of work comes to. `elected` is the place in the queue of the task that ran, `None` where it was the
 /// current one.
@@ -43,19 +43,6 @@ pub(crate) enum Unit {
         elected: Option<u32>,
         id: ThreadId,
     },
-}
-
-/// What a task meets after a unit.
-#[derive(Clone, Copy)]
-enum Meeting {
-    /// Its burst goes on.
-    Tick,
-    /// Its burst is over, and it yields.
-    Yield,
-    /// Its burst is over, and it blocks for so many rounds.
-    Block(u32),
-    /// It ends.
-    End,
 }
 
 impl Unit {
@@ -216,56 +203,4 @@ fn met(
         put,
         wake,
     }
-}
-
-/// What the task meets after its next unit.
-fn meeting_of(burst: Burst, place: Place) -> Meeting
-    requires { 1 ≤ burst.units }
-    ensures { IsMeeting (meeting_at burst place) result }
-{
-    if !is_last_unit(burst, place) {
-        return Meeting::Tick;
-    }
-    match burst.ending {
-        Ending::Yield => Meeting::Yield,
-        Ending::Block(rounds) => Meeting::Block(rounds),
-        Ending::End => Meeting::End,
-        Ending::Forever => Meeting::Tick,
-    }
-}
-
-/// Where the task stands after its next unit.
-fn place_after(burst: Burst, place: Place) -> Place
-    requires units { 1 ≤ burst.units }
-    requires bursts { place.burst < MAX_BURSTS }
-    ensures { result ≡ next_place burst place }
-{
-    if is_endless(burst) {
-        return place;
-    }
-    if is_last_unit(burst, place) {
-        return Place {
-            burst: place.burst + 1,
-            done: 0,
-        };
-    }
-    Place {
-        burst: place.burst,
-        done: place.done + 1,
-    }
-}
-
-/// Whether the next unit is the last of the burst.
-fn is_last_unit(burst: Burst, place: Place) -> bool
-    requires { 1 ≤ burst.units }
-    ensures { result ≡ is_last burst place }
-{
-    !is_endless(burst) && burst.units - 1 <= place.done
-}
-
-/// Whether the burst has no last unit.
-fn is_endless(burst: Burst) -> bool
-    ensures { result ≡ has_no_end burst.ending }
-{
-    matches!(burst.ending, Ending::Forever)
 }

@@ -1,74 +1,31 @@
 -- What a step of a core makes of a play.
-use Rattle.std.proofs.Common.{◌≡◌, ◌≢◌, ℕ, zero, suc, ◌+◌, ◌<◌, ◌≤◌, ◌||◌, ◌&&◌, eqb, max, Bool, true, false, cond, List, [], ◌∷◌, ◌++◌, map, length, get_or, set, slice_index, get_or-set_same, get_or-set_other, Option, Some, None, IsNone, refl, sym, ap, ap₂, subst, ◌∙◌, arith}
-use Rattle.std.specs.List.{range_with_len}
-use Rattle.std.specs.Option.{is_some}
-use Rattle.std.specs.Prelude.{sum}
+use Rattle.std.proofs.Common.{◌≡◌, ◌≢◌, ℕ, ◌+◌, ◌<◌, ◌≤◌, eqb, max, true, false, cond, List, [], ◌∷◌, length, get_or, set, slice_index, get_or-set_same, get_or-set_other, Option, Some, None, IsNone, refl, sym, ap, ap₂, subst, ◌∙◌, arith}
 use Rattle.std.proofs.lemmas.Bool.Decides.{nat_tests}
 use Rattle.std.proofs.lemmas.List.{length-append}
-use Rattle.std.proofs.lemmas.List.FromFn.{fill_by_all, get_or-map-range_with_len, length-map-range_with_len, map-range_with_len_more}
-use Rattle.std.proofs.lemmas.List.Sums.{fold_push}
-use Rattle.sched_base.specs.declared.limits.TheConstants.{MAX_ENTRIES}
+use Rattle.std.proofs.lemmas.List.FromFn.{fill_by_all, get_or-map-range_with_len, length-map-range_with_len}
 use Rattle.policy_tree.specs.Meaning.{Meaning}
 use Rattle.policy_eval.specs.Obligations.{MeetsHandlerObligations}
 use Rattle.round_model.specs.declared.entry.Entry.{Entry}
 use Rattle.round_model.specs.declared.plan.Plan.{Plan}
 use Rattle.round_model.specs.declared.turns.NextStep.{NextStep}
 use Rattle.round_model.specs.declared.turns.NextStep.TheVariants as next
-use Rattle.round_model.specs.Entries.{acting_core, acts, touches}
+use Rattle.round_model.specs.Entries.{acting_core}
 use Rattle.round_model.specs.FreshReads.{fresh_reads, touched_from}
 use Rattle.round_model.specs.Fits.{Fits}
-use Rattle.round_model.specs.Kinds.{is_attempt, is_round}
-use Rattle.round_model.specs.Legal.{Legal, LegalNext, rounds_begun}
+use Rattle.round_model.specs.Legal.{LegalNext, rounds_begun}
 use Rattle.round_model.specs.Code.Outcomes.{ReadIn}
-use Rattle.round_model.specs.Owed.{owed, owed_total}
+use Rattle.round_model.specs.Owed.{owed_total}
 use Rattle.round_model.specs.Reads.{round_start}
-use Rattle.round_model.specs.Scenes.{has_attempted, own_entries, scene_of}
+use Rattle.round_model.specs.Scenes.{scene_of}
 use Rattle.round_model.specs.Serial.{SerialState, step_of}
 use Rattle.round_model.specs.Code.Turns.{IsStepOf, with_step}
 use Rattle.round_model.proofs.Added.{no_round}
 use Rattle.round_model.proofs.Keeping.{some_at}
-use Rattle.round_model.proofs.Longer.{begun_more, done_more, own_more, start_within}
-use Rattle.round_model.proofs.Paying.{owed_law}
+use Rattle.round_model.proofs.Longer.{begun_more, start_within}
+use Rattle.round_model.proofs.OwedTotals.{reserve_kept}
+use Rattle.round_model.proofs.Touched.{touched_within}
 use Rattle.serial_play.specs.declared.play.Play.{Play}
-use Rattle.serial_play.specs.Plays.{Advances, HasAdded, HasRoom, IsPlay, IsStateOf, fresh_of, look_of}
-
--- the sum over the first cores
-abbrev sum_of : (ℕ → ℕ) → ℕ → ℕ
-sum_of f n = sum (map f (range_with_len 0 n))
-
-sum_next : (f : ℕ → ℕ) (n : ℕ) → sum_of f (n + 1) ≡ sum_of f n + f n
-sum_next f n = ap sum (map-range_with_len_more f 0 n n (omega arith)) ∙ fold_push (λ (s x : ℕ). s + x) 0 (map f (range_with_len 0 n)) (f n)
-
-sum_suc : (f : ℕ → ℕ) (n : ℕ) → sum_of f (suc n) ≡ sum_of f n + f n
-sum_suc f n = let more : suc n ≡ n + 1 = omega arith in ap (sum_of f) more ∙ sum_next f n
-
--- sums that differ in one term
-sum_before : (f g : ℕ → ℕ) (a : ℕ) → ((c : ℕ) → c ≢ a → f c ≡ g c) → (n : ℕ) → n ≤ a → sum_of f n ≡ sum_of g n
-sum_before f g a same zero few = refl
-sum_before f g a same (suc n) few =
-    let rest = sum_before f g a same n (omega arith) in
-    let apart : n ≢ a = λ e. absurd (omega (arith, e)) in
-    omega (arith, rest, same n apart, sum_suc f n, sum_suc g n)
-
-sum_one_less : (f g : ℕ → ℕ) (a : ℕ) → ((c : ℕ) → c ≢ a → f c ≡ g c) → f a + 1 ≡ g a → (n : ℕ) → a < n → sum_of f n + 1 ≡ sum_of g n
-sum_one_less f g a same less zero there = absurd (omega arith)
-sum_one_less f g a same less (suc n) there =
-    elim (eqb n a) as (λ b. eqb n a ≡ b → sum_of f (suc n) + 1 ≡ sum_of g (suc n)) [
-      | true ↦ λ e. let one : n ≡ a = grind (arith, nat_tests) in
-          let here : f n + 1 ≡ g n = subst (λ (c : ℕ). f c + 1 ≡ g c) (sym one) less in
-          omega (arith, sum_before f g a same n (omega (arith, one)), here, sum_suc f n, sum_suc g n)
-      | false ↦ λ e. let apart : n ≢ a = grind (arith, nat_tests) in
-          let rest = sum_one_less f g a same less n (let other = apart in grind (arith, there, other)) in
-          omega (arith, rest, same n apart, sum_suc f n, sum_suc g n)
-    ] refl
-
-touched_within : (c k last : ℕ) (h : List Entry) → last ≤ k → touched_from c k last h ≤ k + length h
-touched_within c k last [] small = omega arith
-touched_within c k last (e ∷ es) small =
-    elim (touches c e) as (λ b. touched_from c (suc k) (cond b (suc k) last) es ≤ k + suc (length es)) [
-      | true ↦ let rest = touched_within c (suc k) (suc k) es (omega arith) in omega arith
-      | false ↦ let rest = touched_within c (suc k) last es (omega arith) in omega arith
-    ]
+use Rattle.serial_play.specs.Plays.{Advances, HasAdded, IsPlay, IsStateOf, fresh_of, look_of}
 
 module _ (p : Meaning) (plan : Plan) (play : Play) (fits : Fits p plan) (is : IsPlay p plan play) where
   -- what a core reads just now, as serial play has it
@@ -95,33 +52,6 @@ module _ (p : Meaning) (plan : Plan) (play : Play) (fits : Fits p plan) (is : Is
             omega (arith, value c there, is.start, is.touched c there, is.stands.entries);
       }
 
--- each entry is one that was owed
-pub reserve_kept : (p : Meaning) (plan : Plan) (h : List Entry) (e : Entry) (a : ℕ) → Fits p plan → MeetsHandlerObligations p → Legal p plan h → LegalNext p plan h e → acting_core e ≡ Some a → a < plan.cores
-    → owed_total p plan (h ++ e ∷ []) + 1 ≡ owed_total p plan h
-reserve_kept p plan h e a fits handlers legal next acting there =
-    let paid = owed_law p plan h e a fits handlers legal next acting in
-    sum_one_less (owed p plan (h ++ e ∷ [])) (owed p plan h) a paid.others paid.own plan.cores there
-
-pub room_for : (p : Meaning) (plan : Plan) (h : List Entry) (e : Entry) (a : ℕ) → Fits p plan → MeetsHandlerObligations p → Legal p plan h → LegalNext p plan h e → acting_core e ≡ Some a → a < plan.cores
-    → HasRoom p plan h → length h < MAX_ENTRIES
-room_for p plan h e a fits handlers legal next acting there room = omega (arith, reserve_kept p plan h e a fits handlers legal next acting there)
-
--- who has made the attempt of the round has made it
-attempted_more : (h : List Entry) (e : Entry) (c : ℕ) → is_round e ≡ false → has_attempted (own_entries h c) ≡ true → has_attempted (own_entries (h ++ e ∷ []) c) ≡ true
-attempted_more h e c inner made =
-    ap has_attempted (own_more h e c inner) ∙ (done_more is_attempt (own_entries h c) e c ∙ ap (λ b. b || (acts c e && is_attempt e)) made)
-
--- one where something is still to come
-abbrev to_come : Bool → ℕ
-to_come b = cond b 0 1
-
--- no step makes the look or the attempt undone
-no_less : (look first later : Bool) → (first ≡ true → later ≡ true) → cond (look || later) 0 1 ≤ cond (look || first) 0 1
-no_less true first later keeps = omega arith
-no_less false true later keeps = let made = keeps refl in omega (arith, ap to_come made)
-no_less false false true keeps = omega arith
-no_less false false false keeps = omega arith
-
 module _ (p : Meaning) (plan : Plan) (old new : Play) (a : ℕ) (look : Option (List ℕ)) (fits : Fits p plan) (handlers : MeetsHandlerObligations p) (is : IsPlay p plan old) (there : a < plan.cores)
     (kept : look ≡ look_of old a) where
   -- the step of any state that the play is
@@ -136,7 +66,6 @@ module _ (p : Meaning) (plan : Plan) (old new : Play) (a : ℕ) (look : Option (
   advanced_by e added legal acting is_step =
       let h = old.history in
       let inner = no_round e a acting in
-      let paid = owed_law p plan h e a fits handlers is.stands.legal legal acting in
       let kept_looks : (c : ℕ) → look_of old c ≡ look_of new c = λ c. ap (λ (looks : List (Option (List ℕ))). get_or looks c None) (sym added.looks) in
       record {
         play = added.play;
@@ -146,16 +75,6 @@ module _ (p : Meaning) (plan : Plan) (old new : Play) (a : ℕ) (look : Option (
         });
         reserve = omega (arith, reserve_kept p plan h e a fits handlers is.stands.legal legal acting there, length-append h (e ∷ []), ap length added.history, ap (owed_total p plan) added.history);
         rounds = ap rounds_begun added.history ∙ (begun_more h e ∙ (ap (λ b. rounds_begun h + cond b 1 0) inner ∙ omega arith));
-        attempted = λ c made. ap (λ (g : List Entry). has_attempted (own_entries g c)) added.history ∙ attempted_more h e c inner made;
-        fewer = λ more.
-            let less = no_less (is_some (look_of old a)) (has_attempted (own_entries h a)) (has_attempted (own_entries (h ++ e ∷ []) a)) (attempted_more h e a inner) in
-            omega (
-              arith,
-              paid.own,
-              less,
-              ap (λ (g : List Entry). owed p plan g a) added.history,
-              ap₂ (λ (l : Option (List ℕ)) (g : List Entry). to_come (is_some l || has_attempted (own_entries g a))) (sym (kept_looks a)) added.history,
-            );
         over = λ none. absurd (cc);
       }
 
@@ -186,9 +105,9 @@ module _ (p : Meaning) (plan : Plan) (old : Play) (a : ℕ) (fits : Fits p plan)
         ] refl;
   }
 
-  pub advanced_look : look_of old a ≡ None → has_attempted (own_entries old.history a) ≡ false
+  pub advanced_look : look_of old a ≡ None
       → IsStepOf p plan old.history a (fresh_of plan old) None next.Looks → Advances p plan a old looked true
-  advanced_look none not_made is_step = record {
+  advanced_look none is_step = record {
     play = looked_play;
     step = λ s at. subst (IsStateOf plan looked)
         (sym (ap (λ (h : List Entry). step_of p plan (record { history = h; looks = s.looks }) a) at.history
@@ -201,25 +120,18 @@ module _ (p : Meaning) (plan : Plan) (old : Play) (a : ℕ) (fits : Fits p plan)
         });
     reserve = refl;
     rounds = refl;
-    attempted = λ c made. made;
-    fewer = λ more.
-        let before = ap₂ (λ (l : Option (List ℕ)) b. to_come (is_some l || b)) none not_made in
-        let now = ap (λ (l : Option (List ℕ)). to_come (is_some l || has_attempted (own_entries old.history a))) own_look in
-        omega (arith, before, now);
     over = λ no_more. absurd (cc);
   }
 
 -- the turn is over
 pub advanced_none : (p : Meaning) (plan : Plan) (old : Play) (a : ℕ) (look : Option (List ℕ)) → Fits p plan → IsPlay p plan old → a < plan.cores → look ≡ look_of old a
-    → has_attempted (own_entries old.history a) ≡ true → IsStepOf p plan old.history a (fresh_of plan old) look next.Over → Advances p plan a old old false
-advanced_none p plan old a look fits is there kept made is_step = record {
+    → IsStepOf p plan old.history a (fresh_of plan old) look next.Over → Advances p plan a old old false
+advanced_none p plan old a look fits is there kept is_step = record {
   play = is;
   step = λ s at. subst (IsStateOf plan old) (sym (stays s at)) (record { history = refl; looks = at.looks });
   reserve = refl;
   rounds = refl;
-  attempted = λ c has. has;
-  fewer = λ more. absurd (cc);
-  over = λ none. (made, λ s at. stays s at ∙ ap (λ (h : List Entry). state_of h s.looks) (sym at.history));
+  over = λ none s at. stays s at ∙ ap (λ (h : List Entry). state_of h s.looks) (sym at.history);
 }
   where
     state_of : List Entry → (ℕ → Option (List ℕ)) → SerialState

@@ -1,7 +1,6 @@
 -- How far serial play has come.
-use Rattle.std.specs.Prelude.{◌≡◌, ℕ, ◌+◌, ◌<◌, ◌≤◌, ◌||◌, Bool, List, [], ◌∷◌, ◌++◌, cond, length, map, max, IsFalse, IsTrue, Option, Some, None, slice_index, slice_index_or}
+use Rattle.std.specs.Prelude.{◌≡◌, ℕ, ◌+◌, ◌<◌, ◌≤◌, Bool, List, [], ◌∷◌, ◌++◌, length, map, max, IsFalse, Option, Some, None, slice_index, slice_index_or}
 use Rattle.sched_base.specs.declared.limits.TheConstants.{MAX_ENTRIES}
-use Rattle.std.specs.Option.{is_some}
 use Rattle.policy_tree.specs.Meaning.{Meaning}
 use Rattle.round_model.specs.declared.entry.Entry.{Entry}
 use Rattle.round_model.specs.declared.plan.Plan.{Plan}
@@ -9,10 +8,9 @@ use Rattle.round_model.specs.Cores.{core_numbers}
 use Rattle.round_model.specs.FreshReads.{touched_from}
 use Rattle.round_model.specs.Legal.{rounds_begun}
 use Rattle.round_model.specs.Code.Outcomes.{ReadIn}
-use Rattle.round_model.specs.Owed.{owed, owed_total}
+use Rattle.round_model.specs.Owed.{owed_total}
 use Rattle.round_model.specs.Code.Past.{IsPastOf, StandsFor}
 use Rattle.round_model.specs.Reads.{round_start}
-use Rattle.round_model.specs.Scenes.{has_attempted, own_entries}
 use Rattle.round_model.specs.Serial.{SerialState, step_of}
 use Rattle.serial_play.specs.declared.play.Play.{Play}
 
@@ -37,11 +35,6 @@ pub record IsStateOf (plan : Plan) (play : Play) (s : SerialState) : Type 0 wher
 abbrev pub fresh_of : Plan → Play → List ℕ
 fresh_of plan play = map (λ c. max play.start (slice_index play.touched c)) (core_numbers plan)
 
--- how many steps the core has left in its turn: the entries that it owes, and its look
-abbrev pub steps_left : Meaning → Plan → Play → ℕ → ℕ
-steps_left p plan play a =
-    owed p plan play.history a + cond (is_some (look_of play a) || has_attempted (own_entries play.history a)) 0 1
-
 -- an entry of a core was added
 pub record HasAdded (p : Meaning) (plan : Plan) (e : Entry) (old new : Play) : Type 0 where
   pub play : IsPlay p plan new
@@ -59,11 +52,5 @@ pub record Advances (p : Meaning) (plan : Plan) (a : ℕ) (old new : Play) (more
   -- each entry is one that was owed, and no round begins
   pub reserve : length new.history + owed_total p plan new.history ≡ length old.history + owed_total p plan old.history
   pub rounds : rounds_begun new.history ≡ rounds_begun old.history
-  -- who has made the attempt of the round has made it
-  pub attempted : (c : ℕ) → IsTrue (has_attempted (own_entries old.history c)) →
-      IsTrue (has_attempted (own_entries new.history c))
-  -- a step is one fewer to come
-  pub fewer : IsTrue more → steps_left p plan new a + 1 ≤ steps_left p plan old a
-  -- there is none where the attempt is made
-  pub over : IsFalse more → IsTrue (has_attempted (own_entries new.history a))
-      × ((s : SerialState) → IsStateOf plan new s → step_of p plan s a ≡ s)
+  -- there is none where the turn is over
+  pub over : IsFalse more → (s : SerialState) → IsStateOf plan old s → step_of p plan s a ≡ s

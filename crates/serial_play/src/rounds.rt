@@ -1,18 +1,19 @@
 //! Serial play, round by round.
 
-ghost use Rattle.std.specs.Prelude.{◌≡◌, ◌+◌, ◌<◌, ◌≤◌, ◌↔◌, [], IfOk, IsTrue, None, OnOk, length, slice_index_or, ℕ};
+ghost use Rattle.std.specs.Prelude.{◌≡◌, ◌+◌, ◌<◌, ◌≤◌, [], IfOk, None, OnOk, length, slice_index_or, ℕ};
 ghost use Rattle.policy_tree.specs.Meaning.{Meaning, meaning_of};
 ghost use Rattle.policy_eval.specs.Obligations.{MeetsHandlerObligations};
 ghost use Rattle.round_model.specs.declared.entry.Entry.TheVariants as entry;
 ghost use Rattle.round_model.specs.Fits.{Fits};
-ghost use Rattle.round_model.specs.Legal.{IsComplete, IsDue, LegalNext, rounds_begun};
+ghost use Rattle.round_model.specs.Legal.{LegalNext};
+ghost use Rattle.round_model.specs.SerialEnds.{RoundFits};
 ghost use Rattle.serial_play.specs.Plays.{IsPlay};
-ghost use Rattle.serial_play.specs.Rounds.{Begins, FitsRound, IsPlayed, PlaysRound};
+ghost use Rattle.serial_play.specs.Rounds.{Begins, IsPlayed, PlaysRound};
 
 use crate::play::{Play, append};
 use crate::turns::{end_turns, take_ordered};
 use policy_tree::Policy;
-use round_model::{Entry, History, ModelMemory, Past, Plan, round_due};
+use round_model::{Entry, History, ModelMemory, Past, Plan, round_due, round_fits};
 use sched_base::{MAX_CORES, MAX_ENTRIES, MAX_THREADS, Reads};
 use std::alloc::Global;
 
@@ -39,7 +40,7 @@ pub fn play_rounds(alloc: Global, policy: &Policy, plan: &Plan) -> Result<Played
         if !round_due(plan, &play.past) {
             return Ok(Played::Whole(play.history));
         }
-        if !fits_round(plan, &play.history) {
+        if !round_fits(plan, play.history.len()) {
             return Ok(Played::Full(play.history));
         }
         play_round(alloc, policy, plan, &mut play, begun + 1)?;
@@ -65,16 +66,6 @@ fn start(alloc: Global, plan: &Plan) -> Result<Play, ModelMemory>
     })
 }
 
-/// Whether all entries that a round may add fit the plan's limit.
-fn fits_round(plan: &Plan, history: &History) -> bool
-    requires threads { length plan.now.threads ≤ MAX_THREADS }
-    requires cores { plan.now.cores ≤ MAX_CORES }
-    requires entries { length history.now ≤ MAX_ENTRIES }
-    ensures { IsTrue result ↔ FitsRound plan.now history.now }
-{
-    history.len() + 1 + 2 * plan.cores + plan.threads.len() <= plan.limit
-}
-
 /// Plays the round of that number.
 fn play_round(
     alloc: Global,
@@ -86,10 +77,8 @@ fn play_round(
     requires fits { Fits (meaning_of policy.now) plan.now }
     requires handlers { MeetsHandlerObligations (meaning_of policy.now) }
     requires play { IsPlay (meaning_of policy.now) plan.now play.old }
-    requires complete { IsComplete plan.now play.old.history }
-    requires due { IsDue plan.now play.old.history }
-    requires number { number ≡ rounds_begun play.old.history + 1 }
-    requires room { FitsRound plan.now play.old.history }
+    requires legal { LegalNext (meaning_of policy.now) plan.now play.old.history (entry.Round number) }
+    requires room { RoundFits plan.now (length play.old.history) }
     ensures { OnOk result (PlaysRound (meaning_of policy.now) plan.now number play.old play.new) }
 {
     begin(alloc, policy, plan, play, number)?;

@@ -4,10 +4,7 @@ use Rattle.sched_base.specs.declared.task.Task.{Task}
 use Rattle.policy_tree.specs.Meaning.{Meaning}
 use Rattle.round_model.specs.Bounds.{standing_count}
 use Rattle.round_model.specs.Cores.{tasks_of}
-use Rattle.round_model.specs.Programs.{Meeting, blocking, ending_now, tick, yielding}
 use Rattle.round_model.specs.Work.{elected}
-use Rattle.core_state.specs.declared.programs.Meeting.{Meeting as UnitMeeting}
-use Rattle.core_state.specs.declared.programs.Meeting.TheVariants as meeting
 use Rattle.core_state.specs.Views.{CoreView}
 
 -- the task was taken out of the core to run a unit: it is the one that the core elected, where no other was current
@@ -24,10 +21,3 @@ pub record HasNoNext (old new : CoreView) : Type 0 where
   pub current : old.core.current ≡ None
   pub queue : old.core.queue ≡ []
   pub same : new ≡ old
-
--- the meeting, as the code names it
-abbrev pub IsMeeting : Meeting → UnitMeeting → Type 0
-IsMeeting m meeting.Tick = m ≡ tick
-IsMeeting m meeting.Yield = m ≡ yielding
-IsMeeting m (meeting.Block rounds) = m ≡ blocking rounds
-IsMeeting m meeting.End = m ≡ ending_now

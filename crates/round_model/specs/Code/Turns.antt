@@ -9,10 +9,11 @@ use Rattle.round_model.specs.declared.turns.NextStep.{NextStep}
 use Rattle.round_model.specs.declared.turns.NextStep.TheVariants as next
 use Rattle.round_model.specs.After.{after, round_of}
 use Rattle.round_model.specs.Entries.{acting_core}
-use Rattle.round_model.specs.FreshReads.{fresh_reads}
+use Rattle.round_model.specs.Asked.{asked_late}
+use Rattle.round_model.specs.FreshReads.{fresh_reads, placement_reads}
 use Rattle.round_model.specs.Legal.{LegalNext}
-use Rattle.round_model.specs.Scenes.{scene_of, waking_next}
-use Rattle.round_model.specs.Serial.{SerialState, late_step, step_of, with_entry}
+use Rattle.round_model.specs.Scenes.{own_entries, scene_of, waking_next}
+use Rattle.round_model.specs.Serial.{SerialState, answered, step_of, with_entry}
 
 -- what the core reads to place a thread, where it would read this of all cores
 abbrev pub placement_by : PlaceTree → List ℕ → List ℕ
@@ -44,7 +45,8 @@ IsStepOf p plan history a fresh look step = (looks : ℕ → Option (List ℕ)) 
 -- the same of a core that has no thread left to let in or to wake
 abbrev pub IsLateStepOf : Meaning → Plan → List Entry → ℕ → Option (List ℕ) → NextStep → Type 0
 IsLateStepOf p plan history a look step = (looks : ℕ → Option (List ℕ)) → looks a ≡ look →
-    late_step p plan (record { history = history; looks = looks }) (scene_of p plan history a) a
+    answered p plan (record { history = history; looks = looks }) (scene_of p plan history a) a
+    (placement_reads p.place plan history (scene_of p plan history a)) (asked_late (own_entries history a) (looks a))
     ≡ with_step (record { history = history; looks = looks }) a
     (fresh_reads plan history (scene_of p plan history a)) step
 

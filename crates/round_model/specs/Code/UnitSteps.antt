@@ -8,8 +8,8 @@ use Rattle.policy_eval.specs.Orders.{best_and_rest, best_of}
 use Rattle.policy_eval.specs.Ranges.{AreIn, wide_ranges}
 use Rattle.policy_eval.specs.Sights.{thread_values}
 use Rattle.round_model.specs.declared.state.ModelCore.{ModelCore}
-use Rattle.round_model.specs.declared.unit.Meeting.{Meeting as UnitMeeting}
-use Rattle.round_model.specs.declared.unit.Meeting.TheVariants as meeting
+use Rattle.round_model.specs.declared.programs.Meeting.{Meeting as UnitMeeting}
+use Rattle.round_model.specs.declared.programs.Meeting.TheVariants as meeting
 use Rattle.round_model.specs.declared.unit.Unit.{Unit as WorkUnit}
 use Rattle.round_model.specs.declared.unit.Unit.TheVariants as unit
 use Rattle.round_model.specs.Programs.{Meeting, blocking, ending_now, tick, yielding}

@@ -5,7 +5,8 @@ use Rattle.round_model.specs.FreshReads.{touched_from}
 use Rattle.round_model.specs.Code.Past.{StandsFor}
 use Rattle.round_model.specs.Reads.{round_start}
 use Rattle.round_model.proofs.Longer.{start_stays}
-use Rattle.serial_play.proofs.Adding.{read_stays, touched_more}
+use Rattle.round_model.proofs.Touched.{touched_more}
+use Rattle.serial_play.proofs.Adding.{read_stays}
 use Rattle.serial_play.proofs.play.add.Goals as goal
 
 pub returns : goal.returns

@@ -5,10 +5,6 @@ use Rattle.round_model.proofs.States.{OnOk-then}
 use Rattle.serial_play.proofs.Playing.{room_behind, round_played}
 use Rattle.serial_play.proofs.rounds.play_round.Goals as goal
 
-pub begin-requires-clause-legal : goal.begin-requires-clause-legal
-unfolding LegalNext
-begin-requires-clause-legal c = record { complete = c.requires.complete; due = c.requires.due; next = c.requires.number }
-
 pub take_ordered-requires-clause-room : goal.take_ordered-requires-clause-room
 take_ordered-requires-clause-room c =
     room_behind (meaning_of c.args.policy.now) c.args.plan.now c.args.play.now c.begin.new.play c.args.number c.requires.fits c.requires.handlers c.requires.room c.in_ok-begin.ensures
@@ -19,7 +15,7 @@ end_turns-requires-clause-room c =
     omega (arith, c.in_ok-take_ordered.ensures.reserve)
 
 pub returns : goal.returns
+unfolding LegalNext
 returns c =
-    let p = meaning_of c.args.policy.now in let plan = c.args.plan.now in
     OnOk-then c.end_turns.result c.end_turns.ensures (λ ended.
-    round_played p plan c.args.number c.args.play.now c.begin.new.play c.take_ordered.new.play c.end_turns.new.play c.requires.play c.requires.due c.requires.number c.in_ok-begin.ensures c.in_ok-take_ordered.ensures ended)
+    round_played (meaning_of c.args.policy.now) c.args.plan.now c.args.number c.args.play.now c.begin.new.play c.take_ordered.new.play c.end_turns.new.play c.requires.legal.due c.in_ok-begin.ensures c.in_ok-take_ordered.ensures ended)

@@ -1,9 +1,8 @@
 use Rattle.std.proofs.Common.{◌≡◌, ◌<◌, ℕ}
 use Rattle.policy_tree.specs.Meaning.{meaning_of}
-use Rattle.round_model.specs.Legal.{IsComplete, rounds_begun}
+use Rattle.round_model.specs.SerialEnds.{IsFull}
 use Rattle.round_model.specs.SerialRounds.{serial_rounds}
 use Rattle.serial_play.specs.Plays.{IsPlay}
-use Rattle.serial_play.specs.Rounds.{IsFull}
 use Rattle.serial_play.proofs.rounds.play_rounds.Given as goal
 
 -- so many rounds are played, each of which fitted
@@ -11,7 +10,5 @@ abbrev pub invariant-loop-begun : goal.invariant-loop-begun
 invariant-loop-begun l = record {
   play : IsPlay (meaning_of l.policy) l.plan l.play;
   serial : l.play.history ≡ serial_rounds (meaning_of l.policy) l.plan l.begun;
-  complete : IsComplete l.plan l.play.history;
-  rounds : rounds_begun l.play.history ≡ l.begun;
   fitted : (k : ℕ) → k < l.begun → IsFull l.plan (serial_rounds (meaning_of l.policy) l.plan k) → ⊥;
 }

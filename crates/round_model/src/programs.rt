@@ -1,15 +1,15 @@
-//! What a thread's program says of its next unit.
+//! The programs of threads: which burst comes next, and what a unit of it leads to.
 
 ghost use Rattle.std.specs.Prelude.{◌≡◌, ◌<◌, ◌≤◌, MatchOption, None, Some};
-ghost use Rattle.round_model.specs.Programs.{burst_of, is_endless as has_no_end, is_last_unit as is_last, meeting_of as meeting_at, planned_of, place_after as next_place};
-ghost use Rattle.core_state.specs.Code.Steps.{IsMeeting};
+ghost use Rattle.round_model.specs.Programs.{burst_of, is_endless as has_no_end, is_last_unit as is_last, meeting_of as meeting_at, place_after as next_place, planned_of};
+ghost use Rattle.round_model.specs.Code.UnitSteps.{IsMeeting};
 
-use round_model::{Burst, Ending, Plan, Planned};
+use crate::plan::{Burst, Ending, Plan, Planned};
 use sched_base::{MAX_BURSTS, Place, Task, ThreadId};
 
 /// What a thread meets after a unit.
 #[derive(Clone, Copy)]
-pub(crate) enum Meeting {
+pub enum Meeting {
     /// Its burst goes on.
     Tick,
     /// Its burst is over, and it yields.
@@ -21,7 +21,7 @@ pub(crate) enum Meeting {
 }
 
 /// The burst that the task runs next, where its program has one left.
-pub(crate) fn next_burst(plan: &Plan, task: &Task) -> Option<Burst>
+pub fn next_burst(plan: &Plan, task: &Task) -> Option<Burst>
     ensures { result ≡ burst_of plan.now task.now }
 {
     let thread = planned(plan, task.id)?;
@@ -33,7 +33,7 @@ pub(crate) fn next_burst(plan: &Plan, task: &Task) -> Option<Burst>
 }
 
 /// The thread of the plan with that number.
-fn planned(plan: &Plan, id: ThreadId) -> Option<&Planned>
+pub fn planned(plan: &Plan, id: ThreadId) -> Option<&Planned>
     ensures { MatchOption result (planned_of plan.now id ≡ None) (λ t. planned_of plan.now id ≡ Some t.now) }
 {
     for thread in plan.threads.as_slice() {
@@ -45,7 +45,7 @@ fn planned(plan: &Plan, id: ThreadId) -> Option<&Planned>
 }
 
 /// What the thread meets after its next unit.
-pub(crate) fn meeting_of(burst: Burst, place: Place) -> Meeting
+pub fn meeting_of(burst: Burst, place: Place) -> Meeting
     requires { 1 ≤ burst.units }
     ensures { IsMeeting (meeting_at burst place) result }
 {
@@ -61,7 +61,7 @@ pub(crate) fn meeting_of(burst: Burst, place: Place) -> Meeting
 }
 
 /// Where the thread stands after its next unit.
-pub(crate) fn place_after(burst: Burst, place: Place) -> Place
+pub fn place_after(burst: Burst, place: Place) -> Place
     requires units { 1 ≤ burst.units }
     requires bursts { place.burst < MAX_BURSTS }
     ensures { result ≡ next_place burst place }

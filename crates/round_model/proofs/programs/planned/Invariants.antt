@@ -1,7 +1,7 @@
 use Rattle.std.proofs.Common.{◌≡◌, ◌==◌, drop, find}
 use Rattle.round_model.specs.declared.plan.Planned.{Planned}
 use Rattle.round_model.specs.Programs.{planned_of}
-use Rattle.core_state.proofs.programs.planned.Given as goal
+use Rattle.round_model.proofs.programs.planned.Given as goal
 
 -- the threads passed over have other numbers
 abbrev pub invariant-loop-thread : goal.invariant-loop-thread
