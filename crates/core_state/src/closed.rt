@@ -40,9 +40,10 @@ impl Closed {
         Closed { cores, rounds }
     }
 
-    /// The number of cores.
+    /// The number of cores, at most `MAX_CORES`.
     pub fn cores(&self) -> u32
-        ensures { result ≡ length self.now.cores }
+        ensures count { result ≡ length self.now.cores }
+        ensures few { result ≤ MAX_CORES }
     {
         self.cores.len() as u32
     }

@@ -1,0 +1,8 @@
+//! Laws of the definitions, each a function without parameters whose contract is the law.
+
+ghost use Rattle.history_merge.specs.Laws.{OneHistoryLaw};
+
+/// Logs are those of one history at most.
+pub fn law_one_history()
+    ensures { OneHistoryLaw }
+{}

@@ -1,0 +1,14 @@
+//! The logs of all cores back into the one history that they are of.
+//!
+//! Each log is walked by a cursor. At each position of the history some log's cursor stands at the entry of that position,
+//! and it is passed in each log that has it.
+#![tactic(auto)]
+
+pub mod cursors;
+pub mod laws;
+pub mod memory;
+pub mod merging;
+
+pub use crate::cursors::Cursors;
+pub use crate::memory::HistoryMemory;
+pub use crate::merging::{entry_count, merge};
