@@ -19,8 +19,11 @@ use Rattle.policy_eval.proofs.Statements.{all_obligations}
 use Rattle.round_model.specs.declared.plan.Planned.{Planned}
 use Rattle.round_model.specs.Fits.{Fits, OrderFits, ThreadFits}
 use Rattle.model_tests.specs.Plans.{block_and_wake, eight_threads, endless, two_cores}
-use Rattle.model_tests.specs.Policies.{basic, fair}
-use Rattle.model_tests.proofs.ResolvedRows.{basic_resolved, fair_resolved}
+use Rattle.fair_policy.specs.Fair.{fair_meaning}
+use Rattle.model_tests.specs.Policies.{basic}
+use Rattle.fair_policy.proofs.FairMeets.{fair_meets}
+use Rattle.fair_policy.proofs.FairResolved.{fair_resolved}
+use Rattle.model_tests.proofs.ResolvedRows.{basic_resolved}
 use Rattle.model_tests.specs.PolicyRows.{PolicyMisses, WorkedPoliciesFit, with_filter}
 
 basic_balance : MeetsBalanceObligations basic
@@ -51,32 +54,6 @@ basic_handlers = record { no_overlap = basic_no_overlap; no_gap = basic_no_gap }
 
 basic_meets : MeetsObligations basic
 basic_meets = all_obligations basic basic_balance basic_handlers
-
-fair_balance : MeetsBalanceObligations fair
-unfolding pair_values
-fair_balance = record {
-  idle_sees_overloaded = λ own victim fits other idle busy. grind (arith, ints);
-  victim_is_overloaded = λ own victim fits other sees. let d = other.loads.heavy in grind (arith, ints);
-  move_narrows_gap = λ own victim weight fits other is sees queued.
-      let a = fits.loads.light in let b = fits.loads.heavy in let c = other.loads.light in let d = other.loads.heavy in let e = is.least in let f = is.greatest in grind (arith, ints);
-}
-
-fair_no_overlap : (e : Event) → NoOverlap fair e
-unfolding holding_cases
-fair_no_overlap event.Enqueue fresh consts t held fits = omega arith
-fair_no_overlap event.Tick fresh consts t held fits = omega arith
-fair_no_overlap event.Yield fresh consts t held fits = omega arith
-fair_no_overlap event.Block fresh consts t held fits = omega arith
-
-fair_no_gap : (e : Event) → NoGap fair e
-unfolding holding_cases
-fair_no_gap event.Enqueue fresh consts t held fits = omega arith
-fair_no_gap event.Tick fresh consts t held fits = omega arith
-fair_no_gap event.Yield fresh consts t held fits = omega arith
-fair_no_gap event.Block fresh consts t held fits = omega arith
-
-fair_meets : MeetsObligations fair
-fair_meets = all_obligations fair fair_balance (record { no_overlap = fair_no_overlap; no_gap = fair_no_gap })
 
 -- the constants of a core without attributes
 zeros_fit : AreIn (attribute_ranges []) no_attributes
@@ -168,8 +145,8 @@ eight_threads_fit = record {
     fit : (id : ℕ) → 1 ≤ id → id ≤ 8 → ThreadFits basic 4 (endless id)
     fit id positive small = endless_fits 4 id positive small (omega arith)
 
-block_and_wake_threads : All (ThreadFits fair 2) block_and_wake.threads
-block_and_wake_threads = All-from_recursion (ThreadFits fair 2) block_and_wake.threads (
+block_and_wake_threads : All (ThreadFits fair_meaning 2) block_and_wake.threads
+block_and_wake_threads = All-from_recursion (ThreadFits fair_meaning 2) block_and_wake.threads (
   record {
     id_positive = omega arith;
     id_small = omega arith;
@@ -197,7 +174,7 @@ two_apart zero (suc zero) d below inside same = absurd (omega arith)
 two_apart zero (suc (suc j)) d below inside same = absurd (omega arith)
 two_apart (suc i) j d below inside same = absurd (omega arith)
 
-pub block_and_wake_fits : Fits fair block_and_wake
+pub block_and_wake_fits : Fits fair_meaning block_and_wake
 block_and_wake_fits = record {
   policy = fair_resolved;
   some_cores = omega arith;

@@ -5,7 +5,8 @@ ghost use Rattle.policy_tree.specs.Meaning.{case_tree, meaning_of};
 ghost use Rattle.policy_tree.specs.Trees.{cond_tree};
 ghost use Rattle.policy_eval.specs.Fitting.{CoreFits};
 ghost use Rattle.round_model.specs.Choices.{choice_of, values_in};
-ghost use Rattle.model_tests.specs.Policies.{basic, gap_of, seen_count, whenever};
+ghost use Rattle.fair_policy.specs.Forms.{whenever};
+ghost use Rattle.model_tests.specs.Policies.{basic, gap_of, seen_count};
 
 use policy_eval::CoreValues;
 use policy_tree::{

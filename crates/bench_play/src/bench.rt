@@ -1,0 +1,61 @@
+//! What a bench comes to.
+
+ghost use Rattle.std.specs.Prelude.{◌≡◌, IfOk};
+ghost use Rattle.policy_tree.specs.Meaning.{meaning_of};
+ghost use Rattle.policy_eval.specs.Obligations.{MeetsHandlerObligations};
+ghost use Rattle.round_model.specs.Fits.{Fits};
+ghost use Rattle.serial_play.specs.Rounds.{EndsWhole};
+ghost use Rattle.fair_policy.specs.Fair.{fair_meaning};
+ghost use Rattle.bench_play.specs.Bench.{IsBench, IsSize};
+ghost use Rattle.bench_play.specs.Room.{HasRoomForAll};
+
+use crate::memory::BenchMemory;
+use crate::plan::made_plan;
+use policy_tree::Policy;
+use round_model::{History, Plan};
+use sched_report::{Totals, report};
+use serial_play::{Played, play_rounds};
+use std::alloc::Global;
+
+/// What a bench comes to.
+#[derive(Clone, Copy)]
+pub struct BenchTotals {
+    /// How many threads the trace has.
+    pub threads: u32,
+    /// What the history comes to.
+    pub totals: Totals,
+}
+
+/// Plays the made trace of so many threads, which the seed determines, under the policy `fair`.
+pub fn bench(
+    alloc: Global,
+    policy: &Policy,
+    seed: u64,
+    size: u32,
+) -> Result<BenchTotals, BenchMemory>
+    requires policy { meaning_of policy.now ≡ fair_meaning }
+    requires size { IsSize size }
+    ensures is { IfOk result (IsBench seed size) }
+{
+    let plan = made_plan(alloc, policy, seed, size)?;
+    let history = whole_history(alloc, policy, &plan)?;
+    let told = report(alloc, policy, &plan, &history)?;
+    Ok(BenchTotals {
+        threads: size,
+        totals: told.totals,
+    })
+}
+
+/// The serial history of a plan with room for its rounds. It is whole.
+fn whole_history(alloc: Global, policy: &Policy, plan: &Plan) -> Result<History, BenchMemory>
+    requires fits { Fits (meaning_of policy.now) plan.now }
+    requires handlers { MeetsHandlerObligations (meaning_of policy.now) }
+    requires room { HasRoomForAll plan.now }
+    ensures { IfOk result (EndsWhole (meaning_of policy.now) plan.now) }
+{
+    match play_rounds(alloc, policy, plan)? {
+        Played::Whole(history) => Ok(history),
+        // No round comes due that might not fit.
+        Played::Full(_history) => unreachable!(),
+    }
+}

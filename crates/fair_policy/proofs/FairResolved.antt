@@ -1,0 +1,58 @@
+-- The policy `fair` is resolved.
+use Rattle.std.proofs.Common.{refl, arith, All}
+use Rattle.std.proofs.lemmas.Int.{ints}
+use Rattle.std.proofs.lemmas.List.Elements.{All-from_recursion, All-nil}
+use Rattle.policy_tree.specs.declared.typed.Event.{Event}
+use Rattle.policy_tree.specs.declared.typed.Event.TheVariants as event
+use Rattle.policy_tree.specs.Meaning.{cases_on}
+use Rattle.policy_eval.specs.Resolved.{IsAttribute, IsResolved, IsResolvedCase, IsResolvedCond, IsResolvedHandler, IsResolvedSet}
+use Rattle.policy_eval.specs.Sites.{choosing, electing, filtering, stealing}
+use Rattle.fair_policy.specs.Fair.{counted_use, fair_attributes, fair_filter, fair_meaning}
+use Rattle.fair_policy.proofs.ResolvedForms.{by_variable, difference_linear, number_linear, one_more_linear, plain_case}
+
+-- the case of tick, with its assignment
+sets_resolved : All (IsResolvedSet fair_meaning event.Tick) counted_use
+sets_resolved = All-from_recursion (IsResolvedSet fair_meaning event.Tick) counted_use
+    (record { declared = omega arith; value = record { linear = one_more_linear 22; few = omega arith; allowed = (refl, tt) } }, tt)
+
+tick_resolved : All (IsResolvedCase fair_meaning event.Tick) (cases_on fair_meaning.handlers event.Tick)
+tick_resolved = All-from_recursion (IsResolvedCase fair_meaning event.Tick) (cases_on fair_meaning.handlers event.Tick)
+    (record { guard = record { few = omega arith; sides = tt }; few = omega arith; sets = sets_resolved; put = tt }, tt)
+
+handlers_resolved : (e : Event) → IsResolvedHandler fair_meaning e
+handlers_resolved event.Enqueue = record { few = omega arith; cases = plain_case fair_meaning event.Enqueue _ tt }
+handlers_resolved event.Tick = record { few = omega arith; cases = tick_resolved }
+handlers_resolved event.Yield = record { few = omega arith; cases = plain_case fair_meaning event.Yield _ tt }
+handlers_resolved event.Block = record { few = omega arith; cases = plain_case fair_meaning event.Block _ tt }
+
+attribute_resolved : All IsAttribute fair_attributes
+attribute_resolved = All-from_recursion IsAttribute fair_attributes
+    (record { low = omega (arith, ints); from_low = omega (arith, ints); to_high = omega (arith, ints); high = omega (arith, ints) }, tt)
+
+filter_resolved : IsResolvedCond fair_meaning filtering fair_filter
+filter_resolved = record {
+  few = omega arith;
+  sides = (
+    (
+      (record { linear = tt; few = omega arith; allowed = refl }, record { linear = number_linear 0 (omega arith); few = omega arith; allowed = tt }),
+      (record { linear = tt; few = omega arith; allowed = refl }, record { linear = number_linear 2 (omega arith); few = omega arith; allowed = tt }),
+    ),
+    (
+      record { linear = difference_linear 3 1; few = omega arith; allowed = (refl, refl) },
+      record { linear = number_linear 8 (omega arith); few = omega arith; allowed = tt },
+    ),
+  );
+}
+
+pub fair_resolved : IsResolved fair_meaning
+fair_resolved = record {
+  load = record { positive = omega arith; ordered = omega arith; small = omega arith };
+  core_attrs = record { few = omega arith; each = All-nil _ };
+  thread_attrs = record { few = omega arith; each = attribute_resolved };
+  place = record { linear = tt; few = omega arith; allowed = refl };
+  elect = by_variable fair_meaning electing _ (record { linear = tt; few = omega arith; allowed = refl });
+  handlers = handlers_resolved;
+  filter = filter_resolved;
+  choose = by_variable fair_meaning choosing _ (record { linear = tt; few = omega arith; allowed = refl });
+  steal = by_variable fair_meaning stealing _ (record { linear = tt; few = omega arith; allowed = refl });
+}

@@ -1,0 +1,3 @@
+pub mod FairMeets
+pub mod FairResolved
+pub mod ResolvedForms
