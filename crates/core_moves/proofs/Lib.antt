@@ -1,0 +1,11 @@
+pub mod Effects
+pub mod Entering
+pub mod Found
+pub mod Fresh
+pub mod Reached
+pub mod Seeing
+pub mod Shown
+pub mod Stealing
+pub mod Touched
+pub mod Waking
+pub mod Working

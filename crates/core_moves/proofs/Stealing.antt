@@ -1,0 +1,81 @@
+-- A thread is stolen: what each step asks, and what they come to.
+use Rattle.std.proofs.Common.{◌≡◌, ℕ, ◌+◌, ◌<◌, List, [], ◌∷◌, ◌++◌, All, IsSome, Option, Some, length, option_map, true, refl, sym, ap, subst, ◌∙◌, arith}
+use Rattle.sched_base.specs.declared.limits.TheConstants.{MAX_ENTRIES, MAX_ROUNDS}
+use Rattle.sched_base.specs.declared.task.Task.{Task}
+use Rattle.policy_tree.specs.Meaning.{Meaning}
+use Rattle.policy_eval.specs.Fitting.{IsTask}
+use Rattle.policy_eval.specs.Obligations.{MeetsHandlerObligations}
+use Rattle.policy_eval.proofs.Wide.{thread_wide}
+use Rattle.round_model.specs.declared.entry.Did.{Did}
+use Rattle.round_model.specs.declared.entry.Entry.{Entry}
+use Rattle.round_model.specs.declared.entry.Entry.TheVariants as entry
+use Rattle.round_model.specs.declared.plan.Plan.{Plan}
+use Rattle.round_model.specs.declared.plan.Planned.{Planned}
+use Rattle.round_model.specs.declared.state.Blocked.{Blocked}
+use Rattle.round_model.specs.After.{after, round_of}
+use Rattle.round_model.specs.Bounds.{standing_count}
+use Rattle.round_model.specs.Code.Updates.{updated}
+use Rattle.round_model.specs.Cores.{Cores}
+use Rattle.round_model.specs.Fits.{Fits}
+use Rattle.round_model.specs.Moves.{admitted, blocked_of, handed, queued_of, received, released}
+use Rattle.round_model.specs.Programs.{entering_task, planned_of}
+use Rattle.round_model.specs.Work.{IsOutcomeOfWork, core_after_work}
+use Rattle.round_model.proofs.Grows.{one_more}
+use Rattle.round_model.proofs.Keeping.{entering_fits, holds_handed, holds_released, queued_fits, standing_handed, standing_released}
+use Rattle.round_model.proofs.Moved.{blocked_found, blocked_task_fits, moved_enter, moved_work}
+use Rattle.round_model.proofs.There.{are_there}
+use Rattle.run_queue.specs.Tasks.{IsSeenTask}
+use Rattle.core_moves.specs.Code.Changes.{Becomes, CanAdmit, CanLog, CanRun, HoldsAt, Notes}
+use Rattle.core_moves.specs.Cores.{AreCoresOf, CoresView, Shows, shown}
+use Rattle.core_moves.specs.Moves.{MayMove, MayWork, Works}
+use Rattle.core_moves.proofs.Effects.{steals, wakes}
+use Rattle.core_moves.proofs.Found.{enter_planned, steal_queued, wake_blocked}
+use Rattle.core_moves.proofs.Reached.{can_admit, can_enter, can_run, core_holds, room_after, round_within}
+use Rattle.core_moves.proofs.Shown.{can_log, entries_fit, holds_shown, shown_after, shown_count, shown_same, shown_some}
+
+module _ (p : Meaning) (plan : Plan) (h : List Entry) (by from thread : ℕ) (reads : List ℕ) (old : CoresView)
+    (may : MayMove p plan h (entry.Steal by from thread reads) old) where
+  there : (by < plan.cores) × (from < plan.cores)
+  there = are_there p plan h (entry.Steal by from thread reads) may.next
+
+  queued_there : IsSome (queued_of thread (after p plan h from))
+  queued_there = steal_queued p plan h by from thread reads may.next
+
+  pub from_in : from < length old.cores
+  from_in = let count = shown_count p plan h (after p plan h) old may.are in let inside = there.1 in omega arith
+
+  pub is_queued : HoldsAt old.cores from (λ y. IsSome (queued_of thread y.core))
+  is_queued = holds_shown p plan h (after p plan h) old may.are (λ y. IsSome (queued_of thread y.core)) from there.1 queued_there
+
+  module _ (mid : CoresView) (t : Task) (taken : HoldsAt old.cores from (λ y. queued_of thread y.core ≡ Some t)) (left : Becomes p from (handed thread) old mid) where
+    without : Cores
+    without = updated (after p plan h) from (handed thread (after p plan h from))
+
+    shows_mid : Shows p plan h without mid
+    unfolding without
+    shows_mid = left plan h (after p plan h) there.1 may.are
+
+    task_is : queued_of thread (after p plan h from) ≡ Some t
+    task_is = taken (shown p plan h (after p plan h) from) (shown_some p plan h (after p plan h) old may.are from there.1)
+
+    pub by_in : by < length mid.cores
+    by_in = let count = shown_count p plan h without mid shows_mid in let inside = there.0 in omega arith
+
+    pub task_seen : Fits p plan → MeetsHandlerObligations p → IsSeenTask t
+    task_seen fits handlers = thread_wide p fits.policy t (queued_fits p thread t (after p plan h from) (core_holds p plan fits handlers h may.legal from there.1) task_is)
+
+    pub has_room : Fits p plan → MeetsHandlerObligations p → HoldsAt mid.cores by (λ y. length y.core.queue < y.room)
+    unfolding without
+    has_room fits handlers =
+        holds_shown p plan h without mid shows_mid (λ y. length y.core.queue < y.room) by there.0
+        (can_admit p plan fits handlers h may.legal from by (handed thread) there.1 there.0 (standing_handed p thread (after p plan h from) queued_there)
+        (holds_handed p thread (after p plan h from) (core_holds p plan fits handlers h may.legal from there.1))).room.queue
+
+    -- the cores are those behind the steal, and its entry isn't logged yet
+    pub ends : (last : CoresView) → Becomes p by (received t) mid last → Shows p plan h (after p plan (h ++ entry.Steal by from thread reads ∷ [])) last
+    unfolding without
+    ends last came =
+        let e : Entry = entry.Steal by from thread reads in
+        shown_same p plan h (updated without by (received t (without by))) (after p plan (h ++ e ∷ [])) last
+        (λ c inside. steals p plan (round_of h) (after p plan h) by from thread reads t task_is c ∙ sym (ap (λ (k : Cores). k c) (one_more p plan h e)))
+        (came plan h without there.0 shows_mid)

@@ -1,0 +1,12 @@
+use Rattle.std.proofs.Common.{get_or, set, ap, ◌∙◌}
+use Rattle.round_model.specs.Moves.{received}
+use Rattle.core_moves.specs.Cores.{CoresView}
+use Rattle.core_moves.proofs.Shown.{shown_put}
+use Rattle.core_moves.proofs.cores.Cores.receive.Goals as goal
+
+pub returns : goal.returns
+returns c p plan h m there shows =
+    shown_put p plan h m c.args.self.now _ shows c.args.core there c.index_mut.result.now c.receive.new.self
+    (c.index_mut.ensures.value ∙ ap (λ (v : CoresView). get_or v.cores c.args.core c.index_mut.result.now) c.self.view_is)
+    (received c.args.task) c.receive.ensures
+    (ap (λ (v : CoresView). let u : CoresView = record v { cores = set v.cores c.args.core c.receive.new.self } in u) c.self.view_is)

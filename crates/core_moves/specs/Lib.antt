@@ -1,0 +1,4 @@
+pub mod Code
+pub mod Cores
+pub mod Moves
+pub mod Sights

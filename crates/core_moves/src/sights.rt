@@ -1,0 +1,171 @@
+//! What a core sees of the cores as they are.
+
+ghost use Rattle.std.specs.Prelude.{◌≡◌, ◌<◌, ◌≤◌, ℕ, All, IfSome, List, Some, length, option_map, slice_get};
+ghost use Rattle.policy_tree.specs.Meaning.{Meaning, meaning_of, order_tree};
+ghost use Rattle.policy_tree.specs.Trees.{cond_tree};
+ghost use Rattle.policy_eval.specs.Obligations.{MeetsHandlerObligations};
+ghost use Rattle.policy_eval.specs.Sights.{pair_values};
+ghost use Rattle.policy_eval.specs.Values.{holds as holds_at};
+ghost use Rattle.round_model.specs.declared.plan.Plan.{Plan};
+ghost use Rattle.round_model.specs.After.{after};
+ghost use Rattle.round_model.specs.Attempts.{attempt_on, present_values};
+ghost use Rattle.round_model.specs.Choices.{choice_of, target_of, values_in};
+ghost use Rattle.round_model.specs.Code.Outcomes.{entry_with};
+ghost use Rattle.round_model.specs.Cores.{seen_of};
+ghost use Rattle.round_model.specs.Fits.{Fits};
+ghost use Rattle.round_model.specs.Reads.{values_of};
+ghost use Rattle.round_model.specs.Scenes.{waking_next};
+ghost use Rattle.core_state.specs.Logs.{after_last};
+ghost use Rattle.core_moves.specs.Code.Changes.{HoldsAt, IsCountable};
+ghost use Rattle.core_moves.specs.Cores.{AreReached};
+ghost use Rattle.core_moves.specs.Sights.{OfEach, reads_now, values_now};
+
+use crate::cores::Cores;
+use core_state::{CoreState, Logged};
+use policy_eval::{CoreValues, Env, holds};
+use policy_tree::Policy;
+use round_model::{Plan, choice, target};
+use sched_base::{CoreId, MAX_ATTRIBUTES, MAX_CORES, MAX_ENTRIES, Pos, Reads, ThreadId};
+
+impl Cores {
+    /// What a core that looks just now reads: of each core the position behind the last entry that touched it, or the
+    /// round's start where that is later.
+    pub fn fresh_reads(&self, plan: &Plan) -> Reads
+        requires { (p : Meaning) × Fits p plan.now × AreReached p plan.now self.now }
+        ensures { (p : Meaning) (core : ℕ) →
+            OfEach p plan.now self.now (λ history. result ≡ reads_now p plan.now history core) }
+    {
+        let mut reads = Reads::empty();
+        for core in 0..plan.cores {
+            reads.push(self.start().max(end_of(self.core(core).entries())));
+        }
+        reads
+    }
+
+    /// The blocked thread of the core that wakes next, if one may wake in that round.
+    pub fn due(&self, core: CoreId, round: u32) -> Option<ThreadId>
+        requires { core < length self.now.cores }
+        ensures { (p : Meaning) (plan : Plan) → OfEach p plan self.now (λ history. core < plan.cores →
+            result ≡ option_map (λ b. b.task.id) (waking_next round (after p plan history core))) }
+    {
+        self.core(core).due(round)
+    }
+
+    /// The choice of the core, by what it reads just now.
+    pub fn choice(&self, policy: &Policy, plan: &Plan, core: CoreId) -> Option<CoreId>
+        requires fits { Fits (meaning_of policy.now) plan.now }
+        requires handlers { MeetsHandlerObligations (meaning_of policy.now) }
+        requires reached { AreReached (meaning_of policy.now) plan.now self.now }
+        requires core { core < plan.now.cores }
+        ensures choice { OfEach (meaning_of policy.now) plan.now self.now (λ history. result ≡ choice_of
+            (meaning_of policy.now) plan.now.cores (values_now (meaning_of policy.now) plan.now history core) core) }
+        ensures there { IfSome result (λ v. v < plan.now.cores) }
+    {
+        let values = self.values(plan);
+        choice(policy, &values[..plan.cores as usize], core)
+    }
+
+    /// The core on which the core places a thread, by what it reads just now.
+    pub fn target(&self, policy: &Policy, plan: &Plan, core: CoreId) -> CoreId
+        requires fits { Fits (meaning_of policy.now) plan.now }
+        requires handlers { MeetsHandlerObligations (meaning_of policy.now) }
+        requires reached { AreReached (meaning_of policy.now) plan.now self.now }
+        requires core { core < plan.now.cores }
+        ensures { OfEach (meaning_of policy.now) plan.now self.now (λ history. target_of (meaning_of policy.now)
+            plan.now.cores (values_now (meaning_of policy.now) plan.now history core) core ≡ Some result) }
+    {
+        let values = self.values(plan);
+        target(policy, &values[..plan.cores as usize], core)
+    }
+
+    /// The thread that the core may take of the victim, as both are: the best of its queue, where the filter holds.
+    pub fn stealable(
+        &self,
+        policy: &Policy,
+        plan: &Plan,
+        core: CoreId,
+        victim: CoreId,
+    ) -> Option<ThreadId>
+        requires fits { Fits (meaning_of policy.now) plan.now }
+        requires handlers { MeetsHandlerObligations (meaning_of policy.now) }
+        requires reached { AreReached (meaning_of policy.now) plan.now self.now }
+        requires core { core < plan.now.cores }
+        requires victim { victim < plan.now.cores }
+        ensures { OfEach (meaning_of policy.now) plan.now self.now (λ history. (reads : List ℕ) →
+            attempt_on (meaning_of policy.now) plan.now (after (meaning_of policy.now) plan.now history) core reads victim
+            ≡ entry_with core victim reads result) }
+    {
+        if self.filter_holds(policy, plan, core, victim) {
+            self.core(victim).queue().best_for_steal(&policy.steal)
+        } else {
+            None
+        }
+    }
+
+    /// Whether the core may take of the victim, as both are.
+    fn filter_holds(&self, policy: &Policy, plan: &Plan, core: CoreId, victim: CoreId) -> bool
+        requires fits { Fits (meaning_of policy.now) plan.now }
+        requires handlers { MeetsHandlerObligations (meaning_of policy.now) }
+        requires reached { AreReached (meaning_of policy.now) plan.now self.now }
+        requires core { core < plan.now.cores }
+        requires victim { victim < plan.now.cores }
+        ensures { OfEach (meaning_of policy.now) plan.now self.now (λ history. result ≡ holds_at (pair_values
+            (present_values plan.now (after (meaning_of policy.now) plan.now history) core)
+            (present_values plan.now (after (meaning_of policy.now) plan.now history) victim))
+            (cond_tree policy.now.filter)) }
+    {
+        let own = self.present(plan, core);
+        let other = self.present(plan, victim);
+        holds(&policy.filter, &Env::of_pair(&own, &other))
+    }
+
+    /// What is to be seen of each core of the plan as it is.
+    fn values(&self, plan: &Plan) -> [CoreValues; MAX_CORES]
+        requires few { plan.now.cores ≤ MAX_CORES }
+        requires consts { length plan.now.consts ≡ plan.now.cores }
+        requires cores { length self.now.cores ≡ plan.now.cores }
+        requires countable { All IsCountable self.now.cores }
+        ensures len { length result ≡ MAX_CORES }
+        ensures each { (c : ℕ) → HoldsAt self.now.cores c
+            (λ y. values_in result c ≡ values_of plan.now c (seen_of y.core)) }
+    {
+        let mut values = [NO_VALUES; MAX_CORES];
+        for core in 0..plan.cores {
+            values[core as usize] = self.present(plan, core);
+        }
+        values
+    }
+
+    /// What is to be seen of the core as it is.
+    fn present(&self, plan: &Plan, core: CoreId) -> CoreValues
+        requires consts { core < length plan.now.consts }
+        requires core { core < length self.now.cores }
+        requires countable { All IsCountable self.now.cores }
+        ensures { HoldsAt self.now.cores core (λ y. result ≡ values_of plan.now core (seen_of y.core)) }
+    {
+        let state = self.core(core);
+        CoreValues {
+            nr: state.nr(),
+            load: state.load(),
+            consts: *plan.consts.get(core),
+        }
+    }
+}
+
+/// The position behind the last entry of a log, and 0 where the log is empty.
+fn end_of(log: &[Logged]) -> Pos
+    requires { after_last 0 log.now ≤ MAX_ENTRIES }
+    ensures { result ≡ after_last 0 log.now }
+{
+    if log.is_empty() {
+        return 0;
+    }
+    log[log.len() - 1].at + 1
+}
+
+/// What is known of a core that isn't there.
+const NO_VALUES: CoreValues = CoreValues {
+    nr: 0,
+    load: 0,
+    consts: [0; MAX_ATTRIBUTES],
+};
