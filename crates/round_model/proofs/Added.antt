@@ -142,7 +142,7 @@ or_one : (b : Bool) → (b || true) ≡ true
 or_one true = refl
 or_one false = refl
 
-flag_set : (flags : List Bool) (thread id : ℕ) → id < length flags → is_flagged (slice_set flags thread true) id ≡ (is_flagged flags id || eqb thread id)
+pub flag_set : (flags : List Bool) (thread id : ℕ) → id < length flags → is_flagged (slice_set flags thread true) id ≡ (is_flagged flags id || eqb thread id)
 flag_set flags thread id inside =
     elim (eqb thread id) as (λ b. eqb thread id ≡ b → is_flagged (slice_set flags thread true) id ≡ (is_flagged flags id || b)) [
       | true ↦ λ same. let one : thread ≡ id = grind (arith, nat_tests) in
@@ -150,14 +150,14 @@ flag_set flags thread id inside =
       | false ↦ λ apart. let other : id ≢ thread = grind (arith, nat_tests) in get_or-set_other flags thread id true false other ∙ sym (or_nothing (is_flagged flags id))
     ] refl
 
-flag_by : (what : Did) (flags : List Bool) (id : ℕ) → id < length flags → is_flagged (ended_by what flags) id ≡ (is_flagged flags id || is_ended id what)
+pub flag_by : (what : Did) (flags : List Bool) (id : ℕ) → id < length flags → is_flagged (ended_by what flags) id ≡ (is_flagged flags id || is_ended id what)
 flag_by did.Nothing flags id inside = sym (or_nothing (is_flagged flags id))
 flag_by (did.Kept thread) flags id inside = sym (or_nothing (is_flagged flags id))
 flag_by (did.Queued thread) flags id inside = sym (or_nothing (is_flagged flags id))
 flag_by (did.Blocked thread) flags id inside = sym (or_nothing (is_flagged flags id))
 flag_by (did.Ended thread) flags id inside = flag_set flags thread id inside
 
-flag_after : (e : Entry) (flags : List Bool) (id : ℕ) → id < length flags → is_flagged (ended_after e flags) id ≡ (is_flagged flags id || ends id e)
+pub flag_after : (e : Entry) (flags : List Bool) (id : ℕ) → id < length flags → is_flagged (ended_after e flags) id ≡ (is_flagged flags id || ends id e)
 flag_after (entry.Round number) flags id inside = sym (or_nothing (is_flagged flags id))
 flag_after (entry.Enter thread a at reads) flags id inside = sym (or_nothing (is_flagged flags id))
 flag_after (entry.Wake thread a at reads) flags id inside = sym (or_nothing (is_flagged flags id))

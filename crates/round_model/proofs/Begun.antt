@@ -37,7 +37,7 @@ all_begin old new [] same = refl
 all_begin old new (c ∷ cores) same = ap₂ (λ (t : Turn) (rest : List Turn). t ∷ rest) (sym (same c)) (all_begin old new cores same)
 
 -- of those who enter in the round, the ones by a core
-arriving_by : (round a : ℕ) (threads : List Planned)
+pub arriving_by : (round a : ℕ) (threads : List Planned)
     → filter (arrives_at a) (map arrival_of (filter (λ (t : Planned). t.round == round) threads)) ≡ map arrival_of (filter (is_entering round a []) threads)
 arriving_by round a [] = refl
 arriving_by round a (t ∷ threads) =

@@ -42,7 +42,7 @@ list_all-turns : (history : List Entry) (cores : List ℕ) → list_all (λ (tur
 list_all-turns history [] = refl
 list_all-turns history (c ∷ cores) = ap (λ rest. has_attempted (own_entries history c) && rest) (list_all-turns history cores)
 
-list_any-ended : (history : List Entry) (flags : List Bool) (threads : List Planned) → All (λ (t : Planned). is_flagged flags t.id ≡ has_ended history t) threads
+pub list_any-ended : (history : List Entry) (flags : List Bool) (threads : List Planned) → All (λ (t : Planned). is_flagged flags t.id ≡ has_ended history t) threads
     → list_any (λ (t : Planned). not (is_flagged flags t.id)) threads ≡ list_any (λ t. not (has_ended history t)) threads
 list_any-ended history flags [] same = refl
 list_any-ended history flags (t ∷ threads) same =

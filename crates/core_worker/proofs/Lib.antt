@@ -1,0 +1,7 @@
+pub mod Asking
+pub mod Attempting
+pub mod Beginning
+pub mod Noting
+pub mod Rounding
+pub mod Stepping
+pub mod Turning

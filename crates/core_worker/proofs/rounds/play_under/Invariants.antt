@@ -1,0 +1,10 @@
+use Rattle.std.proofs.Common.{◌≡◌, ◌<◌, ℕ}
+use Rattle.policy_tree.specs.Meaning.{meaning_of}
+use Rattle.round_model.specs.SerialEnds.{IsFull}
+use Rattle.round_model.specs.SerialRounds.{serial_rounds}
+use Rattle.core_worker.proofs.Rounding.{HasPlayed}
+use Rattle.core_worker.proofs.rounds.play_under.Given as goal
+
+-- so many rounds are played, each of which fitted
+abbrev pub invariant-loop-begun : goal.invariant-loop-begun
+invariant-loop-begun l = HasPlayed (meaning_of l.policy) l.plan l.begun l.run

@@ -1,0 +1,8 @@
+use Rattle.policy_tree.specs.Meaning.{meaning_of}
+use Rattle.round_model.proofs.SerialWholes.{turns_of}
+use Rattle.core_worker.specs.Runs.{Moves}
+use Rattle.core_worker.proofs.run.Run.end_turns.Given as goal
+
+-- the turns of the cores passed over are over
+abbrev pub invariant-loop-core : goal.invariant-loop-core
+invariant-loop-core l = Moves (meaning_of l.policy) l.plan (turns_of l.plan l.core) l.fn.self l.self

@@ -1,0 +1,8 @@
+use Rattle.std.proofs.Common.{All, ◌<◌, sym, subst}
+use Rattle.policy_tree.specs.Meaning.{meaning_of}
+use Rattle.round_model.proofs.SerialWholes.{ordered_there}
+use Rattle.core_worker.proofs.run.Run.take_ordered.Goals as goal
+
+pub take_steps-requires-clause-cores : goal.take_steps-requires-clause-cores
+take_steps-requires-clause-cores c =
+    subst (All (λ core. core < c.args.plan.now.cores)) (sym c.ordered_cores.ensures) (ordered_there (meaning_of c.args.policy.now) c.args.plan.now c.args.number c.requires.fits)

@@ -1,0 +1,82 @@
+//! What a core decides by the cores as they are: where it places a thread, and what its attempt comes to.
+
+ghost use Rattle.std.specs.Prelude.{◌≡◌, ◌<◌, IsTrue, Some};
+ghost use Rattle.policy_tree.specs.Meaning.{meaning_of};
+ghost use Rattle.policy_eval.specs.Obligations.{MeetsHandlerObligations};
+ghost use Rattle.round_model.specs.After.{after};
+ghost use Rattle.round_model.specs.Attempts.{attempt_with};
+ghost use Rattle.round_model.specs.Choices.{target_of};
+ghost use Rattle.round_model.specs.Code.Outcomes.{values_at};
+ghost use Rattle.round_model.specs.Code.Turns.{placement_by};
+ghost use Rattle.round_model.specs.Entries.{acting_core};
+ghost use Rattle.round_model.specs.Fits.{Fits};
+ghost use Rattle.round_model.specs.Kinds.{is_attempt};
+ghost use Rattle.round_model.specs.Serial.{SerialState};
+ghost use Rattle.core_moves.specs.Sights.{reads_now};
+ghost use Rattle.core_worker.specs.Runs.{HasLooked, IsAt, IsMoment};
+
+use crate::run::Run;
+use crate::turn::Look;
+use policy_tree::{PlaceRule, Policy};
+use round_model::{Entry, Plan};
+use sched_base::{CoreId, Reads};
+
+impl Run {
+    /// Where the core places a thread just now, and what it reads for that.
+    pub(crate) fn placement(&self, policy: &Policy, plan: &Plan, core: CoreId) -> (CoreId, Reads)
+        requires fits { Fits (meaning_of policy.now) plan.now }
+        requires handlers { MeetsHandlerObligations (meaning_of policy.now) }
+        requires at { IsAt (meaning_of policy.now) plan.now (λ s. Unit {0}) self.now }
+        requires core { core < plan.now.cores }
+        ensures reads { (s : SerialState) → IsMoment (meaning_of policy.now) plan.now self.now s → result.1
+            ≡ placement_by (meaning_of policy.now).place (reads_now (meaning_of policy.now) plan.now s.history core) }
+        ensures target { (s : SerialState) → IsMoment (meaning_of policy.now) plan.now self.now s →
+            target_of (meaning_of policy.now) plan.now.cores
+            (values_at (meaning_of policy.now) plan.now s.history result.1) core ≡ Some result.0 }
+    {
+        match &policy.place {
+            PlaceRule::Here => (core, Reads::empty()),
+            PlaceRule::Least(_) => (
+                self.cores.target(policy, plan, core),
+                self.cores.fresh_reads(plan),
+            ),
+        }
+    }
+
+    /// The attempt of the core by that look: the cores as they are decide what comes of its choice.
+    pub(crate) fn attempt_entry(
+        &self,
+        policy: &Policy,
+        plan: &Plan,
+        core: CoreId,
+        look: Look,
+    ) -> Entry
+        requires fits { Fits (meaning_of policy.now) plan.now }
+        requires handlers { MeetsHandlerObligations (meaning_of policy.now) }
+        requires at { IsAt (meaning_of policy.now) plan.now (HasLooked (meaning_of policy.now) plan.now core look) self.now }
+        requires core { core < plan.now.cores }
+        ensures kind { IsTrue (is_attempt result) }
+        ensures acts { acting_core result ≡ Some core }
+        ensures attempt { (s : SerialState) → IsMoment (meaning_of policy.now) plan.now self.now s →
+            result ≡ attempt_with (meaning_of policy.now) plan.now (after (meaning_of policy.now) plan.now s.history)
+            core look.reads look.choice }
+    {
+        let reads = look.reads;
+        match look.choice {
+            None => Entry::Pass { by: core, reads },
+            Some(from) => match self.cores.stealable(policy, plan, core, from) {
+                None => Entry::Fail {
+                    by: core,
+                    from,
+                    reads,
+                },
+                Some(thread) => Entry::Steal {
+                    by: core,
+                    from,
+                    thread,
+                    reads,
+                },
+            },
+        }
+    }
+}
