@@ -1,5 +1,5 @@
 -- What a wake and a steal make of the cores: a thread leaves one core and comes to another, which may be the same.
-use Rattle.std.proofs.Common.{◌≡◌, ℕ, eqb, Bool, cond, true, false, ◌||◌, List, Option, Some, refl, sym, ap, ◌∙◌, subst, arith}
+use Rattle.std.proofs.Common.{◌≡◌, ℕ, eqb, Bool, cond, true, false, ◌||◌, List, Some, refl, sym, ap, ◌∙◌, arith}
 use Rattle.std.proofs.lemmas.Bool.Decides.{nat_tests}
 use Rattle.sched_base.specs.declared.task.Task.{Task}
 use Rattle.policy_tree.specs.Meaning.{Meaning}

@@ -1,5 +1,5 @@
 -- What a legal entry names is there: the thread that enters, that wakes or that is stolen, and the cores that it touches.
-use Rattle.std.proofs.Common.{◌≡◌, ℕ, zero, suc, ◌<◌, ◌==◌, Bool, cond, true, false, List, [], ◌∷◌, find, get_or, length, Contains, IfSome, IsSome, is_some, Option, Some, None, refl, sym, ap, ◌∙◌, subst, arith}
+use Rattle.std.proofs.Common.{◌≡◌, ℕ, zero, suc, ◌<◌, ◌==◌, Bool, cond, true, false, List, [], ◌∷◌, find, get_or, length, IsSome, is_some, Option, Some, None, refl, sym, ap, ◌∙◌, subst, arith}
 use Rattle.std.specs.Prelude.{IsSomeAnd}
 use Rattle.std.proofs.lemmas.Bool.Decides.{nat_tests}
 use Rattle.sched_base.specs.declared.task.Task.{Task}
@@ -34,9 +34,9 @@ also_found first second (y ∷ ys) x is passes =
     elim (second y) as (λ b. second y ≡ b → IsSome (cond b (Some y) (find second ys))) [
       | true ↦ λ e. refl
       | false ↦ λ e. elim (first y) as (λ a. cond a (Some y) (find first ys) ≡ Some x → IsSome (find second ys)) [
-          | true ↦ λ found. let same : y ≡ x = cc in let both : false ≡ true = sym e ∙ (ap second same ∙ passes) in absurd (cc)
-          | false ↦ λ found. also_found first second ys x found passes
-        ] is
+        | true ↦ λ found. let same : y ≡ x = cc in let both : false ≡ true = sym e ∙ (ap second same ∙ passes) in absurd (cc)
+        | false ↦ λ found. also_found first second ys x found passes
+      ] is
     ] refl
 
 there_found : {X : Type 0} (test : X → Bool) (xs : List X) (x : X) (at : ℕ) → at < length xs → get_or xs at x ≡ x → test x ≡ true → IsSome (find test xs)

@@ -1,5 +1,5 @@
 -- What is read at the fresh reads is what is there now.
-use Rattle.std.proofs.Common.{◌≡◌, ℕ, suc, ◌+◌, ◌<◌, ◌≤◌, ◌⊎◌, inl, inr, ⊎_elim, max, Bool, cond, true, false, List, [], ◌∷◌, ◌++◌, length, map, get_or, take, drop, fold, slice_index, refl, sym, ap, ◌∙◌, subst, arith}
+use Rattle.std.proofs.Common.{◌≡◌, ℕ, suc, ◌+◌, ◌<◌, ◌≤◌, ◌⊎◌, inl, inr, ⊎_elim, max, Bool, cond, true, false, List, [], ◌∷◌, ◌++◌, length, take, drop, slice_index, refl, sym, ap, ◌∙◌, arith}
 use Rattle.std.proofs.lemmas.List.{append-nil, length-take, take-append-drop, take-take}
 use Rattle.std.proofs.lemmas.List.FromFn.{get_or-map-range_with_len}
 use Rattle.policy_tree.specs.Meaning.{Meaning}
@@ -8,7 +8,7 @@ use Rattle.round_model.specs.declared.plan.Plan.{Plan}
 use Rattle.round_model.specs.After.{after}
 use Rattle.round_model.specs.Cores.{seen_of}
 use Rattle.round_model.specs.Entries.{touches}
-use Rattle.round_model.specs.FreshReads.{fresh_reads, touched_from}
+use Rattle.round_model.specs.FreshReads.{touched_from}
 use Rattle.round_model.specs.Reads.{round_start, values_of}
 use Rattle.round_model.specs.Scenes.{scene_of}
 use Rattle.round_model.proofs.Longer.{start_within}

@@ -1,11 +1,10 @@
 -- What the calls of a core ask, of the cores that a legal history leaves.
-use Rattle.std.proofs.Common.{◌≡◌, ℕ, zero, suc, ◌+◌, ◌<◌, ◌≤◌, eqb, Bool, cond, true, false, List, [], ◌∷◌, ◌++◌, length, find, count_by, All, IfSome, IsSome, Option, Some, None, option_to_list, refl, sym, ap, ◌∙◌, subst, arith}
+use Rattle.std.proofs.Common.{◌≡◌, ℕ, ◌+◌, ◌<◌, ◌≤◌, eqb, Bool, cond, true, false, List, [], ◌∷◌, ◌++◌, length, find, count_by, IsSome, Option, Some, None, option_to_list, refl, ap, arith}
 use Rattle.std.specs.Prelude.{IsSomeAnd}
 use Rattle.std.proofs.lemmas.Bool.Decides.{nat_tests}
 use Rattle.std.proofs.lemmas.List.{length-append}
 use Rattle.std.proofs.lemmas.List.Sums.{sum_by-cons}
-use Rattle.sched_base.specs.declared.limits.TheConstants.{MAX_ROUNDS, MAX_THREADS}
-use Rattle.sched_base.specs.declared.task.Task.{Task}
+use Rattle.sched_base.specs.declared.limits.TheConstants.{MAX_ROUNDS}
 use Rattle.policy_tree.specs.Meaning.{Meaning}
 use Rattle.policy_eval.specs.Fitting.{CoreFits}
 use Rattle.policy_eval.specs.Obligations.{MeetsHandlerObligations}
@@ -21,9 +20,8 @@ use Rattle.round_model.specs.Bounds.{standing_count, standing_total}
 use Rattle.round_model.specs.BoundsLaws.{IsBounded, is_awaited}
 use Rattle.round_model.specs.Code.Kept.{Holds}
 use Rattle.round_model.specs.Code.Updates.{updated}
-use Rattle.round_model.specs.Cores.{Cores, seen_of, tasks_of, thread_count}
+use Rattle.round_model.specs.Cores.{Cores, seen_of}
 use Rattle.round_model.specs.Fits.{Fits}
-use Rattle.round_model.specs.Kinds.{is_round}
 use Rattle.round_model.specs.Legal.{Legal, LegalNext, rounds_begun}
 use Rattle.round_model.specs.Reads.{values_of}
 use Rattle.round_model.specs.Rows.{Row}
@@ -36,7 +34,7 @@ use Rattle.round_model.proofs.Histories.{legal_induction, open_round}
 use Rattle.round_model.proofs.Keeping.{bounds_hold, stays_after}
 use Rattle.round_model.proofs.Longer.{begun_more}
 use Rattle.round_model.proofs.Totals.{total_has, total_is}
-use Rattle.core_state.specs.Views.{CoreView, HasRoom, HasRoomForAll}
+use Rattle.core_state.specs.Views.{HasRoom}
 use Rattle.core_moves.specs.Code.Changes.{CanAdmit, CanRun, IsCountable}
 use Rattle.core_moves.specs.Cores.{shown}
 

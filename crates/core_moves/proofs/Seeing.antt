@@ -1,6 +1,5 @@
 -- What a core sees of the cores that a legal history left.
-use Rattle.std.proofs.Common.{◌≡◌, ℕ, ◌<◌, ◌≤◌, List, All, length, take, sym, ap, ◌∙◌, subst, arith}
-use Rattle.std.proofs.lemmas.List.{length-take}
+use Rattle.std.proofs.Common.{◌≡◌, ℕ, ◌<◌, ◌≤◌, List, All, length, take, sym, ◌∙◌, subst, arith}
 use Rattle.sched_base.specs.declared.limits.TheConstants.{MAX_CORES, MAX_ENTRIES}
 use Rattle.policy_tree.specs.Meaning.{Meaning}
 use Rattle.policy_eval.specs.declared.env.CoreValues.{CoreValues}
@@ -13,7 +12,7 @@ use Rattle.round_model.specs.Choices.{values_in}
 use Rattle.round_model.specs.Cores.{seen_of}
 use Rattle.round_model.specs.Fits.{Fits}
 use Rattle.round_model.specs.Reads.{values_of}
-use Rattle.round_model.proofs.Outcomes.{values_All, values_in-take}
+use Rattle.round_model.proofs.Outcomes.{values_All}
 use Rattle.core_state.specs.Logs.{after_last}
 use Rattle.core_state.specs.Views.{CoreView}
 use Rattle.core_state.proofs.Quiet.{last_within}

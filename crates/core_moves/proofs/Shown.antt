@@ -1,8 +1,8 @@
 -- Cores that show those of the model: one of them changed, and an entry more in their logs.
-use Rattle.std.proofs.Common.{◌≡◌, ◌≢◌, ℕ, suc, ◌+◌, ◌<◌, ◌≤◌, eqb, Bool, cond, true, false, List, [], ◌∷◌, ◌++◌, All, length, map, get_or, set, slice_get, Some, get_or-set_same, get_or-set_other, refl, sym, ap, ap₂, ◌∙◌, subst, arith}
+use Rattle.std.proofs.Common.{◌≡◌, ◌≢◌, ℕ, suc, ◌+◌, ◌<◌, ◌≤◌, eqb, Bool, cond, true, false, List, [], ◌∷◌, ◌++◌, All, length, get_or, set, slice_get, Some, get_or-set_same, get_or-set_other, refl, sym, ap, ap₂, ◌∙◌, subst, arith}
 use Rattle.std.proofs.Math.ListN.{length-set}
 use Rattle.std.proofs.lemmas.Bool.Decides.{nat_tests}
-use Rattle.std.proofs.lemmas.List.{append-nil, length_push, length-append}
+use Rattle.std.proofs.lemmas.List.{append-nil, length_push}
 use Rattle.std.proofs.lemmas.List.FromFn.{fill_by_all, get_or-map-range_with_len, length-map-range_with_len}
 use Rattle.std.proofs.lemmas.Option.{get_or_from_slice_get}
 use Rattle.sched_base.specs.declared.limits.TheConstants.{MAX_ENTRIES}
@@ -13,20 +13,19 @@ use Rattle.round_model.specs.declared.plan.Plan.{Plan}
 use Rattle.round_model.specs.declared.state.ModelCore.{ModelCore}
 use Rattle.round_model.specs.After.{after, moved, round_of}
 use Rattle.round_model.specs.Code.Updates.{updated}
-use Rattle.round_model.specs.Cores.{Cores, core_numbers}
+use Rattle.round_model.specs.Cores.{Cores}
 use Rattle.round_model.specs.Entries.{touches}
 use Rattle.round_model.specs.Fits.{Fits}
 use Rattle.round_model.specs.Kinds.{is_round}
-use Rattle.round_model.specs.Reads.{round_start}
 use Rattle.round_model.proofs.Grows.{one_more}
 use Rattle.round_model.proofs.Keeping.{some_at}
 use Rattle.round_model.proofs.Longer.{start_of_round, start_stays}
 use Rattle.core_state.specs.declared.logged.Logged.{Logged}
-use Rattle.core_state.specs.Logs.{after_last, log_of, logged, logged_from, round_log}
+use Rattle.core_state.specs.Logs.{log_of, logged, logged_from, round_log}
 use Rattle.core_state.specs.Views.{CoreView}
 use Rattle.core_state.proofs.Logs.{log_grows}
 use Rattle.core_state.proofs.Quiet.{last_within}
-use Rattle.core_moves.specs.Code.Changes.{AreNoted, CanLog, HoldsAt, noted, with_entry}
+use Rattle.core_moves.specs.Code.Changes.{AreNoted, CanLog, HoldsAt, noted}
 use Rattle.core_moves.specs.Cores.{AreCoresOf, CoresView, Shows, shown}
 
 -- what stands in a place of a list

@@ -1,35 +1,22 @@
 -- A core runs its unit: what each step asks, and what they come to.
-use Rattle.std.proofs.Common.{◌≡◌, ℕ, ◌+◌, ◌<◌, ◌≤◌, List, [], ◌∷◌, ◌++◌, All, IsSome, Option, Some, length, option_map, true, refl, sym, ap, subst, ◌∙◌, arith}
+use Rattle.std.proofs.Common.{ℕ, ◌<◌, ◌≤◌, List, All, length, ap, ◌∙◌, arith}
 use Rattle.sched_base.specs.declared.limits.TheConstants.{MAX_ENTRIES, MAX_ROUNDS}
-use Rattle.sched_base.specs.declared.task.Task.{Task}
 use Rattle.policy_tree.specs.Meaning.{Meaning}
-use Rattle.policy_eval.specs.Fitting.{IsTask}
 use Rattle.policy_eval.specs.Obligations.{MeetsHandlerObligations}
-use Rattle.policy_eval.proofs.Wide.{thread_wide}
 use Rattle.round_model.specs.declared.entry.Did.{Did}
 use Rattle.round_model.specs.declared.entry.Entry.{Entry}
 use Rattle.round_model.specs.declared.entry.Entry.TheVariants as entry
 use Rattle.round_model.specs.declared.plan.Plan.{Plan}
-use Rattle.round_model.specs.declared.plan.Planned.{Planned}
-use Rattle.round_model.specs.declared.state.Blocked.{Blocked}
 use Rattle.round_model.specs.After.{after, round_of}
-use Rattle.round_model.specs.Bounds.{standing_count}
 use Rattle.round_model.specs.Code.Updates.{updated}
 use Rattle.round_model.specs.Cores.{Cores}
 use Rattle.round_model.specs.Fits.{Fits}
-use Rattle.round_model.specs.Moves.{admitted, blocked_of, handed, queued_of, received, released}
-use Rattle.round_model.specs.Programs.{entering_task, planned_of}
 use Rattle.round_model.specs.Work.{IsOutcomeOfWork, core_after_work}
-use Rattle.round_model.proofs.Keeping.{entering_fits, holds_handed, holds_released, queued_fits, standing_handed, standing_released}
-use Rattle.round_model.proofs.Moved.{blocked_found, blocked_task_fits, moved_enter, moved_work}
-use Rattle.round_model.proofs.There.{are_there}
-use Rattle.run_queue.specs.Tasks.{IsSeenTask}
-use Rattle.core_moves.specs.Code.Changes.{Becomes, CanAdmit, CanLog, CanRun, HoldsAt, Notes}
-use Rattle.core_moves.specs.Cores.{AreCoresOf, CoresView, Shows, shown}
-use Rattle.core_moves.specs.Moves.{MayMove, MayWork, Works}
-use Rattle.core_moves.proofs.Effects.{steals, wakes}
-use Rattle.core_moves.proofs.Found.{enter_planned, steal_queued, wake_blocked}
-use Rattle.core_moves.proofs.Reached.{can_admit, can_enter, can_run, core_holds, room_after, round_within}
+use Rattle.round_model.proofs.Moved.{moved_work}
+use Rattle.core_moves.specs.Code.Changes.{Becomes, CanLog, CanRun, HoldsAt, Notes}
+use Rattle.core_moves.specs.Cores.{CoresView, Shows, shown}
+use Rattle.core_moves.specs.Moves.{MayWork, Works}
+use Rattle.core_moves.proofs.Reached.{can_run, round_within}
 use Rattle.core_moves.proofs.Shown.{can_log, entries_fit, holds_shown, shown_after, shown_count, shown_some}
 
 module _ (p : Meaning) (plan : Plan) (h : List Entry) (core round : ℕ) (old : CoresView) (may : MayWork p plan h core round old) where

@@ -1,6 +1,6 @@
 //! All cores of a plan.
 
-ghost use Rattle.std.specs.Prelude.{◌≡◌, ◌<◌, ◌≤◌, ℕ, [], IfOk, List, Some, length, slice_get, vec_len, vec_capacity, map};
+ghost use Rattle.std.specs.Prelude.{◌≡◌, ◌<◌, ◌≤◌, [], IfOk, List, Some, length, map, slice_get, vec_len};
 ghost use Rattle.policy_tree.specs.Meaning.{Meaning, meaning_of};
 ghost use Rattle.core_state.specs.Logs.{LogsOf};
 ghost use Rattle.round_model.specs.declared.entry.Entry.{Entry};
@@ -8,6 +8,7 @@ ghost use Rattle.round_model.specs.declared.plan.Plan.{Plan};
 ghost use Rattle.round_model.specs.Cores.{core_numbers};
 ghost use Rattle.round_model.specs.Fits.{Fits};
 ghost use Rattle.round_model.specs.Legal.{Legal};
+ghost use Rattle.core_moves.specs.Cores.{AreCoresOf, core_view};
 
 use core_state::{Closed, CoreState, Logged, StateMemory};
 use policy_tree::Policy;
@@ -50,8 +51,6 @@ impl Model for Cores {
 }
 
 impl Cores {
-    ghost use Rattle.core_moves.specs.Cores.{AreCoresOf};
-
     /// The cores before the first entry. Each has room for all threads, and each log for all entries.
     pub fn open(alloc: Global, policy: &Policy, plan: &Plan) -> Result<Cores, StateMemory>
         requires { Fits (meaning_of policy.now) plan.now }
@@ -97,8 +96,6 @@ impl Cores {
         Closed::new(cores, rounds)
     }
 }
-
-ghost use Rattle.core_moves.specs.Cores.{core_view};
 
 /// Each core of the plan before the first entry.
 fn open_all(alloc: Global, policy: &Policy, plan: &Plan) -> Result<Vec<CoreState>, StateMemory>

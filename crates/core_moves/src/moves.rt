@@ -1,6 +1,6 @@
 //! How each kind of entry moves the cores.
 
-ghost use Rattle.std.specs.Prelude.{◌≡◌, ◌<◌, IsTrue, length};
+ghost use Rattle.std.specs.Prelude.{IsTrue};
 ghost use Rattle.policy_tree.specs.Meaning.{Meaning, meaning_of};
 ghost use Rattle.policy_eval.specs.Obligations.{MeetsHandlerObligations};
 ghost use Rattle.round_model.specs.declared.entry.Entry.TheVariants as entry;
@@ -111,7 +111,10 @@ impl Cores {
     {
         match entry {
             Entry::Steal {
-                by, from, thread, ..
+                by,
+                from,
+                thread,
+                ..
             } => {
                 let task = self.hand_over(*from, *thread);
                 self.receive(*by, task);

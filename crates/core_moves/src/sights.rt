@@ -1,7 +1,7 @@
 //! What a core sees of the cores as they are.
 
-ghost use Rattle.std.specs.Prelude.{◌≡◌, ◌<◌, ◌≤◌, ℕ, All, IfSome, List, Some, length, option_map, slice_get};
-ghost use Rattle.policy_tree.specs.Meaning.{Meaning, meaning_of, order_tree};
+ghost use Rattle.std.specs.Prelude.{◌≡◌, ◌<◌, ◌≤◌, ℕ, All, IfSome, List, Some, length, option_map};
+ghost use Rattle.policy_tree.specs.Meaning.{Meaning, meaning_of};
 ghost use Rattle.policy_tree.specs.Trees.{cond_tree};
 ghost use Rattle.policy_eval.specs.Obligations.{MeetsHandlerObligations};
 ghost use Rattle.policy_eval.specs.Sights.{pair_values};
@@ -21,7 +21,7 @@ ghost use Rattle.core_moves.specs.Cores.{AreReached};
 ghost use Rattle.core_moves.specs.Sights.{OfEach, reads_now, values_now};
 
 use crate::cores::Cores;
-use core_state::{CoreState, Logged};
+use core_state::Logged;
 use policy_eval::{CoreValues, Env, holds};
 use policy_tree::Policy;
 use round_model::{Plan, choice, target};
@@ -91,8 +91,8 @@ impl Cores {
         requires reached { AreReached (meaning_of policy.now) plan.now self.now }
         requires core { core < plan.now.cores }
         requires victim { victim < plan.now.cores }
-        ensures { OfEach (meaning_of policy.now) plan.now self.now (λ history. (reads : List ℕ) →
-            attempt_on (meaning_of policy.now) plan.now (after (meaning_of policy.now) plan.now history) core reads victim
+        ensures { OfEach (meaning_of policy.now) plan.now self.now (λ history. (reads : List ℕ) → attempt_on
+            (meaning_of policy.now) plan.now (after (meaning_of policy.now) plan.now history) core reads victim
             ≡ entry_with core victim reads result) }
     {
         if self.filter_holds(policy, plan, core, victim) {

@@ -1,5 +1,4 @@
 use Rattle.std.proofs.Common.{◌≡◌, ℕ, ◌<◌, ◌≤◌, length, slice_get, Some}
-use Rattle.core_state.specs.Views.{CoreView}
 use Rattle.core_moves.specs.Code.Changes.{HoldsAt, noted}
 use Rattle.core_moves.proofs.changes.note_all.Given as goal
 

@@ -1,4 +1,4 @@
-use Rattle.std.proofs.Common.{◌≡◌, ◌+◌, ap₂, ◌∙◌, sym, [], ◌∷◌, ◌++◌, List, refl, arith}
+use Rattle.std.proofs.Common.{ap₂, ◌∙◌, sym, [], ◌∷◌, ◌++◌, List, arith}
 use Rattle.std.proofs.lemmas.List.FromFn.{map-range_with_len_more}
 use Rattle.policy_tree.specs.Meaning.{meaning_of}
 use Rattle.round_model.specs.After.{after_from}

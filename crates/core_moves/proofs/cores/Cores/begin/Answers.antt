@@ -1,12 +1,11 @@
 use Rattle.std.proofs.Common.{List, ◌+◌, ap, ap₂, subst, length, ◌<◌, ◌∙◌, vec_capacity, arith, ◌++◌, ◌∷◌, [], ℕ}
-use Rattle.sched_base.specs.declared.limits.TheConstants.{MAX_ENTRIES}
 use Rattle.round_model.specs.declared.entry.Entry.TheVariants as entry
 use Rattle.round_model.specs.After.{after, round_of}
 use Rattle.round_model.proofs.Moved.{unmoved_round}
 use Rattle.core_state.specs.declared.logged.Logged.{Logged}
 use Rattle.core_state.specs.Logs.{logged}
 use Rattle.core_moves.specs.Cores.{CoresView}
-use Rattle.core_moves.proofs.Shown.{entries_fit, rounds_fit, shown_after, shown_begun}
+use Rattle.core_moves.proofs.Shown.{rounds_fit, shown_after, shown_begun}
 use Rattle.core_moves.proofs.cores.Cores.begin.Goals as goal
 
 pub push_reserved-requires : goal.push_reserved-requires

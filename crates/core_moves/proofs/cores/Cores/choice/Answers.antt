@@ -1,4 +1,4 @@
-use Rattle.std.proofs.Common.{◌≡◌, ◌∙◌, ap, sym, length, take, arith}
+use Rattle.std.proofs.Common.{◌≡◌, ◌∙◌, ap, length, take, arith}
 use Rattle.std.proofs.lemmas.List.{length-take}
 use Rattle.policy_tree.specs.Meaning.{meaning_of}
 use Rattle.round_model.specs.Choices.{choice_of, values_in}

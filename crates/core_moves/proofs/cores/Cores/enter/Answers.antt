@@ -1,4 +1,4 @@
-use Rattle.std.proofs.Common.{Some, ◌≡◌, ap, ◌∙◌, sym, subst, is_some, false}
+use Rattle.std.proofs.Common.{◌≡◌, ap, sym, subst, is_some, false}
 use Rattle.policy_tree.specs.Meaning.{meaning_of}
 use Rattle.policy_eval.specs.Fitting.{IsTask}
 use Rattle.round_model.specs.Programs.{planned_of}

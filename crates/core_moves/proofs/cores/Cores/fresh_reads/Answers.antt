@@ -1,7 +1,6 @@
-use Rattle.std.proofs.Common.{◌≡◌, ℕ, ◌+◌, max, List, map, [], ◌∷◌, ◌++◌, length, sym, ap, ap₂, ◌∙◌, subst, arith}
+use Rattle.std.proofs.Common.{◌≡◌, ℕ, max, List, map, [], ◌∷◌, ◌++◌, length, sym, ap, ap₂, ◌∙◌, arith}
 use Rattle.std.specs.List.{range_with_len}
 use Rattle.std.proofs.lemmas.List.FromFn.{length-map-range_with_len, map-range_with_len_more}
-use Rattle.sched_base.specs.declared.limits.TheConstants.{MAX_ENTRIES}
 use Rattle.round_model.specs.After.{after}
 use Rattle.round_model.specs.FreshReads.{touched_from}
 use Rattle.round_model.specs.Reads.{round_start}

@@ -1,4 +1,4 @@
-use Rattle.std.proofs.Common.{◌≡◌, ℕ, List, map, max}
+use Rattle.std.proofs.Common.{◌≡◌, List, map, max}
 use Rattle.std.specs.List.{range_with_len}
 use Rattle.policy_tree.specs.Meaning.{Meaning}
 use Rattle.round_model.specs.declared.entry.Entry.{Entry}
