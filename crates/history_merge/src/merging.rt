@@ -10,7 +10,7 @@ use core_state::{Closed, Logged};
 use round_model::History;
 use std::alloc::Global;
 
-/// The one history of which these are the logs. Its memory is taken at once; for `2^32` entries there is none.
+/// The one history of which these are the logs. Its memory is taken at once; for `2^32` entries or more there is none.
 pub fn merge(alloc: Global, closed: &Closed) -> Result<History, HistoryMemory>
     requires { AreLogsOfOne closed.now }
     ensures { IfOk result (λ history. LogsOf history closed.now) }
