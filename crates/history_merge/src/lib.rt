@@ -1,7 +1,7 @@
 //! The logs of all cores back into the one history that they are of.
 //!
-//! Each log is walked by a cursor. At each position of the history some log's cursor stands at the entry of that position,
-//! and it is passed in each log that has it.
+//! Each log is walked by a cursor. At each position of the history some log's cursor stands at the entry there, and
+//! each cursor that stands at it passes it.
 #![tactic(auto)]
 
 pub mod cursors;

@@ -6,7 +6,8 @@ ghost use Rattle.policy_tree.specs.Meaning.{meaning_of};
 ghost use Rattle.core_state.specs.Views.{HasRoom};
 ghost use Rattle.model_tests.specs.Plans.{thread as planned_thread};
 ghost use Rattle.model_tests.specs.Policies.{basic};
-ghost use Rattle.runtime_tests.specs.Stages.{IsReady, IsSmall, after_unit, at_burst, both_queued, empty, one_blocked, one_blocks, one_woke, two_came, two_left, two_runs};
+ghost use Rattle.runtime_tests.specs.Stages.{IsReady, IsSmall, after_unit, at_burst, one_blocks};
+ghost use Rattle.runtime_tests.specs.Stages.{both_queued, empty, one_blocked, one_woke, two_came, two_left, two_runs};
 
 use core_state::{CoreState, StateMemory};
 use model_tests::builders::basic_policy;
