@@ -4,13 +4,12 @@ use Rattle.round_model.specs.declared.entry.Entry.{Entry}
 use Rattle.round_model.specs.declared.plan.Plan.{Plan}
 use Rattle.round_model.specs.SerialRounds.{serial_history}
 use Rattle.serial_play.specs.Rounds.{EndsWhole}
-use Rattle.job_trace.specs.declared.trace.Numbered.{Numbered}
 use Rattle.job_trace.specs.Plans.{plan_of}
 use Rattle.sched_report.specs.declared.rows.Totals.{Totals}
 use Rattle.sched_report.specs.Reports.{totals_of}
 use Rattle.sched_report.specs.RoundRows.{round_rows}
 use Rattle.fair_policy.specs.Fair.{fair_meaning}
-use Rattle.bench_play.specs.declared.bench.BenchTotals.{BenchTotals}
+use Rattle.bench_play.specs.declared.playing.BenchTotals.{BenchTotals}
 use Rattle.bench_play.specs.Bench.{IsBench, IsMadePlan, OneBenchLaw}
 
 -- the totals of a history of that plan
@@ -33,4 +32,7 @@ one_bench seed size one other is also =
     let same = one_plan seed size is.plan also.plan is.planned also.planned in
     let totals : one.totals ≡ other.totals = is.totals ∙ (ap (λ (plan : Plan). totals_in plan (serial_history fair_meaning plan)) same ∙ sym also.totals) in
     let threads : one.threads ≡ other.threads = is.threads ∙ sym also.threads in
-    ap₂ (λ (n : ℕ) (t : Totals). record BenchTotals { threads = n; totals = t }) threads totals
+    ap₂ told threads totals
+  where
+    told : ℕ → Totals → BenchTotals
+    told n t = record { threads = n; totals = t }

@@ -1,6 +1,6 @@
 -- Legal histories have no more entries than their rounds may have: a round's beginning makes at most so many due, and
 -- each further entry is one of those.
-use Rattle.std.proofs.Common.{◌≡◌, ◌∙◌, ℕ, ◌+◌, ◌*◌, ◌<◌, ◌≤◌, false, ◌&&◌, nat_lt, Bool, true, zero, suc, map, List, [], ◌∷◌, ◌++◌, Some, length, ap, refl, arith}
+use Rattle.std.proofs.Common.{◌≡◌, ◌∙◌, ℕ, ◌+◌, ◌*◌, ◌<◌, ◌≤◌, false, ◌&&◌, not, nat_lt, Bool, true, zero, suc, map, List, [], ◌∷◌, ◌++◌, Some, length, ap, refl, arith}
 use Rattle.std.specs.Prelude.{sum}
 use Rattle.std.proofs.Math.Nat.{mul-le-mul_right}
 use Rattle.std.proofs.lemmas.Bool.Decides.{nat_tests}
@@ -13,7 +13,6 @@ use Rattle.round_model.specs.declared.entry.Entry.TheVariants as entry
 use Rattle.round_model.specs.declared.plan.Plan.{Plan}
 use Rattle.round_model.specs.Entries.{acting_core}
 use Rattle.round_model.specs.Fits.{Fits}
-use Rattle.round_model.specs.Kinds.{is_round}
 use Rattle.round_model.specs.Legal.{IsDue, Legal, LegalNext, has_ended, is_due, rounds_begun}
 use Rattle.round_model.specs.Owed.{owed, owed_total}
 use Rattle.round_model.specs.Rows.{Row}
@@ -85,7 +84,8 @@ pub room_suffices : RoomSufficesLaw
 room_suffices p plan h fits handlers room legal full =
     let most = most_entries plan in
     let bound = entry_bound p plan h fits handlers legal in
-    let begun : rounds_begun h + 1 ≤ plan.rounds = due_begun plan h full.due in
+    let fewer = due_begun plan h full.due in
+    let begun : rounds_begun h + 1 ≤ plan.rounds = omega arith in
     let all : (rounds_begun h + 1) * most ≤ plan.rounds * most = mul-le-mul_right most begun in
     let over = full.full in
     absurd (omega (arith, times_more (rounds_begun h) most))

@@ -1,5 +1,5 @@
 -- The plan of a made trace: each line fits the policy, each thread is there, and the limit has room for all rounds.
-use Rattle.std.proofs.Common.{◌≡◌, ◌∙◌, ℕ, zero, suc, ◌+◌, ◌*◌, ◌/◌, ◌%◌, ltb, eqb, false, List, [], ◌∷◌, ◌++◌, filter_map, length, Option, None, Ok, ap, refl, sym, arith}
+use Rattle.std.proofs.Common.{◌≡◌, ◌∙◌, ℕ, zero, suc, ◌+◌, ◌*◌, ◌/◌, ◌%◌, ltb, eqb, false, List, [], ◌∷◌, ◌++◌, length, Option, Some, None, Ok, ap, ap₂, refl, sym, arith}
 use Rattle.std.specs.Option.{option_or}
 use Rattle.std.proofs.lemmas.Bool.Decides.{nat_tests}
 use Rattle.std.proofs.lemmas.List.{length-append}
@@ -9,13 +9,13 @@ use Rattle.sched_base.specs.declared.limits.TheConstants.{MAX_THREADS}
 use Rattle.policy_tree.specs.declared.typed.Attr.{Attr}
 use Rattle.policy_tree.specs.declared.typed.Load.{Load}
 use Rattle.policy_tree.specs.declared.typed.Load.TheVariants as load
+use Rattle.policy_tree.specs.Meaning.{Meaning}
 use Rattle.round_model.specs.declared.plan.Plan.{Plan}
 use Rattle.round_model.specs.Fits.{Fits}
 use Rattle.job_trace.specs.declared.plan_fault.PlanFault.{PlanFault}
 use Rattle.job_trace.specs.declared.trace.Numbered.{Numbered}
-use Rattle.job_trace.specs.Plans.{SpellsPlan, first_fault, is_foreign, limit_of, line_fault, rounds_of, thread_of, threads_of}
+use Rattle.job_trace.specs.Plans.{SpellsPlan, first_fault, is_foreign, limit_of, line_fault, rounds_of, IsForeign, thread_of, threads_of}
 use Rattle.job_trace.specs.Rules.{cores_of}
-use Rattle.job_trace.proofs.ThreadLemmas.{or-none}
 use Rattle.trace_maker.specs.Generator.{drawn, state_after}
 use Rattle.trace_maker.specs.Made.{made, made_trace, thread_line, thread_lines}
 use Rattle.fair_policy.specs.Fair.{fair_meaning}
@@ -30,6 +30,11 @@ weight_fits draw =
     let greatest : ltb 8 (1 + draw / 32 % 8) ≡ false = grind (arith, nat_tests) in
     rw (least, greatest) refl
 
+-- no fault is found exactly where neither finds one
+neither : (a b : Option PlanFault) → option_or a b ≡ None → (a ≡ None) × (b ≡ None)
+neither None b none = (refl, none)
+neither (Some fault) b none = absurd (cc)
+
 none_then : (a b : Option PlanFault) → a ≡ None → b ≡ None → option_or a b ≡ None
 none_then a b none others = cc (ap (λ (x : Option PlanFault). option_or x b) none)
 
@@ -38,7 +43,7 @@ fit_more : (l : Load) (attrs : List Attr) (ns : List Numbered) (n : Numbered) �
     → first_fault l attrs (ns ++ n ∷ []) ≡ None
 fit_more l attrs [] n front last = none_then (line_fault l attrs n.number n.line) None last refl
 fit_more l attrs (m ∷ ns) n front last =
-    let parts = or-none (line_fault l attrs m.number m.line) (first_fault l attrs ns) front in
+    let parts = neither (line_fault l attrs m.number m.line) (first_fault l attrs ns) front in
     none_then (line_fault l attrs m.number m.line) (first_fault l attrs (ns ++ n ∷ [])) parts.0 (fit_more l attrs ns n parts.1 last)
 
 lines_fit : (seed size : ℕ) → first_fault (load.Weight 1 8) [] (thread_lines seed size) ≡ None
@@ -84,3 +89,10 @@ made_room seed size plan sized planned =
     let few = sized.few in let threads = planned.threads in
     let product : plan.rounds * most_entries plan ≡ 60 * most_entries plan = ap (λ (n : ℕ). n * most_entries plan) rounds in
     omega arith
+
+-- and so the trace is never refused
+pub never_foreign : (seed size : ℕ) (p : Meaning) (trace : List Numbered) (fault : PlanFault) → p ≡ fair_meaning → trace ≡ made_trace seed size → IsForeign p trace fault → ⊥
+never_foreign seed size p trace fault fair same foreign =
+    let none : first_fault p.load p.core_attrs trace ≡ None =
+    ap₂ (λ (q : Meaning) (lines : List Numbered). first_fault q.load q.core_attrs lines) fair same ∙ made_fits seed size in
+    absurd (cc)

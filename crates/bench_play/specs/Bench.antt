@@ -11,7 +11,7 @@ use Rattle.trace_maker.specs.Made.{made}
 use Rattle.sched_report.specs.Reports.{totals_of}
 use Rattle.sched_report.specs.RoundRows.{round_rows}
 use Rattle.fair_policy.specs.Fair.{fair_meaning}
-use Rattle.bench_play.specs.declared.bench.BenchTotals.{BenchTotals}
+use Rattle.bench_play.specs.declared.playing.BenchTotals.{BenchTotals}
 
 -- a trace may have so many threads
 pub record IsSize (size : ℕ) : Type 0 where

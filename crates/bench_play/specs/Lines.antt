@@ -1,7 +1,7 @@
 -- How a bench is written, line by line.
 use Rattle.std.specs.Prelude.{ℕ, List, ◌∷◌, codes}
 use Rattle.sched_report.specs.Lines.{line_of_total, totals_lines}
-use Rattle.bench_play.specs.declared.bench.BenchTotals.{BenchTotals}
+use Rattle.bench_play.specs.declared.playing.BenchTotals.{BenchTotals}
 
 -- the line of the threads
 abbrev pub threads_line : ℕ → List ℕ

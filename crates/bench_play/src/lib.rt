@@ -1,13 +1,13 @@
 //! The bench: a made trace is played serially under the policy `fair`, and what its history comes to is told.
 #![tactic(auto)]
 
-mod bench;
 mod laws;
 mod memory;
-mod plan;
+mod planning;
+mod playing;
 mod printing;
 
-pub use bench::{BenchTotals, bench};
 pub use laws::{law_entry_bound, law_one_bench, law_room_suffices};
 pub use memory::BenchMemory;
+pub use playing::{BenchTotals, bench};
 pub use printing::print_bench;

@@ -4,7 +4,7 @@ ghost use Rattle.std.specs.Prelude.{◌≡◌};
 ghost use Rattle.sched_io.specs.Puts.{Puts};
 ghost use Rattle.bench_play.specs.Lines.{bench_lines, threads_line};
 
-use crate::bench::BenchTotals;
+use crate::playing::BenchTotals;
 use sched_io::{Line, PutFault, Sink, put_all};
 use sched_report::print_totals;
 

@@ -29,7 +29,9 @@ pub(crate) fn made_plan(
         Ok(plan) => Ok(plan),
         Err(PlanFault::Memory) => Err(BenchMemory::Memory),
         // Each made line fits the policy.
-        Err(_) => unreachable!(),
+        Err(PlanFault::WeightRange(_line)) => unreachable!(),
+        Err(PlanFault::ConstRange(_line)) => unreachable!(),
+        Err(PlanFault::ConstName(_line)) => unreachable!(),
     }
 }
 

@@ -10,7 +10,7 @@ ghost use Rattle.bench_play.specs.Bench.{IsBench, IsSize};
 ghost use Rattle.bench_play.specs.Room.{HasRoomForAll};
 
 use crate::memory::BenchMemory;
-use crate::plan::made_plan;
+use crate::planning::made_plan;
 use policy_tree::Policy;
 use round_model::{History, Plan};
 use sched_report::{Totals, report};
