@@ -3,7 +3,7 @@ use Rattle.std.proofs.Common.{◌≡◌, ◌∙◌, ℕ, List, ap, ap₂, sym, s
 use Rattle.round_model.specs.declared.entry.Entry.{Entry}
 use Rattle.round_model.specs.declared.plan.Plan.{Plan}
 use Rattle.round_model.specs.SerialRounds.{serial_history}
-use Rattle.serial_play.specs.Rounds.{EndsWhole}
+use Rattle.round_model.specs.SerialEnds.{EndsWhole}
 use Rattle.job_trace.specs.Plans.{plan_of}
 use Rattle.sched_report.specs.declared.rows.Totals.{Totals}
 use Rattle.sched_report.specs.Reports.{totals_of}

@@ -20,7 +20,7 @@ use Rattle.round_model.proofs.Grows.{legal_grows}
 use Rattle.round_model.proofs.Histories.{legal_induction}
 use Rattle.round_model.proofs.Longer.{begun_more}
 use Rattle.round_model.proofs.OwedBounds.{owed_bound}
-use Rattle.serial_play.proofs.Stepping.{reserve_kept}
+use Rattle.round_model.proofs.OwedTotals.{reserve_kept}
 use Rattle.bench_play.specs.Room.{EntryBoundLaw, RoomSufficesLaw, most_entries}
 
 -- once more

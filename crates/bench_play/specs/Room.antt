@@ -7,7 +7,7 @@ use Rattle.round_model.specs.declared.plan.Plan.{Plan}
 use Rattle.round_model.specs.Fits.{Fits}
 use Rattle.round_model.specs.Legal.{Legal, rounds_begun}
 use Rattle.round_model.specs.Owed.{owed_total}
-use Rattle.serial_play.specs.Rounds.{IsFull}
+use Rattle.round_model.specs.SerialEnds.{IsFull}
 
 -- the most entries of a round: its beginning, two for each core, and one for each thread
 abbrev pub most_entries : Plan → ℕ

@@ -4,7 +4,7 @@ ghost use Rattle.std.specs.Prelude.{◌≡◌, IfOk};
 ghost use Rattle.policy_tree.specs.Meaning.{meaning_of};
 ghost use Rattle.policy_eval.specs.Obligations.{MeetsHandlerObligations};
 ghost use Rattle.round_model.specs.Fits.{Fits};
-ghost use Rattle.serial_play.specs.Rounds.{EndsWhole};
+ghost use Rattle.round_model.specs.SerialEnds.{EndsWhole};
 ghost use Rattle.fair_policy.specs.Fair.{fair_meaning};
 ghost use Rattle.bench_play.specs.Bench.{IsBench, IsSize};
 ghost use Rattle.bench_play.specs.Room.{HasRoomForAll};
@@ -12,9 +12,9 @@ ghost use Rattle.bench_play.specs.Room.{HasRoomForAll};
 use crate::memory::BenchMemory;
 use crate::planning::made_plan;
 use policy_tree::Policy;
-use round_model::{History, Plan};
+use round_model::{History, Plan, Played};
 use sched_report::{Totals, report};
-use serial_play::{Played, play_rounds};
+use serial_play::play_rounds;
 use std::alloc::Global;
 
 /// What a bench comes to.

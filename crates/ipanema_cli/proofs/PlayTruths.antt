@@ -25,8 +25,8 @@ use Rattle.round_model.specs.SerialRounds.{serial_rounds}
 use Rattle.job_trace.specs.declared.trace.Numbered.{Numbered}
 use Rattle.job_trace.specs.Plans.{SpellsPlan}
 use Rattle.job_trace.specs.TraceText.{SpellsTrace}
-use Rattle.serial_play.specs.declared.rounds.Played.{Played}
-use Rattle.serial_play.specs.declared.rounds.Played.TheVariants as played
+use Rattle.round_model.specs.declared.serial.Played.{Played}
+use Rattle.round_model.specs.declared.serial.Played.TheVariants as played
 use Rattle.round_model.specs.SerialEnds.{IsFull}
 use Rattle.trace_play.specs.declared.answer.PlayAnswer.{PlayAnswer}
 use Rattle.trace_play.specs.declared.answer.PlayAnswer.TheVariants as play_answer

@@ -13,7 +13,7 @@ use Rattle.policy_check.specs.declared.explaining.ExplainAnswer.{ExplainAnswer}
 use Rattle.policy_check.specs.declared.explaining.ExplainAnswer.TheVariants as explained
 use Rattle.policy_check.specs.declared.reading.Refusal.{Refusal}
 use Rattle.policy_check.specs.declared.reading.Refusal.TheVariants as refusal
-use Rattle.serial_play.specs.declared.rounds.Played.TheVariants as played
+use Rattle.round_model.specs.declared.serial.Played.TheVariants as played
 use Rattle.trace_play.specs.declared.answer.PlayAnswer.{PlayAnswer}
 use Rattle.trace_play.specs.declared.answer.PlayAnswer.TheVariants as play_answer
 use Rattle.ipanema_cli.specs.Answers.{IsAnswer, lines_of, output_of, play_status, status_of}

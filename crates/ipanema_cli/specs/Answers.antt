@@ -14,7 +14,7 @@ use Rattle.policy_check.specs.Checks.{IsCheckOf, IsExplainOf}
 use Rattle.policy_check.specs.Lines.{check_lines, explain_lines}
 use Rattle.sched_io.specs.Puts.{joined}
 use Rattle.sched_io.specs.Told.{Told}
-use Rattle.serial_play.specs.declared.rounds.Played.TheVariants as played
+use Rattle.round_model.specs.declared.serial.Played.TheVariants as played
 use Rattle.trace_maker.specs.Made.{made}
 use Rattle.trace_printer.specs.Printed.{trace_text}
 use Rattle.trace_play.specs.declared.answer.PlayAnswer.{PlayAnswer}

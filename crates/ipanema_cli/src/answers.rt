@@ -14,8 +14,8 @@ use crate::texts::{TextKind, Texts};
 use history_replay::{HistoryAnswer, replay_texts, report_texts};
 use policy_check::{CheckAnswer, ExplainAnswer, check_text};
 use policy_checker::{AcceptedPolicy, Verdict};
+use round_model::Played;
 use sched_io::{PutFault, Sink, put_all};
-use serial_play::Played;
 use std::alloc::Global;
 use trace_maker::make_trace;
 use trace_play::{PlayAnswer, PlayMemory, play_text};
@@ -59,7 +59,7 @@ pub fn play_texts(alloc: Global, policy: &[u8], trace: &[u8]) -> Result<Answer, 
 {
     match check_text(alloc, policy)? {
         CheckAnswer::Judged(Verdict::Accepted(accepted)) => {
-            Ok(Answer::Played(play_text(alloc, accepted.policy(), trace)?))
+            Ok(Answer::Played(play_text(alloc, &accepted, trace)?))
         }
         refusal => Ok(Answer::Checked(refusal)),
     }

@@ -2,13 +2,13 @@
 
 ghost use Rattle.std.specs.Prelude.{◌≡◌, IfOk};
 ghost use Rattle.policy_tree.specs.Meaning.{meaning_of};
-ghost use Rattle.serial_play.specs.Rounds.{IsPlayed};
+ghost use Rattle.round_model.specs.SerialEnds.{IsPlayed};
 ghost use Rattle.model_tests.specs.Plans.{two_cores};
 ghost use Rattle.model_tests.specs.Policies.{basic};
 
 use policy_tree::Policy;
-use round_model::{ModelMemory, Plan};
-use serial_play::{Played, play_rounds};
+use round_model::{ModelMemory, Plan, Played};
+use serial_play::play_rounds;
 use std::alloc::Global;
 
 /// Serial play under the basic policy, with two cores and two threads without end.

@@ -4,6 +4,8 @@ use Rattle.sched_base.specs.declared.limits.TheConstants.{MAX_ENTRIES}
 use Rattle.policy_tree.specs.Meaning.{Meaning}
 use Rattle.round_model.specs.declared.entry.Entry.{Entry}
 use Rattle.round_model.specs.declared.plan.Plan.{Plan}
+use Rattle.round_model.specs.declared.serial.Played.{Played}
+use Rattle.round_model.specs.declared.serial.Played.TheVariants as played
 use Rattle.round_model.specs.Legal.{IsComplete, IsDue, Legal, Whole}
 use Rattle.round_model.specs.SerialRounds.{serial_history, serial_rounds}
 
@@ -33,3 +35,8 @@ pub record StopsFull (p : Meaning) (plan : Plan) (history : List Entry) : Type 0
   pub few : length history ≤ MAX_ENTRIES
   pub full : IsFull plan history
   pub first : (k : ℕ) → k < rounds → IsFull plan (serial_rounds p plan k) → ⊥
+
+-- what serial play comes to
+abbrev pub IsPlayed : Meaning → Plan → Played → Type 0
+IsPlayed p plan (played.Whole history) = EndsWhole p plan history
+IsPlayed p plan (played.Full history) = StopsFull p plan history

@@ -40,7 +40,7 @@ pub use crate::plan::{
 };
 pub use crate::programs::{Meeting, meeting_of, next_burst, place_after, planned};
 pub use crate::progress::first_arrival;
-pub use crate::serial::{most_steps, ordered_cores, round_fits};
+pub use crate::serial::{Played, most_steps, ordered_cores, round_fits};
 pub use crate::state::{Blocked, BlockedList, ModelCore, State, TaskList};
 pub use crate::turns::{NextStep, next_step};
 pub use crate::windows::{reads_fit, round_start};

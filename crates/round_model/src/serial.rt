@@ -5,8 +5,18 @@ ghost use Rattle.round_model.specs.declared.plan.OrderLine.{OrderLine};
 ghost use Rattle.round_model.specs.SerialEnds.{RoundFits};
 ghost use Rattle.round_model.specs.SerialRounds.{most_steps as most_steps_of, order_of};
 
+use crate::entry::History;
 use crate::plan::{OrderLine, Plan};
 use sched_base::{CoreId, MAX_CORES, MAX_ENTRIES, MAX_THREADS};
+
+/// What serial play comes to.
+#[derive(Drop)]
+pub enum Played {
+    /// The whole history.
+    Whole(History),
+    /// The complete rounds before the first that might not fit the plan's limit.
+    Full(History),
+}
 
 /// The most steps of a turn.
 pub fn most_steps(plan: &Plan) -> u32

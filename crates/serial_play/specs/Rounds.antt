@@ -6,11 +6,8 @@ use Rattle.round_model.specs.declared.plan.Plan.{Plan}
 use Rattle.round_model.specs.Legal.{rounds_begun}
 use Rattle.round_model.specs.Owed.{owed_total}
 use Rattle.round_model.specs.Serial.{SerialState, step_of}
-use Rattle.round_model.specs.SerialEnds.{EndsWhole, StopsFull}
 use Rattle.round_model.specs.SerialRounds.{with_round}
 use Rattle.serial_play.specs.declared.play.Play.{Play}
-use Rattle.serial_play.specs.declared.rounds.Played.{Played}
-use Rattle.serial_play.specs.declared.rounds.Played.TheVariants as played
 use Rattle.serial_play.specs.Plays.{IsPlay, IsStateOf, look_of}
 
 -- the cores took a step each in that order, or had none left
@@ -30,8 +27,3 @@ pub record Begins (p : Meaning) (plan : Plan) (number : ℕ) (old new : Play) : 
 pub record PlaysRound (p : Meaning) (plan : Plan) (number : ℕ) (old new : Play) : Type 0 where
   pub play : IsPlay p plan new
   pub history : new.history ≡ with_round p plan old.history number
-
--- what serial play comes to
-abbrev pub IsPlayed : Meaning → Plan → Played → Type 0
-IsPlayed p plan (played.Whole history) = EndsWhole p plan history
-IsPlayed p plan (played.Full history) = StopsFull p plan history

@@ -5,4 +5,4 @@ mod play;
 mod rounds;
 mod turns;
 
-pub use crate::rounds::{Played, play_rounds};
+pub use crate::rounds::play_rounds;

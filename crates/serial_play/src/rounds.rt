@@ -6,25 +6,16 @@ ghost use Rattle.policy_eval.specs.Obligations.{MeetsHandlerObligations};
 ghost use Rattle.round_model.specs.declared.entry.Entry.TheVariants as entry;
 ghost use Rattle.round_model.specs.Fits.{Fits};
 ghost use Rattle.round_model.specs.Legal.{LegalNext};
-ghost use Rattle.round_model.specs.SerialEnds.{RoundFits};
+ghost use Rattle.round_model.specs.SerialEnds.{IsPlayed, RoundFits};
 ghost use Rattle.serial_play.specs.Plays.{IsPlay};
-ghost use Rattle.serial_play.specs.Rounds.{Begins, IsPlayed, PlaysRound};
+ghost use Rattle.serial_play.specs.Rounds.{Begins, PlaysRound};
 
 use crate::play::{Play, append};
 use crate::turns::{end_turns, take_ordered};
 use policy_tree::Policy;
-use round_model::{Entry, History, ModelMemory, Past, Plan, round_due, round_fits};
+use round_model::{Entry, History, ModelMemory, Past, Plan, Played, round_due, round_fits};
 use sched_base::{MAX_CORES, MAX_ENTRIES, MAX_THREADS, Reads};
 use std::alloc::Global;
-
-/// What serial play comes to.
-#[derive(Drop)]
-pub enum Played {
-    /// The whole history.
-    Whole(History),
-    /// The complete rounds before the first that might not fit the plan's limit.
-    Full(History),
-}
 
 /// Serial play of the plan under the policy, as far as the plan's limit lets it come.
 ///

@@ -10,9 +10,9 @@ use Rattle.job_trace.specs.declared.trace.Numbered.{Numbered}
 use Rattle.job_trace.specs.Faults.{IsBroken}
 use Rattle.job_trace.specs.Plans.{IsForeign, SpellsPlan}
 use Rattle.job_trace.specs.TraceText.{SpellsTrace}
-use Rattle.serial_play.specs.declared.rounds.Played.{Played}
-use Rattle.serial_play.specs.declared.rounds.Played.TheVariants as played
-use Rattle.serial_play.specs.Rounds.{IsPlayed}
+use Rattle.round_model.specs.declared.serial.Played.{Played}
+use Rattle.round_model.specs.declared.serial.Played.TheVariants as played
+use Rattle.round_model.specs.SerialEnds.{IsPlayed}
 use Rattle.sched_history.specs.Ranges.{IsPrintable}
 use Rattle.sched_history.specs.Spelling.{lines_of_history, text_of_history}
 use Rattle.trace_play.specs.declared.answer.PlayAnswer.{PlayAnswer}

@@ -5,10 +5,9 @@ ghost use Rattle.sched_io.specs.Puts.{Puts};
 ghost use Rattle.trace_play.specs.Plays.{IsShown, history_of, lines_of};
 
 use crate::fault::LineFault;
-use round_model::History;
+use round_model::{History, Played};
 use sched_history::put_history;
 use sched_io::{PutFault, Sink, put_all};
-use serial_play::Played;
 
 /// What serial play of a trace's text comes to.
 #[derive(Drop)]

@@ -1,6 +1,6 @@
 use Rattle.std.proofs.Common.{subst}
 use Rattle.policy_tree.specs.Meaning.{meaning_of}
-use Rattle.serial_play.specs.Rounds.{IsPlayed, StopsFull}
+use Rattle.round_model.specs.SerialEnds.{IsPlayed, StopsFull}
 use Rattle.bench_play.proofs.Bounds.{room_suffices}
 use Rattle.bench_play.proofs.playing.whole_history.Goals as goal
 

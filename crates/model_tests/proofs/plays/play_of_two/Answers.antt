@@ -3,7 +3,7 @@ use Rattle.policy_tree.specs.Meaning.{Meaning, meaning_of}
 use Rattle.policy_eval.specs.Obligations.{MeetsHandlerObligations}
 use Rattle.round_model.specs.declared.plan.Plan.{Plan}
 use Rattle.round_model.specs.Fits.{Fits}
-use Rattle.serial_play.specs.Rounds.{IsPlayed}
+use Rattle.round_model.specs.SerialEnds.{IsPlayed}
 use Rattle.model_tests.specs.Policies.{basic}
 use Rattle.model_tests.specs.Plans.{two_cores}
 use Rattle.model_tests.proofs.PolicyRows.{basic_handlers, two_cores_fit}
