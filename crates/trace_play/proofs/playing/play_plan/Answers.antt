@@ -7,11 +7,6 @@ use Rattle.trace_play.proofs.playing.play_plan.Goals as goal
 pub merge-requires : goal.merge-requires
 merge-requires c = let played = c.in-Ok.ensures.whole in (played.history, played.logs)
 
-pub merge-in-Err-HistoryFull-requires : goal.merge-in-Err-HistoryFull-requires
-merge-in-Err-HistoryFull-requires c =
-    let played = subst (IsFaultOf (meaning_of c.args.policy.now) c.args.plan.now) c.in-Err-HistoryFull.field-0-is c.in-Err-HistoryFull.ensures.fault in
-    (played.history, played.logs)
-
 pub returns-in_ok-merge-in-Ok : goal.returns-in_ok-merge-in-Ok
 returns-in_ok-merge-in-Ok c =
     merged_whole (meaning_of c.args.policy.now) c.args.plan.now c.in-Ok.closed c.in_ok-merge-in-Ok.field-0 c.in-Ok.ensures.whole c.in_ok-merge-in-Ok.ensures
