@@ -9,5 +9,5 @@ mod printing;
 
 pub use laws::{law_entry_bound, law_one_bench, law_room_suffices};
 pub use memory::BenchMemory;
-pub use playing::{BenchTotals, bench};
+pub use playing::{BenchTotals, play_bench};
 pub use printing::print_bench;

@@ -27,7 +27,7 @@ pub struct BenchTotals {
 }
 
 /// Plays the made trace of so many threads, which the seed determines, under the policy `fair`.
-pub fn bench(
+pub fn play_bench(
     alloc: Global,
     policy: &Policy,
     seed: u64,

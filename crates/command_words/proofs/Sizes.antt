@@ -1,16 +1,17 @@
--- The size of a trace that words ask to make is one that a made trace may have.
+-- The size of a trace that words ask to make or to play is one that a made trace may have.
 use Rattle.std.proofs.Common.{◌≡◌, ℕ, Bool, true, false, cond, List, [], ◌∷◌, Option, Some, None, codes, refl, subst}
 use Rattle.std.proofs.Common.{option_and_then, option_map}
 use Rattle.std.specs.List.{list_all}
 use Rattle.std.specs.Str.{bytes_eq}
 use Rattle.obligations.specs.declared.names.ObName.{ObName}
-use Rattle.command_words.specs.Command.{Asked, asked_by, asked_plainly, check, explain, is_plain, make, name_of, play}
+use Rattle.command_words.specs.Command.{Asked, asked_by, asked_plainly, bench, check, explain, is_plain, make, name_of, play}
 use Rattle.command_words.specs.Command.{replay, report}
 use Rattle.command_words.specs.Numbers.{is_size, seed_in, size_in}
 
--- if a trace is to be made, its size is one
-abbrev pub IsSized : Option Asked → Type 0
-IsSized asked = (s n : ℕ) → asked ≡ Some (make s n) → is_size n ≡ true
+-- if a trace is to be made, its size is one, and if one is to be played too
+pub record IsSized (asked : Option Asked) : Type 0 where
+  pub made : (s n : ℕ) → asked ≡ Some (make s n) → is_size n ≡ true
+  pub benched : (s n : ℕ) → asked ≡ Some (bench s n) → is_size n ≡ true
 
 sized : (found : Option ℕ) (n : ℕ)
     → option_and_then (λ size. cond (is_size size) (Some size) None) found ≡ Some n → is_size n ≡ true
@@ -21,35 +22,64 @@ sized (Some m) n e = by (is_size m) refl e
     by true is is_n = let same : m ≡ n = cc in subst (λ (k : ℕ). is_size k ≡ true) same is
     by false is is_n = absurd (let bad = is_n in cc)
 
-made : (seed : Option ℕ) (word : List ℕ) → IsSized (option_and_then (λ t. option_map (make t) (size_in word)) seed)
-made None word s n e = absurd (let bad = e in cc)
-made (Some t) word s n e = by (size_in word) refl e
-  where
-    by : (found : Option ℕ) → size_in word ≡ found → option_map (make t) found ≡ Some (make s n) → is_size n ≡ true
-    by None is e = absurd (let bad = e in cc)
-    by (Some m) is e =
-        let same : m ≡ n = cc in
-        subst (λ (k : ℕ). is_size k ≡ true) same (sized (seed_in word) m is)
+module _ (asks : ℕ → ℕ → Asked) where
+  -- the words of a command of a seed and a size have a size
+  by_words : (same : (s n t m : ℕ) → asks t m ≡ asks s n → m ≡ n) (seed : Option ℕ) (word : List ℕ) (s n : ℕ)
+      → option_and_then (λ t. option_map (asks t) (size_in word)) seed ≡ Some (asks s n) → is_size n ≡ true
+  by_words same None word s n e = absurd (let bad = e in cc)
+  by_words same (Some t) word s n e = by (size_in word) refl e
+    where
+      by : (found : Option ℕ) → size_in word ≡ found → option_map (asks t) found ≡ Some (asks s n) → is_size n ≡ true
+      by None is e = absurd (let bad = e in cc)
+      by (Some m) is e =
+          let both : asks t m ≡ asks s n = cc in
+          subst (λ (k : ℕ). is_size k ≡ true) (same s n t m both) (sized (seed_in word) m is)
 
--- no other command makes a trace
+made : (seed : Option ℕ) (word : List ℕ) → IsSized (option_and_then (λ t. option_map (make t) (size_in word)) seed)
+made seed word = record {
+  made = by_words make (λ s n t m e. cc) seed word;
+  benched = λ s n e. absurd (never seed (size_in word) s n e);
+}
+  where
+    never : (seed found : Option ℕ) (s n : ℕ) → option_and_then (λ t. option_map (make t) found) seed ≡ Some (bench s n) → ⊥
+    never None found s n e = let bad = e in cc
+    never (Some t) None s n e = let bad = e in cc
+    never (Some t) (Some m) s n e = let bad = e in cc
+
+benched : (seed : Option ℕ) (word : List ℕ) → IsSized (option_and_then (λ t. option_map (bench t) (size_in word)) seed)
+benched seed word = record {
+  made = λ s n e. absurd (never seed (size_in word) s n e);
+  benched = by_words bench (λ s n t m e. cc) seed word;
+}
+  where
+    never : (seed found : Option ℕ) (s n : ℕ) → option_and_then (λ t. option_map (bench t) found) seed ≡ Some (make s n) → ⊥
+    never None found s n e = let bad = e in cc
+    never (Some t) None s n e = let bad = e in cc
+    never (Some t) (Some m) s n e = let bad = e in cc
+
+-- no other command has a size
 nothing : IsSized None
-nothing s n e = absurd (let bad = e in cc)
+nothing = record { made = λ s n e. absurd (let bad = e in cc); benched = λ s n e. absurd (let bad = e in cc) }
 
 checked : (policy : List ℕ) → IsSized (Some (check policy))
-checked policy s n e = absurd (let bad = e in cc)
+checked policy = record { made = λ s n e. absurd (let bad = e in cc); benched = λ s n e. absurd (let bad = e in cc) }
 
 explained : (policy : List ℕ) (name : Option ObName) → IsSized (option_map (explain policy) name)
-explained policy None s n e = absurd (let bad = e in cc)
-explained policy (Some name) s n e = absurd (let bad = e in cc)
+explained policy None = nothing
+explained policy (Some name) =
+    record { made = λ s n e. absurd (let bad = e in cc); benched = λ s n e. absurd (let bad = e in cc) }
 
 played : (policy trace : List ℕ) → IsSized (Some (play policy trace))
-played policy trace s n e = absurd (let bad = e in cc)
+played policy trace =
+    record { made = λ s n e. absurd (let bad = e in cc); benched = λ s n e. absurd (let bad = e in cc) }
 
 replayed : (policy trace history : List ℕ) → IsSized (Some (replay policy trace history))
-replayed policy trace history s n e = absurd (let bad = e in cc)
+replayed policy trace history =
+    record { made = λ s n e. absurd (let bad = e in cc); benched = λ s n e. absurd (let bad = e in cc) }
 
 reported : (policy trace history : List ℕ) → IsSized (Some (report policy trace history))
-reported policy trace history s n e = absurd (let bad = e in cc)
+reported policy trace history =
+    record { made = λ s n e. absurd (let bad = e in cc); benched = λ s n e. absurd (let bad = e in cc) }
 
 either : (b : Bool) (x y : Option Asked) → IsSized x → IsSized y → IsSized (cond b x y)
 either true x y here else_here = here
@@ -62,7 +92,8 @@ plainly (verb ∷ a ∷ []) = either (bytes_eq (codes "check") verb) _ _ (checke
 plainly (verb ∷ a ∷ b ∷ []) =
     either (bytes_eq (codes "explain") verb) _ _ (explained a (name_of b))
     (either (bytes_eq (codes "play") verb) _ _ (played a b)
-    (either (bytes_eq (codes "make") verb) _ _ (made (seed_in a) b) nothing))
+    (either (bytes_eq (codes "make") verb) _ _ (made (seed_in a) b)
+    (either (bytes_eq (codes "bench") verb) _ _ (benched (seed_in a) b) nothing)))
 plainly (verb ∷ a ∷ b ∷ c ∷ []) =
     either (bytes_eq (codes "replay") verb) _ _ (replayed a b c)
     (either (bytes_eq (codes "report") verb) _ _ (reported a b c) nothing)

@@ -81,6 +81,13 @@ make (one a) = simp a.plain
 make (two a b) = simp (a.plain, b.plain)
 make (three a b c) = simp (a.plain, b.plain, c.plain)
 
+bench : (behind : Behind) → AgreesAt (codes "bench" ∷ texts behind)
+unfolding clap_on_literals
+bench none = refl
+bench (one a) = simp a.plain
+bench (two a b) = simp (a.plain, b.plain)
+bench (three a b c) = simp (a.plain, b.plain, c.plain)
+
 -- a verb that is none of these
 other : (v : Word) (behind : Behind)
     → bytes_eq (codes "check") (text v) ≡ false
@@ -89,12 +96,13 @@ other : (v : Word) (behind : Behind)
     → bytes_eq (codes "replay") (text v) ≡ false
     → bytes_eq (codes "report") (text v) ≡ false
     → bytes_eq (codes "make") (text v) ≡ false
+    → bytes_eq (codes "bench") (text v) ≡ false
     → AgreesAt (text v ∷ texts behind)
 unfolding clap_on_literals
-other v none a b c d e f = simp (v.plain, a, b, c, d, e, f)
-other v (one w) a b c d e f = simp (v.plain, w.plain, a, b, c, d, e, f)
-other v (two w x) a b c d e f = simp (v.plain, w.plain, x.plain, a, b, c, d, e, f)
-other v (three w x y) a b c d e f = simp (v.plain, w.plain, x.plain, y.plain, a, b, c, d, e, f)
+other v none a b c d e f g = simp (v.plain, a, b, c, d, e, f, g)
+other v (one w) a b c d e f g = simp (v.plain, w.plain, a, b, c, d, e, f, g)
+other v (two w x) a b c d e f g = simp (v.plain, w.plain, x.plain, a, b, c, d, e, f, g)
+other v (three w x y) a b c d e f g = simp (v.plain, w.plain, x.plain, y.plain, a, b, c, d, e, f, g)
 
 -- the verb is this one, or it isn't
 at_verb : (verb word : Text) (P : Text → Type 0) → P verb → (bytes_eq verb word ≡ false → P word) → P word
@@ -113,7 +121,8 @@ with_verb v behind =
     at_verb (codes "replay") (text v) P (replay behind) (λ d.
     at_verb (codes "report") (text v) P (report behind) (λ e.
     at_verb (codes "make") (text v) P (make behind) (λ f.
-    other v behind a b c d e f))))))
+    at_verb (codes "bench") (text v) P (bench behind) (λ g.
+    other v behind a b c d e f g)))))))
 
 no_words : AgreesAt []
 unfolding clap_on_literals

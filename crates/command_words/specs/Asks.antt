@@ -1,8 +1,8 @@
 -- What a request asks for.
 use Rattle.std.specs.Prelude.{Option, Some, None}
-use Rattle.command_words.specs.Command.{Asked, check, explain, make, play, replay, report}
+use Rattle.command_words.specs.Command.{Asked, bench, check, explain, make, play, replay, report}
 use Rattle.command_words.specs.declared.request.Request.{Request}
-use Rattle.command_words.specs.declared.request.Request.TheVariants.{Check, Explain, Make, Play, Replay, Report}
+use Rattle.command_words.specs.declared.request.Request.TheVariants.{Bench, Check, Explain, Make, Play, Replay, Report}
 use Rattle.command_words.specs.declared.request.Request.TheVariants.{Unknown}
 
 abbrev pub asked : Request → Option Asked
@@ -12,4 +12,5 @@ asked (Play policy trace) = Some (play policy.now trace.now)
 asked (Replay policy trace history) = Some (replay policy.now trace.now history.now)
 asked (Report policy trace history) = Some (report policy.now trace.now history.now)
 asked (Make seed size) = Some (make seed size)
+asked (Bench seed size) = Some (bench seed size)
 asked Unknown = None

@@ -20,6 +20,8 @@ pub data Asked : Type 0 where
   report : (policy trace history : List ℕ) → Asked
   -- to make the trace of so many threads that the seed determines
   make : (seed size : ℕ) → Asked
+  -- to play that trace under the policy `fair`, and to tell what its history comes to
+  bench : (seed size : ℕ) → Asked
 
 -- a word of a command: not empty, and no option
 abbrev pub is_plain : List ℕ → Bool
@@ -30,9 +32,17 @@ is_plain (byte ∷ bytes) = not (eqb byte 45)
 abbrev pub name_of : List ℕ → Option ObName
 name_of word = find (λ name. bytes_eq (ob_text name) word) ob_names
 
--- the trace that these two words ask to make
+-- the command on the trace of a seed and a size that these two words are
+abbrev pub sized_by : (ℕ → ℕ → Asked) → List ℕ → List ℕ → Option Asked
+sized_by asks seed size = option_and_then (λ s. option_map (asks s) (size_in size)) (seed_in seed)
+
+-- the trace that they ask to make
 abbrev pub made_by : List ℕ → List ℕ → Option Asked
-made_by seed size = option_and_then (λ s. option_map (make s) (size_in size)) (seed_in seed)
+made_by seed size = sized_by make seed size
+
+-- and the one that they ask to play
+abbrev pub benched_by : List ℕ → List ℕ → Option Asked
+benched_by seed size = sized_by bench seed size
 
 -- the command of a verb and one word behind it
 abbrev pub asked_by_one : List ℕ → List ℕ → Option Asked
@@ -44,6 +54,7 @@ asked_by_two verb first second =
     if bytes_eq (codes "explain") verb then option_map (explain first) (name_of second)
     else if bytes_eq (codes "play") verb then Some (play first second)
     else if bytes_eq (codes "make") verb then made_by first second
+    else if bytes_eq (codes "bench") verb then benched_by first second
     else None
 
 -- and those of a verb and three

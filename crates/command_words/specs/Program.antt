@@ -4,7 +4,7 @@ use Rattle.std.specs.Str.{bytes_eq}
 use Rattle.clap.specs.Words.{App, Row, Rule, Shape, Text, first_of, new_rule}
 use Rattle.clap.specs.Simple.{new_shape}
 use Rattle.clap.specs.declared.builder.ArgAction.TheVariants.{Set}
-use Rattle.command_words.specs.Command.{Asked, check, explain, made_by, name_of, play, replay, report}
+use Rattle.command_words.specs.Command.{Asked, benched_by, check, explain, made_by, name_of, play, replay, report}
 
 -- a word that has to be there
 abbrev pub wanted : Text → Rule
@@ -35,6 +35,7 @@ commands =
     ∷ command_of (codes "replay") (codes "POLICY" ∷ codes "TRACE" ∷ codes "HISTORY" ∷ [])
     ∷ command_of (codes "report") (codes "POLICY" ∷ codes "TRACE" ∷ codes "HISTORY" ∷ [])
     ∷ command_of (codes "make") (codes "SEED" ∷ codes "SIZE" ∷ [])
+    ∷ command_of (codes "bench") (codes "SEED" ∷ codes "SIZE" ∷ [])
     ∷ []
 
 -- the program with its commands
@@ -57,6 +58,7 @@ asked_in verb rows =
     else if bytes_eq verb (codes "report") then
     Some (report (word_in rows (codes "POLICY")) (word_in rows (codes "TRACE")) (word_in rows (codes "HISTORY")))
     else if bytes_eq verb (codes "make") then made_by (word_in rows (codes "SEED")) (word_in rows (codes "SIZE"))
+    else if bytes_eq verb (codes "bench") then benched_by (word_in rows (codes "SEED")) (word_in rows (codes "SIZE"))
     else None
 
 -- what is asked for by the verb and the words that were found, if any

@@ -21,7 +21,8 @@ pub(crate) fn program<'a>(alloc: Global) -> Result<Command<'a>, AllocError>
     let program = with_command(program, alloc, "play", &["POLICY", "TRACE"])?;
     let program = with_command(program, alloc, "replay", &["POLICY", "TRACE", "HISTORY"])?;
     let program = with_command(program, alloc, "report", &["POLICY", "TRACE", "HISTORY"])?;
-    with_command(program, alloc, "make", &["SEED", "SIZE"])
+    let program = with_command(program, alloc, "make", &["SEED", "SIZE"])?;
+    with_command(program, alloc, "bench", &["SEED", "SIZE"])
 }
 
 /// The program with no command so far.

@@ -4,7 +4,7 @@ ghost use Rattle.std.specs.Prelude.{◌≡◌, ◌<◌, IfOk, IsOk, false, lengt
 ghost use Rattle.std.specs.List.{list_all};
 ghost use Rattle.clap.specs.Words.{found_of, rows_of, subcommand_rows_of};
 ghost use Rattle.command_words.specs.Asks.{asked};
-ghost use Rattle.command_words.specs.Command.{asked_by, explain, is_plain, made_by, name_of, words_of};
+ghost use Rattle.command_words.specs.Command.{asked_by, benched_by, explain, is_plain, made_by, name_of, words_of};
 ghost use Rattle.command_words.specs.Program.{asked_from, asked_in};
 
 use crate::memory::WordsMemory;
@@ -45,6 +45,11 @@ pub enum Request<'a> {
     },
     /// To make the trace of so many threads that the seed determines.
     Make {
+        seed: u64,
+        size: u32,
+    },
+    /// To play that trace under the policy `fair`, and to tell what its history comes to.
+    Bench {
         seed: u64,
         size: u32,
     },
@@ -104,6 +109,7 @@ fn request_in<'a>(verb: &str, words: &ArgMatches<'a>) -> Request<'a>
             history: word_in(words, "HISTORY"),
         },
         "make" => made_by(word_in(words, "SEED"), word_in(words, "SIZE")),
+        "bench" => benched_by(word_in(words, "SEED"), word_in(words, "SIZE")),
         _ => Request::Unknown,
     }
 }
@@ -124,6 +130,16 @@ fn made_by<'a>(seed: &str, size: &str) -> Request<'a>
 {
     match (seed_in(seed), size_in(size)) {
         (Some(seed), Some(size)) => Request::Make { seed, size },
+        _ => Request::Unknown,
+    }
+}
+
+/// What the word `bench`, a seed and a number of threads ask for.
+fn benched_by<'a>(seed: &str, size: &str) -> Request<'a>
+    ensures { asked result ≡ benched_by seed.now size.now }
+{
+    match (seed_in(seed), size_in(size)) {
+        (Some(seed), Some(size)) => Request::Bench { seed, size },
         _ => Request::Unknown,
     }
 }

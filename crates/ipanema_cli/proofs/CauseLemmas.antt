@@ -23,7 +23,7 @@ use Rattle.history_replay.specs.declared.answer.HistoryAnswer.TheVariants as jud
 use Rattle.history_replay.specs.declared.refusal.HistoryRefusal.TheVariants as no_history
 use Rattle.history_replay.specs.Judges.{IsReplayOf, IsReportOf}
 use Rattle.ipanema_cli.specs.Answers.{AnswersCheck, AnswersExplain, AnswersJudging, AnswersPlay, IsAnswer, Judging, output_of, status_of}
-use Rattle.command_words.specs.Command.{Asked, check, explain, make, play, replay, report}
+use Rattle.command_words.specs.Command.{Asked, bench, check, explain, make, play, replay, report}
 use Rattle.ipanema_cli.specs.Ends.{Ends, answered, unread, no_memory}
 use Rattle.ipanema_cli.specs.Causes.{HasCause, Judges, OneOf, Plays, SaysCrowded, SaysTooLong}
 use Rattle.ipanema_cli.specs.Status.{check_status, code_of, outcome_status, refusal_status}
@@ -65,6 +65,7 @@ seven (answer.Judged (judged.Refused (no_history.BadLine line))) e = absurd (ome
 seven (answer.Judged (judged.Refused (no_history.Illegal position))) e = absurd (omega arith)
 seven (answer.Judged (judged.Refused (no_history.Short count))) e = absurd (omega arith)
 seven (answer.Made text) e = absurd (omega arith)
+seven (answer.Benched told) e = absurd (omega arith)
 seven (answer.TooLong which) e = absurd (omega arith)
 seven answer.BadWords e = refl
 
@@ -86,6 +87,7 @@ eight (answer.Judged (judged.Refused (no_history.BadLine line))) e = absurd (ome
 eight (answer.Judged (judged.Refused (no_history.Illegal position))) e = absurd (omega arith)
 eight (answer.Judged (judged.Refused (no_history.Short count))) e = absurd (omega arith)
 eight (answer.Made text) e = absurd (omega arith)
+eight (answer.Benched told) e = absurd (omega arith)
 eight (answer.TooLong which) e = absurd (omega arith)
 eight answer.BadWords e = absurd (omega arith)
 
@@ -103,6 +105,7 @@ nine (answer.Played (play_answer.Played (played.Whole history))) e = absurd (ome
 nine (answer.Played (play_answer.Played (played.Full history))) e = absurd (omega arith)
 nine (answer.Judged h) e = (h, refl)
 nine (answer.Made text) e = absurd (omega arith)
+nine (answer.Benched told) e = absurd (omega arith)
 nine (answer.TooLong which) e = absurd (omega arith)
 nine answer.BadWords e = absurd (omega arith)
 
@@ -114,6 +117,7 @@ played_for (Some (play policy trace)) told outcome is = (policy, trace, refl)
 played_for (Some (replay policy trace history)) told outcome is = absurd is
 played_for (Some (report policy trace history)) told outcome is = absurd is
 played_for (Some (make seed size)) told outcome is = absurd is
+played_for (Some (bench seed size)) told outcome is = absurd is
 
 judged_for : (asked : Option Asked) (told : List ℕ → Told) (h : HistoryAnswer) → IsAnswer asked told (answer.Judged h) → Judges asked
 judged_for None told h is = absurd is
@@ -123,6 +127,7 @@ judged_for (Some (play policy trace)) told h is = absurd is
 judged_for (Some (replay policy trace history)) told h is = (policy, trace, history, inl refl)
 judged_for (Some (report policy trace history)) told h is = (policy, trace, history, inr refl)
 judged_for (Some (make seed size)) told h is = absurd is
+judged_for (Some (bench seed size)) told h is = absurd is
 
 -- no command has that answer
 for_no_command : (asked : Option Asked) (told : List ℕ → Told) → IsAnswer asked told answer.BadWords → asked ≡ None
@@ -133,6 +138,7 @@ for_no_command (Some (play policy trace)) told is = absurd is
 for_no_command (Some (replay policy trace history)) told is = absurd is
 for_no_command (Some (report policy trace history)) told is = absurd is
 for_no_command (Some (make seed size)) told is = absurd is
+for_no_command (Some (bench seed size)) told is = absurd is
 
 -- and words that are no command have no other
 no_command_code : (told : List ℕ → Told) (a : Answer) → IsAnswer None told a → code_of (status_of a) ≡ 7
@@ -141,6 +147,7 @@ no_command_code told (answer.Explained e) is = absurd is
 no_command_code told (answer.Played outcome) is = absurd is
 no_command_code told (answer.Judged h) is = absurd is
 no_command_code told (answer.Made text) is = absurd is
+no_command_code told (answer.Benched outcome) is = absurd is
 no_command_code told (answer.TooLong which) is = absurd is
 no_command_code told answer.BadWords is = refl
 
@@ -156,6 +163,7 @@ long_for_check policy (answer.Explained e) held is tells long = absurd is
 long_for_check policy (answer.Played outcome) held is tells long = absurd is
 long_for_check policy (answer.Judged h) held is tells long = absurd is
 long_for_check policy (answer.Made text) held is tells long = absurd is
+long_for_check policy (answer.Benched told) held is tells long = absurd is
 long_for_check policy (answer.TooLong which) held is tells long = refl
 long_for_check policy answer.BadWords held is tells long = absurd is
 
@@ -165,6 +173,7 @@ long_for_explain policy name (answer.Explained e) held (text, read, is) tells lo
 long_for_explain policy name (answer.Played outcome) held is tells long = absurd is
 long_for_explain policy name (answer.Judged h) held is tells long = absurd is
 long_for_explain policy name (answer.Made text) held is tells long = absurd is
+long_for_explain policy name (answer.Benched told) held is tells long = absurd is
 long_for_explain policy name (answer.TooLong which) held is tells long = refl
 long_for_explain policy name answer.BadWords held is tells long = absurd is
 
@@ -174,6 +183,7 @@ long_for_play policy trace (answer.Explained e) held is tells long = absurd is
 long_for_play policy trace (answer.Played outcome) held is tells long = absurd (not_read kind.Policy policy is.text held is.policy_read tells long)
 long_for_play policy trace (answer.Judged h) held is tells long = absurd is
 long_for_play policy trace (answer.Made text) held is tells long = absurd is
+long_for_play policy trace (answer.Benched told) held is tells long = absurd is
 long_for_play policy trace (answer.TooLong which) held is tells long = refl
 long_for_play policy trace answer.BadWords held is tells long = absurd is
 
@@ -183,6 +193,7 @@ long_trace_for_play policy trace (answer.Explained e) held is tells long = absur
 long_trace_for_play policy trace (answer.Played outcome) held is tells long = absurd (not_read kind.Trace trace is.jobs held is.trace_read tells long)
 long_trace_for_play policy trace (answer.Judged h) held is tells long = absurd is
 long_trace_for_play policy trace (answer.Made text) held is tells long = absurd is
+long_trace_for_play policy trace (answer.Benched told) held is tells long = absurd is
 long_trace_for_play policy trace (answer.TooLong which) held is tells long = refl
 long_trace_for_play policy trace answer.BadWords held is tells long = absurd is
 
@@ -192,6 +203,7 @@ long_policy_of_three Is policy trace history (answer.Explained e) held is tells 
 long_policy_of_three Is policy trace history (answer.Played outcome) held is tells long = absurd is
 long_policy_of_three Is policy trace history (answer.Judged h) held is tells long = absurd (not_read kind.Policy policy is.text held is.policy_read tells long)
 long_policy_of_three Is policy trace history (answer.Made text) held is tells long = absurd is
+long_policy_of_three Is policy trace history (answer.Benched told) held is tells long = absurd is
 long_policy_of_three Is policy trace history (answer.TooLong which) held is tells long = refl
 long_policy_of_three Is policy trace history answer.BadWords held is tells long = absurd is
 
@@ -201,6 +213,7 @@ long_trace_of_three Is policy trace history (answer.Explained e) held is tells l
 long_trace_of_three Is policy trace history (answer.Played outcome) held is tells long = absurd is
 long_trace_of_three Is policy trace history (answer.Judged h) held is tells long = absurd (not_read kind.Trace trace is.jobs held is.trace_read tells long)
 long_trace_of_three Is policy trace history (answer.Made text) held is tells long = absurd is
+long_trace_of_three Is policy trace history (answer.Benched told) held is tells long = absurd is
 long_trace_of_three Is policy trace history (answer.TooLong which) held is tells long = refl
 long_trace_of_three Is policy trace history answer.BadWords held is tells long = absurd is
 
@@ -210,6 +223,7 @@ long_history_of_three Is policy trace history (answer.Explained e) held is tells
 long_history_of_three Is policy trace history (answer.Played outcome) held is tells long = absurd is
 long_history_of_three Is policy trace history (answer.Judged h) held is tells long = absurd (not_read kind.History history is.entries held is.history_read tells long)
 long_history_of_three Is policy trace history (answer.Made text) held is tells long = absurd is
+long_history_of_three Is policy trace history (answer.Benched told) held is tells long = absurd is
 long_history_of_three Is policy trace history (answer.TooLong which) held is tells long = refl
 long_history_of_three Is policy trace history answer.BadWords held is tells long = absurd is
 
@@ -236,6 +250,7 @@ long_file (Some (play policy trace)) told a kind.History name held is file tells
 long_file (Some (replay policy trace history)) told a which name held is file tells long = long_of_three IsReplayOf policy trace history told a which name held is file tells long
 long_file (Some (report policy trace history)) told a which name held is file tells long = long_of_three IsReportOf policy trace history told a which name held is file tells long
 long_file (Some (make seed size)) told a which name held is file tells long = absurd file
+long_file (Some (bench seed size)) told a which name held is file tells long = absurd file
 
 -- the number 10 is that of a text that is too long, or of a policy with an obligation that has too many cases
 module _ (told : List ℕ → Told) (before after : Option (List ℕ)) where
@@ -273,6 +288,10 @@ module _ (told : List ℕ → Told) (before after : Option (List ℕ)) where
   ten (Some (report policy trace history)) (answer.Checked c) is e added =
       inr (ten_of_three (Some (report policy trace history)) policy trace history refl IsReportOf c is e added)
   ten (Some (make seed size)) (answer.Checked c) is e added = absurd is
+  ten (Some (bench seed size)) (answer.Checked (checked.Judged (verdict.Accepted kept))) is e added = absurd (omega arith)
+  ten (Some (bench seed size)) (answer.Checked (checked.Judged (verdict.Refused answers kept))) is e added = absurd (omega arith)
+  ten (Some (bench seed size)) (answer.Checked (checked.Judged (verdict.Undecided answers kept))) is e added = absurd (omega arith)
+  ten (Some (bench seed size)) (answer.Checked (checked.Unjudged why)) is e added = absurd is
   ten None (answer.Explained told) is e added = absurd is
   ten (Some (check policy)) (answer.Explained told) is e added = absurd is
   ten (Some (explain policy ob)) (answer.Explained (explained.Explained told)) is e added =
@@ -283,6 +302,7 @@ module _ (told : List ℕ → Told) (before after : Option (List ℕ)) where
   ten (Some (replay policy trace history)) (answer.Explained told) is e added = absurd is
   ten (Some (report policy trace history)) (answer.Explained told) is e added = absurd is
   ten (Some (make seed size)) (answer.Explained told) is e added = absurd is
+  ten (Some (bench seed size)) (answer.Explained told) is e added = absurd is
   ten asked (answer.Judged (judged.Whole count)) is e added = absurd (omega arith)
   ten asked (answer.Judged (judged.Reported told)) is e added = absurd (omega arith)
   ten asked (answer.Judged (judged.Refused (no_history.Trace fault))) is e added = absurd (omega arith)
@@ -290,6 +310,7 @@ module _ (told : List ℕ → Told) (before after : Option (List ℕ)) where
   ten asked (answer.Judged (judged.Refused (no_history.Illegal position))) is e added = absurd (omega arith)
   ten asked (answer.Judged (judged.Refused (no_history.Short count))) is e added = absurd (omega arith)
   ten asked (answer.Made text) is e added = absurd (omega arith)
+  ten asked (answer.Benched told) is e added = absurd (omega arith)
   ten asked (answer.Played (play_answer.Broken fault)) is e added = absurd (omega arith)
   ten asked (answer.Played (play_answer.Played (played.Whole history))) is e added = absurd (omega arith)
   ten asked (answer.Played (play_answer.Played (played.Full history))) is e added = absurd (omega arith)

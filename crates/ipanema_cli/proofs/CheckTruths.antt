@@ -163,6 +163,7 @@ checks policy before after code (answer.Checked c) (text, read, is) writes = eli
 checks policy before after code (answer.Explained told) is writes = absurd is
 checks policy before after code (answer.Judged outcome) is writes = absurd is
 checks policy before after code (answer.Made text) is writes = absurd is
+checks policy before after code (answer.Benched told) is writes = absurd is
 checks policy before after code (answer.Played outcome) is writes = absurd is
 checks policy before after code (answer.TooLong kind.Policy) long writes = elim (code_among _ _ _ _ writes) [
   | inr e ↦ stopped_check policy before.written after.written code (at_5 e)

@@ -124,6 +124,7 @@ explains policy name before after code (answer.Explained told) (text, read, is) 
 explains policy name before after code (answer.Played outcome) is writes = absurd is
 explains policy name before after code (answer.Judged outcome) is writes = absurd is
 explains policy name before after code (answer.Made text) is writes = absurd is
+explains policy name before after code (answer.Benched told) is writes = absurd is
 explains policy name before after code (answer.TooLong kind.Policy) long writes = elim (code_among _ _ _ _ writes) [
   | inr e ↦ stopped_explain policy name before.written after.written code (at_5 e)
   | inl e ↦ long_explain policy name before.written after.written code long e

@@ -383,6 +383,7 @@ judges Is Says worth policy trace history before after code (answer.Judged h) te
       h before.written after.written code texts.answers.2 e (whole _ _ _ _ writes (λ five. (no_stop (answer.Judged h)).1 (sym e ∙ five)))
 ]
 judges Is Says worth policy trace history before after code (answer.Made text) is writes = absurd is
+judges Is Says worth policy trace history before after code (answer.Benched told) is writes = absurd is
 judges Is Says worth policy trace history before after code (answer.TooLong kind.Policy) long writes = elim (code_among _ _ _ _ writes) [
   | inr e ↦ stopped_judge Says policy trace history before.written after.written code (at_5 e)
   | inl e ↦ long_judge Says policy trace history before.written after.written code (λ text jobs lines held also too. not_long kind.Policy policy text long held) e

@@ -1,3 +1,4 @@
+pub mod BenchTruths
 pub mod CauseLemmas
 pub mod CheckTruths
 pub mod ExplainTruths

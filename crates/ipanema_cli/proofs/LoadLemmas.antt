@@ -3,7 +3,7 @@ use Rattle.std.proofs.Common.{◌≡◌, ℕ, List, [], Option, Some, None, subs
 use Rattle.sched_io.specs.Loads.{Asks, Request}
 use Rattle.sched_io.specs.Told.{Told}
 use Rattle.sched_io.proofs.WrittenLemmas.{Grows-nil}
-use Rattle.command_words.specs.Command.{Asked, check, explain, make, play, replay, report}
+use Rattle.command_words.specs.Command.{Asked, bench, check, explain, make, play, replay, report}
 use Rattle.ipanema_cli.specs.Loads.{FirstAreLoaded, MayGoOn, files_of}
 
 -- none of them is behind one that isn't read
@@ -15,6 +15,7 @@ goes_nowhere (Some (play policy trace)) told = λ more. absurd (omega arith)
 goes_nowhere (Some (replay policy trace history)) told = record { policy_read = λ more. absurd (omega arith); trace_read = λ more. absurd (omega arith) }
 goes_nowhere (Some (report policy trace history)) told = record { policy_read = λ more. absurd (omega arith); trace_read = λ more. absurd (omega arith) }
 goes_nowhere (Some (make seed size)) told = tt
+goes_nowhere (Some (bench seed size)) told = tt
 
 pub none_loaded : (asked : Option Asked) (told : List ℕ → Told) (loads : Option (List Request)) → FirstAreLoaded asked told loads loads
 none_loaded asked told loads = record { count = 0; loaded = Grows-nil loads; goes_on = goes_nowhere asked told }

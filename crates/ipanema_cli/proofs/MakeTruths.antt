@@ -90,5 +90,6 @@ makes seed size before after code (answer.Made text) (trace, made, is) writes = 
     };
   }
 ]
+makes seed size before after code (answer.Benched told) is writes = absurd is
 makes seed size before after code (answer.TooLong which) is writes = absurd is
 makes seed size before after code answer.BadWords is writes = absurd is

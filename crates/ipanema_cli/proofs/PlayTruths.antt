@@ -311,6 +311,7 @@ plays_truly policy trace before after code (answer.Checked c) texts writes = eli
 plays_truly policy trace before after code (answer.Explained told) is writes = absurd is
 plays_truly policy trace before after code (answer.Judged outcome) is writes = absurd is
 plays_truly policy trace before after code (answer.Made text) is writes = absurd is
+plays_truly policy trace before after code (answer.Benched told) is writes = absurd is
 plays_truly policy trace before after code (answer.Played outcome) texts writes = elim (code_among _ _ _ _ writes) [
   | inr e ↦ stopped_play policy trace before.written after.written code (at_5 e)
   | inl e ↦ answered_trace policy trace texts.text texts.jobs texts.answers.0 outcome before.written after.written code

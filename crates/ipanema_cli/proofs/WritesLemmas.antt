@@ -75,6 +75,7 @@ answer_code (answer.Explained e) = explain_code e
 answer_code (answer.Played p) = play_code p
 answer_code (answer.Judged h) = history_code h
 answer_code (answer.Made text) = is_0 refl
+answer_code (answer.Benched told) = is_0 refl
 answer_code (answer.TooLong which) = is_10 refl
 answer_code answer.BadWords = is_7 refl
 

@@ -1,5 +1,6 @@
 -- What a command answers, and when that is its answer.
 use Rattle.std.specs.Prelude.{◌≡◌, ℕ, Bool, true, false, List, [], ◌∷◌, IsFalse, Ok, Option, Some, None, codes}
+use Rattle.sched_base.specs.declared.limits.TheConstants.{CHECK_BUDGET}
 use Rattle.policy_tree.specs.Meaning.{Meaning}
 use Rattle.policy_reader.specs.Spelled.{SpellsPolicy}
 use Rattle.job_trace.specs.declared.trace.Numbered.{Numbered}
@@ -7,6 +8,7 @@ use Rattle.obligations.specs.declared.names.ObName.{ObName}
 use Rattle.obligations.specs.Counts.{first_crowded}
 use Rattle.obligations.specs.Names.{ob_names}
 use Rattle.policy_checker.specs.Certified.{IsCertified}
+use Rattle.policy_checker.specs.Verdicts.{IsVerdict}
 use Rattle.policy_checker.specs.declared.verdict.Verdict.TheVariants as verdict
 use Rattle.policy_check.specs.declared.answer.CheckAnswer.{CheckAnswer}
 use Rattle.policy_check.specs.declared.answer.CheckAnswer.TheVariants as checked
@@ -23,7 +25,10 @@ use Rattle.trace_play.specs.Plays as plays
 use Rattle.history_replay.specs.declared.answer.HistoryAnswer.{HistoryAnswer}
 use Rattle.history_replay.specs.Judges.{IsReplayOf, IsReportOf}
 use Rattle.history_replay.specs.Lines as histories
-use Rattle.command_words.specs.Command.{Asked, check, explain, make, play, replay, report}
+use Rattle.fair_policy.specs.Fair.{fair_meaning}
+use Rattle.bench_play.specs.Bench.{IsBench}
+use Rattle.bench_play.specs.Lines.{bench_lines}
+use Rattle.command_words.specs.Command.{Asked, bench, check, explain, make, play, replay, report}
 use Rattle.ipanema_cli.specs.Status.{check_status, explain_status, history_status}
 use Rattle.ipanema_cli.specs.Texts.{MayBeLong, MayRead, too_long_line}
 use Rattle.ipanema_cli.specs.declared.answers.Answer.{Answer}
@@ -42,6 +47,7 @@ lines_of (answer.Explained e) = explain_lines e
 lines_of (answer.Played outcome) = plays.lines_of outcome
 lines_of (answer.Judged outcome) = histories.lines_of outcome
 lines_of (answer.Made text) = text.items ∷ []
+lines_of (answer.Benched told) = bench_lines told
 lines_of (answer.TooLong which) = too_long_line which ∷ []
 lines_of answer.BadWords = codes "bad words\n" ∷ []
 
@@ -62,6 +68,7 @@ status_of (answer.Explained e) = explain_status e
 status_of (answer.Played outcome) = play_status outcome
 status_of (answer.Judged outcome) = history_status outcome
 status_of (answer.Made text) = status.Done
+status_of (answer.Benched told) = status.Done
 status_of (answer.TooLong which) = status.TooMuch
 status_of answer.BadWords = status.BadWords
 
@@ -72,6 +79,7 @@ CanBePut (answer.Explained e) = Unit {0}
 CanBePut (answer.Played outcome) = plays.IsShown outcome
 CanBePut (answer.Judged outcome) = Unit {0}
 CanBePut (answer.Made text) = Unit {0}
+CanBePut (answer.Benched told) = Unit {0}
 CanBePut (answer.TooLong which) = Unit {0}
 CanBePut answer.BadWords = Unit {0}
 
@@ -95,6 +103,7 @@ AnswersWords (answer.Explained e) = ⊥
 AnswersWords (answer.Played outcome) = ⊥
 AnswersWords (answer.Judged outcome) = ⊥
 AnswersWords (answer.Made text) = ⊥
+AnswersWords (answer.Benched told) = ⊥
 AnswersWords (answer.TooLong which) = ⊥
 AnswersWords answer.BadWords = Unit {0}
 
@@ -106,6 +115,7 @@ AnswersCheck policy (answer.Explained e) = ⊥
 AnswersCheck policy (answer.Played outcome) = ⊥
 AnswersCheck policy (answer.Judged outcome) = ⊥
 AnswersCheck policy (answer.Made text) = ⊥
+AnswersCheck policy (answer.Benched told) = ⊥
 AnswersCheck policy (answer.TooLong kind.Policy) = MayBeLong kind.Policy policy
 AnswersCheck policy (answer.TooLong kind.Trace) = ⊥
 AnswersCheck policy (answer.TooLong kind.History) = ⊥
@@ -119,6 +129,7 @@ AnswersExplain policy name (answer.Explained e) = (text : List ℕ) × MayRead k
 AnswersExplain policy name (answer.Played outcome) = ⊥
 AnswersExplain policy name (answer.Judged outcome) = ⊥
 AnswersExplain policy name (answer.Made text) = ⊥
+AnswersExplain policy name (answer.Benched told) = ⊥
 AnswersExplain policy name (answer.TooLong kind.Policy) = MayBeLong kind.Policy policy
 AnswersExplain policy name (answer.TooLong kind.Trace) = ⊥
 AnswersExplain policy name (answer.TooLong kind.History) = ⊥
@@ -132,6 +143,7 @@ IsPlayOfTexts policy trace (answer.Played outcome) = (p : Meaning) × IsAccepted
     × plays.IsPlayOf p trace outcome
 IsPlayOfTexts policy trace (answer.Judged outcome) = ⊥
 IsPlayOfTexts policy trace (answer.Made text) = ⊥
+IsPlayOfTexts policy trace (answer.Benched told) = ⊥
 IsPlayOfTexts policy trace (answer.TooLong which) = ⊥
 IsPlayOfTexts policy trace answer.BadWords = ⊥
 
@@ -150,6 +162,7 @@ AnswersPlay policy trace (answer.Explained e) = ⊥
 AnswersPlay policy trace (answer.Played outcome) = PlaysTexts policy trace (answer.Played outcome)
 AnswersPlay policy trace (answer.Judged outcome) = ⊥
 AnswersPlay policy trace (answer.Made text) = ⊥
+AnswersPlay policy trace (answer.Benched told) = ⊥
 AnswersPlay policy trace (answer.TooLong kind.Policy) = MayBeLong kind.Policy policy
 AnswersPlay policy trace (answer.TooLong kind.Trace) =
     ((text : List ℕ) × MayRead kind.Policy policy text) × MayBeLong kind.Trace trace
@@ -182,6 +195,7 @@ module _ (Is : Judging) where
   IsJudgingOfTexts policy trace history (answer.Judged outcome) = (p : Meaning) × IsAccepted policy p
       × Is p trace history outcome
   IsJudgingOfTexts policy trace history (answer.Made text) = ⊥
+  IsJudgingOfTexts policy trace history (answer.Benched told) = ⊥
   IsJudgingOfTexts policy trace history (answer.TooLong which) = ⊥
   IsJudgingOfTexts policy trace history answer.BadWords = ⊥
 
@@ -202,6 +216,7 @@ module _ (Is : Judging) where
   AnswersJudging policy trace history (answer.Played outcome) = ⊥
   AnswersJudging policy trace history (answer.Judged outcome) = JudgesTexts policy trace history (answer.Judged outcome)
   AnswersJudging policy trace history (answer.Made text) = ⊥
+  AnswersJudging policy trace history (answer.Benched told) = ⊥
   AnswersJudging policy trace history (answer.TooLong which) = IsTooLongOfThree policy trace history which
   AnswersJudging policy trace history answer.BadWords = ⊥
 
@@ -213,8 +228,25 @@ AnswersMake seed size (answer.Played outcome) = ⊥
 AnswersMake seed size (answer.Judged outcome) = ⊥
 AnswersMake seed size (answer.Made text) = (trace : List Numbered) × (made seed size ≡ Ok trace)
     × (text.items ≡ trace_text trace)
+AnswersMake seed size (answer.Benched told) = ⊥
 AnswersMake seed size (answer.TooLong which) = ⊥
 AnswersMake seed size answer.BadWords = ⊥
+
+-- the verdict on the policy `fair`, which isn't that it is accepted
+abbrev pub IsFairVerdict : CheckAnswer → Type 0
+IsFairVerdict (checked.Judged v) = IsVerdict fair_meaning CHECK_BUDGET v × IsFalse (accepts (checked.Judged v))
+IsFairVerdict (checked.Unjudged why) = ⊥
+
+-- the answer of `bench`: what the bench comes to, or the verdict on its policy, where that isn't accepted
+abbrev pub AnswersBench : (seed size : ℕ) → Answer → Type 0
+AnswersBench seed size (answer.Checked c) = IsFairVerdict c
+AnswersBench seed size (answer.Explained e) = ⊥
+AnswersBench seed size (answer.Played outcome) = ⊥
+AnswersBench seed size (answer.Judged outcome) = ⊥
+AnswersBench seed size (answer.Made text) = ⊥
+AnswersBench seed size (answer.Benched told) = IsBench seed size told
+AnswersBench seed size (answer.TooLong which) = ⊥
+AnswersBench seed size answer.BadWords = ⊥
 
 -- the answer to what is asked
 abbrev pub IsAnswer : Option Asked → (List ℕ → Told) → Answer → Type 0
@@ -227,3 +259,4 @@ IsAnswer (Some (replay policy trace history)) told a =
 IsAnswer (Some (report policy trace history)) told a =
     AnswersJudging IsReportOf (told policy) (told trace) (told history) a
 IsAnswer (Some (make seed size)) told a = AnswersMake seed size a
+IsAnswer (Some (bench seed size)) told a = AnswersBench seed size a

@@ -2,7 +2,7 @@
 use Rattle.std.specs.Prelude.{◌≡◌, ℕ, ◌<◌, List, [], ◌∷◌, Option, Some, None, take}
 use Rattle.sched_io.specs.Loads.{Asks, Request, request}
 use Rattle.sched_io.specs.Told.{Told}
-use Rattle.command_words.specs.Command.{Asked, check, explain, make, play, replay, report}
+use Rattle.command_words.specs.Command.{Asked, bench, check, explain, make, play, replay, report}
 use Rattle.ipanema_cli.specs.Texts.{MayRead, room_of}
 use Rattle.ipanema_cli.specs.declared.texts.TextKind.{TextKind}
 use Rattle.ipanema_cli.specs.declared.texts.TextKind.TheVariants as kind
@@ -28,6 +28,7 @@ IsFileOf (Some (play policy trace)) kind.History name = ⊥
 IsFileOf (Some (replay policy trace history)) which name = IsOneOfThree policy trace history which name
 IsFileOf (Some (report policy trace history)) which name = IsOneOfThree policy trace history which name
 IsFileOf (Some (make seed size)) which name = ⊥
+IsFileOf (Some (bench seed size)) which name = ⊥
 
 -- the files of a command that judges a history
 abbrev pub three_files : (policy trace history : List ℕ) → List Request
@@ -43,6 +44,7 @@ files_of (Some (play policy trace)) = request policy (room_of kind.Policy) ∷ r
 files_of (Some (replay policy trace history)) = three_files policy trace history
 files_of (Some (report policy trace history)) = three_files policy trace history
 files_of (Some (make seed size)) = []
+files_of (Some (bench seed size)) = []
 
 -- of so many loads of three files each but the last is of a text that may be read
 pub record GoesOnOfThree (policy trace history : Told) (count : ℕ) : Type 0 where
@@ -67,6 +69,7 @@ MayGoOn (Some (replay policy trace history)) told count =
 MayGoOn (Some (report policy trace history)) told count =
     GoesOnOfThree (told policy) (told trace) (told history) count
 MayGoOn (Some (make seed size)) told count = Unit {0}
+MayGoOn (Some (bench seed size)) told count = Unit {0}
 MayGoOn (Some (play policy trace)) told count = 1 < count → (text : List ℕ) × MayRead kind.Policy (told policy) text
 
 -- Just the first of the command's files are loaded, each once and with its limit, where the source tells of its loads.

@@ -2,7 +2,7 @@
 use Rattle.std.specs.Prelude.{◌≡◌, ◌⊎◌, ℕ, List, Option, Some, None}
 use Rattle.sched_io.specs.Told.{Told, missing}
 use Rattle.ipanema_cli.specs.Answers.{IsAnswer, IsTooLongOfThree}
-use Rattle.command_words.specs.Command.{Asked, check, explain, make, play, replay, report}
+use Rattle.command_words.specs.Command.{Asked, bench, check, explain, make, play, replay, report}
 use Rattle.ipanema_cli.specs.Texts.{MayBeLong, MayRead}
 use Rattle.ipanema_cli.specs.declared.answers.Answer.TheVariants as answer
 use Rattle.ipanema_cli.specs.declared.stop.Stop.{Stop}
@@ -38,6 +38,7 @@ IsUnread (Some (replay policy trace history)) told fault =
 IsUnread (Some (report policy trace history)) told fault =
     IsUnreadOfThree (told policy) (told trace) (told history) fault
 IsUnread (Some (make seed size)) told fault = ⊥
+IsUnread (Some (bench seed size)) told fault = ⊥
 
 -- That is why not all of three texts are loaded.
 abbrev pub IsStopOfThree : (policy trace history : Told) → Type 0 → Stop → Type 0

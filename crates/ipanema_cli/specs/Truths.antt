@@ -30,12 +30,16 @@ use Rattle.round_model.specs.declared.entry.Entry.{Entry}
 use Rattle.round_model.specs.declared.plan.Plan.{Plan}
 use Rattle.round_model.specs.Fits.{Fits}
 use Rattle.round_model.specs.Legal.{Whole}
-use Rattle.round_model.specs.SerialRounds.{serial_rounds}
+use Rattle.round_model.specs.SerialRounds.{serial_history, serial_rounds}
 use Rattle.round_laws.specs.MainTheorem.{KeepsLaws, WastesNoCore}
 use Rattle.job_trace.specs.declared.trace.Numbered.{Numbered}
 use Rattle.job_trace.specs.Plans.{SpellsPlan}
 use Rattle.job_trace.specs.TraceText.{SpellsTrace}
 use Rattle.sched_history.specs.Spelling.{text_of_history}
+use Rattle.fair_policy.specs.Fair.{fair_meaning}
+use Rattle.bench_play.specs.declared.playing.BenchTotals.{BenchTotals}
+use Rattle.bench_play.specs.Bench.{IsBench}
+use Rattle.bench_play.specs.Lines.{bench_lines}
 use Rattle.round_model.specs.SerialEnds.{EndsWhole, IsFull, StopsFull}
 use Rattle.trace_maker.specs.Made.{made}
 use Rattle.trace_printer.specs.Printed.{trace_text}
@@ -51,7 +55,7 @@ use Rattle.trace_play.specs.Plays as plays
 use Rattle.trace_play.specs.Told as trace_faults
 use Rattle.ipanema_cli.specs.Answers.{IsAccepted}
 use Rattle.ipanema_cli.specs.Causes.{OneOf}
-use Rattle.command_words.specs.Command.{Asked, check, explain, make, play, replay, report}
+use Rattle.command_words.specs.Command.{Asked, bench, check, explain, make, play, replay, report}
 use Rattle.ipanema_cli.specs.Status.{code_of, outcome_status, verdict_status}
 use Rattle.ipanema_cli.specs.Texts.{MayRead, room_of}
 use Rattle.ipanema_cli.specs.declared.texts.TextKind.{TextKind}
@@ -367,6 +371,29 @@ pub record MakesTruly (seed size : ℕ) (before after : Option (List ℕ)) (code
   pub ends : OneOf (0 ∷ 5 ∷ 6 ∷ []) code
   pub makes : code ≡ 0 → WritesMade seed size before after
 
+-- The totals of the serial history of the made plan are written, which is whole and keeps the laws of every
+-- interleaving.
+pub record WritesBench (seed size : ℕ) (before after : Option (List ℕ)) : Type 0 where
+  pub told : BenchTotals
+  pub is : IsBench seed size told
+  pub laws : KeepsLaws fair_meaning is.plan (serial_history fair_meaning is.plan)
+  pub written : Adds (joined (bench_lines told)) before after
+
+-- The lines of `check` are written, which answer for the policy `fair`.
+pub record AnswersForFair (before after : Option (List ℕ)) (code : ℕ) : Type 0 where
+  pub verdict : Verdict
+  pub reasons : IsVerdict fair_meaning CHECK_BUDGET verdict
+  pub words : AllToldTruly fair_meaning verdict
+  pub written : Adds (joined (verdict_lines verdict)) before after
+  pub status : code ≡ code_of (verdict_status verdict)
+
+-- What `bench` writes is the bench, or that the policy `fair` is left undecided, of which a system is open then.
+pub record BenchesTruly (seed size : ℕ) (before after : Option (List ℕ)) (code : ℕ) : Type 0 where
+  pub ends : OneOf (0 ∷ 3 ∷ 5 ∷ 6 ∷ []) code
+  pub benches : code ≡ 0 → WritesBench seed size before after
+  pub lines : code ≡ 3 → AnswersForFair before after code
+  pub decides : (SomeIsOpen fair_meaning → ⊥) → OneOf (0 ∷ 5 ∷ 6 ∷ []) code
+
 -- What is said is true.
 abbrev pub IsTruthful : Option Asked → (List ℕ → Told) → Option (List ℕ) → Option (List ℕ) → ℕ → Type 0
 IsTruthful None told before after code = Unit {0}
@@ -378,3 +405,4 @@ IsTruthful (Some (replay policy trace history)) told before after code =
 IsTruthful (Some (report policy trace history)) told before after code =
     JudgesTruly SaysReport (told policy) (told trace) (told history) before after code
 IsTruthful (Some (make seed size)) told before after code = MakesTruly seed size before after code
+IsTruthful (Some (bench seed size)) told before after code = BenchesTruly seed size before after code

@@ -3,7 +3,7 @@
 ghost use Rattle.std.specs.Prelude.{◌≡◌, ◌≤◌, IfErr, IfOk, IsTrue, length};
 ghost use Rattle.sched_base.specs.declared.limits.TheConstants.{MAX_POLICY_BYTES, MAX_TRACE_BYTES};
 ghost use Rattle.sched_io.specs.Puts.{Puts};
-ghost use Rattle.ipanema_cli.specs.Answers.{AnswersMake, CanBePut, IsJudgingOfTexts, IsPlayOfTexts, judging_of, lines_of, status_of};
+ghost use Rattle.ipanema_cli.specs.Answers.{AnswersBench, AnswersMake, CanBePut, IsJudgingOfTexts, IsPlayOfTexts, judging_of, lines_of, status_of};
 ghost use Rattle.policy_tree.specs.Meaning.{meaning_of};
 ghost use Rattle.command_words.specs.Numbers.{is_size};
 ghost use Rattle.ipanema_cli.specs.declared.stop.Stop.TheVariants as stop;
@@ -11,10 +11,13 @@ ghost use Rattle.ipanema_cli.specs.declared.stop.Stop.TheVariants as stop;
 use crate::status::{Status, check_status, explain_status, history_status};
 use crate::stop::Stop;
 use crate::texts::{TextKind, Texts};
+use bench_play::{BenchTotals, play_bench, print_bench};
+use fair_policy::fair_policy;
 use history_replay::{HistoryAnswer, replay_texts, report_texts};
 use policy_check::{CheckAnswer, ExplainAnswer, check_text};
-use policy_checker::{AcceptedPolicy, Verdict};
+use policy_checker::{AcceptedPolicy, CheckFault, Verdict, check_policy};
 use round_model::Played;
+use sched_base::CHECK_BUDGET;
 use sched_io::{PutFault, Sink, put_all};
 use std::alloc::Global;
 use trace_maker::make_trace;
@@ -34,6 +37,8 @@ pub enum Answer {
     Judged(HistoryAnswer),
     /// The text of a made trace.
     Made(Vec<u8>),
+    /// What a made trace comes to under the policy `fair`.
+    Benched(BenchTotals),
     /// A text of that kind is longer than its limit.
     TooLong(TextKind),
     /// The words are no command.
@@ -115,6 +120,26 @@ pub fn make(alloc: Global, seed: u64, size: u32) -> Result<Answer, Stop>
     Ok(Answer::Made(print_trace(alloc, &trace)?))
 }
 
+/// The answer of `bench`: what the trace of so many threads, which the seed determines, comes to under the policy
+/// `fair`. It is checked as any other policy.
+pub fn bench(alloc: Global, seed: u64, size: u32) -> Result<Answer, Stop>
+    requires { IsTrue (is_size size) }
+    ensures answer { IfOk result (AnswersBench seed size) }
+    ensures shown { IfOk result CanBePut }
+    ensures memory { IfErr result (λ why. why ≡ stop.Memory) }
+{
+    let policy = fair_policy(alloc)?;
+    match check_policy(alloc, policy, CHECK_BUDGET) {
+        Ok(Verdict::Accepted(kept)) => {
+            Ok(Answer::Benched(play_bench(alloc, kept.policy(), seed, size)?))
+        }
+        Ok(verdict) => Ok(Answer::Checked(CheckAnswer::Judged(verdict))),
+        Err(CheckFault::Memory(_policy)) => Err(Stop::Memory),
+        // No obligation of it has too many cases.
+        Err(CheckFault::Cases(_name, _count, _policy)) => unreachable!(),
+    }
+}
+
 impl Answer {
     /// The status of the answer.
     pub fn status(&self) -> Status
@@ -128,6 +153,7 @@ impl Answer {
             Answer::Played(PlayAnswer::Played(Played::Full(_))) => Status::HistoryFull,
             Answer::Judged(answer) => history_status(answer),
             Answer::Made(_) => Status::Done,
+            Answer::Benched(_) => Status::Done,
             Answer::TooLong(_) => Status::TooMuch,
             Answer::BadWords => Status::BadWords,
         }
@@ -144,6 +170,7 @@ impl Answer {
             Answer::Played(answer) => answer.put(out),
             Answer::Judged(answer) => answer.put(out),
             Answer::Made(text) => put_all(out, text.as_slice()),
+            Answer::Benched(told) => print_bench(out, told),
             Answer::TooLong(kind) => put_all(out, kind.too_long_line()),
             Answer::BadWords => put_all(out, b"bad words\n"),
         }

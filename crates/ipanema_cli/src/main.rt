@@ -1,9 +1,11 @@
 //! The program `ipanema`: it checks scheduling policies and explains what fails, plays traces of jobs under them, judges
-//! and reports histories, and makes traces.
+//! and reports histories, makes traces, and tells what those come to.
 #![tactic(auto)]
 
 mod answers;
 mod arguments;
+#[cfg(test)]
+mod bench_tests;
 #[cfg(test)]
 mod calls;
 #[cfg(test)]

@@ -6,14 +6,14 @@ ghost use Rattle.sched_io.specs.Loads.{Asks};
 ghost use Rattle.ipanema_cli.specs.Answers.{AnswersCheck, AnswersExplain, AnswersJudging, AnswersPlay, CanBePut, IsAnswer, judging_of};
 ghost use Rattle.command_words.specs.Asks.{asked};
 ghost use Rattle.command_words.specs.Numbers.{is_size};
-ghost use Rattle.command_words.specs.Command.{asked_by, check, explain, make as asks_make, play, words_of};
+ghost use Rattle.command_words.specs.Command.{asked_by, bench as asks_bench, check, explain, make as asks_make, play, words_of};
 ghost use Rattle.ipanema_cli.specs.Ends.{Ends, Writes};
 ghost use Rattle.ipanema_cli.specs.Causes.{HasCause, OneOf};
 ghost use Rattle.ipanema_cli.specs.Loads.{FirstAreLoaded, LoadsOfThree, files_of, three_files};
 ghost use Rattle.ipanema_cli.specs.Stops.{IsStop, IsStopOfThree};
 ghost use Rattle.ipanema_cli.specs.Truths.{IsTruthful};
 
-use crate::answers::{Answer, HistoryCommand, judge, make, play_texts};
+use crate::answers::{Answer, HistoryCommand, bench, judge, make, play_texts};
 use crate::status::Status;
 use crate::stop::Stop;
 use crate::texts::{TextKind, load, load_three};
@@ -86,7 +86,8 @@ fn answer_to<F: Files>(alloc: Global, words: &[String], files: &mut F) -> Result
 
 /// The answer to what is asked for.
 fn answer_of<F: Files>(alloc: Global, request: Request, files: &mut F) -> Result<Answer, Stop>
-    requires sized { (seed size : ℕ) → asked request ≡ Some (asks_make seed size) → IsTrue (is_size size) }
+    requires made { (seed size : ℕ) → asked request ≡ Some (asks_make seed size) → IsTrue (is_size size) }
+    requires benched { (seed size : ℕ) → asked request ≡ Some (asks_bench seed size) → IsTrue (is_size size) }
     ensures answer { IfOk result (IsAnswer (asked request.entry) (F.told files.old)) }
     ensures shown { IfOk result CanBePut }
     ensures stop { IfErr result (IsStop (asked request.entry) (F.told files.old)
@@ -110,6 +111,7 @@ fn answer_of<F: Files>(alloc: Global, request: Request, files: &mut F) -> Result
             history,
         } => judge_files(alloc, HistoryCommand::Report, policy, trace, history, files),
         Request::Make { seed, size } => make(alloc, seed, size),
+        Request::Bench { seed, size } => bench(alloc, seed, size),
         Request::Unknown => Ok(Answer::BadWords),
     }
 }

@@ -4,6 +4,7 @@ ghost use Rattle.std.specs.Prelude.{◌≡◌};
 ghost use Rattle.ipanema_cli.specs.declared.stop.Stop.TheVariants as stop;
 
 use crate::texts::TextKind;
+use bench_play::BenchMemory;
 use command_words::WordsMemory;
 use policy_check::CheckMemory;
 use std::alloc::AllocError;
@@ -40,6 +41,14 @@ impl From<PlayMemory> for Stop {
     ghost from_gives = { λ _ why. why ≡ stop.Memory };
 
     fn from(_fault: PlayMemory) -> Stop {
+        Stop::Memory
+    }
+}
+
+impl From<BenchMemory> for Stop {
+    ghost from_gives = { λ _ why. why ≡ stop.Memory };
+
+    fn from(_fault: BenchMemory) -> Stop {
         Stop::Memory
     }
 }

@@ -19,7 +19,7 @@ use Rattle.policy_eval.proofs.Statements.{all_obligations}
 use Rattle.round_model.specs.declared.plan.Planned.{Planned}
 use Rattle.round_model.specs.Fits.{Fits, OrderFits, ThreadFits}
 use Rattle.model_tests.specs.Plans.{block_and_wake, eight_threads, endless, two_cores}
-use Rattle.fair_policy.specs.Fair.{fair_meaning}
+use Rattle.fair_policy.specs.Fair.{fair_meaning as fair}
 use Rattle.model_tests.specs.Policies.{basic}
 use Rattle.fair_policy.proofs.FairMeets.{fair_meets}
 use Rattle.fair_policy.proofs.FairResolved.{fair_resolved}
@@ -145,8 +145,8 @@ eight_threads_fit = record {
     fit : (id : ℕ) → 1 ≤ id → id ≤ 8 → ThreadFits basic 4 (endless id)
     fit id positive small = endless_fits 4 id positive small (omega arith)
 
-block_and_wake_threads : All (ThreadFits fair_meaning 2) block_and_wake.threads
-block_and_wake_threads = All-from_recursion (ThreadFits fair_meaning 2) block_and_wake.threads (
+block_and_wake_threads : All (ThreadFits fair 2) block_and_wake.threads
+block_and_wake_threads = All-from_recursion (ThreadFits fair 2) block_and_wake.threads (
   record {
     id_positive = omega arith;
     id_small = omega arith;
@@ -174,7 +174,7 @@ two_apart zero (suc zero) d below inside same = absurd (omega arith)
 two_apart zero (suc (suc j)) d below inside same = absurd (omega arith)
 two_apart (suc i) j d below inside same = absurd (omega arith)
 
-pub block_and_wake_fits : Fits fair_meaning block_and_wake
+pub block_and_wake_fits : Fits fair block_and_wake
 block_and_wake_fits = record {
   policy = fair_resolved;
   some_cores = omega arith;

@@ -16,7 +16,7 @@ use Rattle.round_model.proofs.Walks.{LegalFrom, legal_walk, reads_within}
 use Rattle.model_tests.specs.Histories.{block_and_wake_history, one_core_history, stale_read_history, two_cores_history}
 use Rattle.model_tests.specs.LegalRows.{WorkedAreWhole}
 use Rattle.model_tests.specs.Plans.{block_and_wake, one_core, stale_read, two_cores}
-use Rattle.fair_policy.specs.Fair.{fair_meaning}
+use Rattle.fair_policy.specs.Fair.{fair_meaning as fair}
 use Rattle.model_tests.specs.Policies.{basic}
 
 one_core_steps : LegalFrom basic one_core [] one_core_history
@@ -112,7 +112,7 @@ stale_read_whole : Whole basic stale_read stale_read_history
 unfolding acts touches effect after_from attempt_of candidates_of choice_of target_of opening_state is_due is_complete core_after_event handed received released scene_of entering_next waking_next worked holding_cases outcomes_of task_after_set pair_values core_values thread_values event_values
 stale_read_whole = record { legal = legal_walk basic stale_read stale_read_history stale_read_steps; complete = refl; finished = refl }
 
-block_and_wake_steps : LegalFrom fair_meaning block_and_wake [] block_and_wake_history
+block_and_wake_steps : LegalFrom fair block_and_wake [] block_and_wake_history
 unfolding LegalNext Row acts touches effect after_from attempt_of candidates_of choice_of target_of opening_state is_due is_complete core_after_event handed received released scene_of entering_next waking_next worked holding_cases outcomes_of task_after_set pair_values core_values thread_values event_values
 block_and_wake_steps = (
   record { complete = refl; due = refl; next = refl },
@@ -155,9 +155,9 @@ block_and_wake_steps = (
   ),
 )
 
-block_and_wake_whole : Whole fair_meaning block_and_wake block_and_wake_history
+block_and_wake_whole : Whole fair block_and_wake block_and_wake_history
 unfolding acts touches effect after_from attempt_of candidates_of choice_of target_of opening_state is_due is_complete core_after_event handed received released scene_of entering_next waking_next worked holding_cases outcomes_of task_after_set pair_values core_values thread_values event_values
-block_and_wake_whole = record { legal = legal_walk fair_meaning block_and_wake block_and_wake_history block_and_wake_steps; complete = refl; finished = refl }
+block_and_wake_whole = record { legal = legal_walk fair block_and_wake block_and_wake_history block_and_wake_steps; complete = refl; finished = refl }
 
 pub worked_are_whole : WorkedAreWhole
 worked_are_whole = record { one_core = one_core_whole; two_cores = two_cores_whole; stale_read = stale_read_whole; block_and_wake = block_and_wake_whole }

@@ -19,7 +19,7 @@ use Rattle.round_model.specs.Legal.{LegalNext}
 use Rattle.round_model.specs.SerialRounds.{serial_history}
 use Rattle.model_tests.specs.Histories.{stale_read_history}
 use Rattle.model_tests.specs.Plans.{in_order, endless, one_core, plan_of, run, thread}
-use Rattle.fair_policy.specs.Fair.{fair_meaning}
+use Rattle.fair_policy.specs.Fair.{fair_meaning as fair}
 use Rattle.fair_policy.specs.Forms.{whenever}
 use Rattle.model_tests.specs.Policies.{basic, seen_count}
 use Rattle.model_tests.specs.PolicyRows.{with_tick}
@@ -73,8 +73,8 @@ one_more_used = record { attr = 0; expr = plus (variable 22) (number (pos 1)) }
 
 -- an attribute stops at the end of its range
 pub record Saturates : Type 0 where
-  pub within : task_after_set fair_meaning true no_attributes (used_up (pos 7)) one_more_used ≡ used_up (pos 8)
-  pub at_the_end : task_after_set fair_meaning true no_attributes (used_up (pos 1000)) one_more_used ≡ used_up (pos 1000)
+  pub within : task_after_set fair true no_attributes (used_up (pos 7)) one_more_used ≡ used_up (pos 8)
+  pub at_the_end : task_after_set fair true no_attributes (used_up (pos 1000)) one_more_used ≡ used_up (pos 1000)
 
 -- three cores, where the order line has numbers of cores whose turn is over
 abbrev pub long_order : Plan
@@ -87,5 +87,5 @@ OverNumbersArePassedOver = serial_history basic long_order ≡ stale_read_histor
 
 -- of cores with one load the lowest number is the target, whichever core places
 pub record TiesGoToTheLowest : Type 0 where
-  pub by_the_last : target_of fair_meaning 2 (λ c. seen_count 1) 1 ≡ Some 0
-  pub by_the_first : target_of fair_meaning 2 (λ c. seen_count 1) 0 ≡ Some 0
+  pub by_the_last : target_of fair 2 (λ c. seen_count 1) 1 ≡ Some 0
+  pub by_the_first : target_of fair 2 (λ c. seen_count 1) 0 ≡ Some 0

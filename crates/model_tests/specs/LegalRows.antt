@@ -8,7 +8,7 @@ use Rattle.round_model.specs.declared.plan.Plan.{Plan}
 use Rattle.round_model.specs.Legal.{LegalNext, Whole}
 use Rattle.model_tests.specs.Histories.{block_and_wake_history, one_core_history, stale_read_history, two_cores_front, two_cores_history}
 use Rattle.model_tests.specs.Plans.{block_and_wake, late, one_core, plan_of, run, stale_read, thread, two_cores}
-use Rattle.fair_policy.specs.Fair.{fair_meaning}
+use Rattle.fair_policy.specs.Fair.{fair_meaning as fair}
 use Rattle.model_tests.specs.Policies.{basic}
 
 -- the worked histories are whole
@@ -16,7 +16,7 @@ pub record WorkedAreWhole : Type 0 where
   pub one_core : Whole basic one_core one_core_history
   pub two_cores : Whole basic two_cores two_cores_history
   pub stale_read : Whole basic stale_read stale_read_history
-  pub block_and_wake : Whole fair_meaning block_and_wake block_and_wake_history
+  pub block_and_wake : Whole fair block_and_wake block_and_wake_history
 
 -- the entry isn't legal after the first k of the two cores' history
 abbrev pub MissesAt : ℕ → Entry → Type 0
@@ -52,20 +52,20 @@ late_enter_front = entry.Round 1 ∷ entry.Enter 1 0 0 (1 ∷ 1 ∷ []) ∷ entr
 
 -- changes of one thing in the others' histories
 pub record OtherMisses : Type 0 where
-  pub wakes_late : ¬ LegalNext fair_meaning block_and_wake (take 8 block_and_wake_history) (entry.Work 0 did.Nothing)
-  pub wakes_another : ¬ LegalNext fair_meaning block_and_wake (take 8 block_and_wake_history) (entry.Wake 2 0 0 (8 ∷ 8 ∷ []))
-  pub wakes_in_its_round : ¬ LegalNext fair_meaning block_and_wake (take 4 block_and_wake_history)
+  pub wakes_late : ¬ LegalNext fair block_and_wake (take 8 block_and_wake_history) (entry.Work 0 did.Nothing)
+  pub wakes_another : ¬ LegalNext fair block_and_wake (take 8 block_and_wake_history) (entry.Wake 2 0 0 (8 ∷ 8 ∷ []))
+  pub wakes_in_its_round : ¬ LegalNext fair block_and_wake (take 4 block_and_wake_history)
       (entry.Wake 1 0 0 (3 ∷ 3 ∷ []))
-  pub places_on_the_greater_load : ¬ LegalNext fair_meaning block_and_wake (take 2 block_and_wake_history)
+  pub places_on_the_greater_load : ¬ LegalNext fair block_and_wake (take 2 block_and_wake_history)
       (entry.Enter 2 0 0 (2 ∷ 1 ∷ []))
-  pub places_without_reads : ¬ LegalNext fair_meaning block_and_wake (take 1 block_and_wake_history) (entry.Enter 1 0 0 [])
+  pub places_without_reads : ¬ LegalNext fair block_and_wake (take 1 block_and_wake_history) (entry.Enter 1 0 0 [])
   pub begins_a_round_too_soon : ¬ LegalNext basic one_core (take 3 one_core_history) (entry.Round 2)
   pub reads_the_round_before : ¬ LegalNext basic one_core (take 6 one_core_history) (entry.Pass 0 (4 ∷ []))
   pub steals_by_a_stale_read : ¬ LegalNext basic stale_read (take 8 stale_read_history)
       (entry.Steal 2 0 1 (5 ∷ 6 ∷ 7 ∷ []))
   pub sees_the_steal_and_fails : ¬ LegalNext basic stale_read (take 8 stale_read_history)
       (entry.Fail 2 0 (8 ∷ 6 ∷ 7 ∷ []))
-  pub wakes_with_a_thread_to_let_in : ¬ LegalNext fair_meaning late_enter late_enter_front (entry.Wake 1 0 0 (4 ∷ 4 ∷ []))
+  pub wakes_with_a_thread_to_let_in : ¬ LegalNext fair late_enter late_enter_front (entry.Wake 1 0 0 (4 ∷ 4 ∷ []))
   pub goes_on_after_the_end : ¬ LegalNext basic one_core one_core_history (entry.Round 3)
 
 -- histories that are legal and not whole: a round isn't complete, or another is due

@@ -9,18 +9,18 @@ use Rattle.policy_eval.specs.Obligations.{IdleSeesOverloaded, MeetsObligations, 
 use Rattle.policy_eval.specs.Resolved.{IsResolved}
 use Rattle.round_model.specs.Fits.{Fits}
 use Rattle.model_tests.specs.Plans.{block_and_wake, eight_threads, plan_of}
-use Rattle.fair_policy.specs.Fair.{fair_meaning}
+use Rattle.fair_policy.specs.Fair.{fair_meaning as fair}
 use Rattle.fair_policy.specs.Forms.{handlers_with, whenever}
 use Rattle.model_tests.specs.Policies.{basic, gap_of}
 
 -- the two policies of the worked rows are right, and the plans fit them
 pub record WorkedPoliciesFit : Type 0 where
   pub basic_resolved : IsResolved basic
-  pub fair_resolved : IsResolved fair_meaning
+  pub fair_resolved : IsResolved fair
   pub basic_meets : MeetsObligations basic
-  pub fair_meets : MeetsObligations fair_meaning
+  pub fair_meets : MeetsObligations fair
   pub eight_threads_fit : Fits basic eight_threads
-  pub block_and_wake_fits : Fits fair_meaning block_and_wake
+  pub block_and_wake_fits : Fits fair block_and_wake
 
 -- the basic policy with another filter
 abbrev pub with_filter : CondTree → Meaning

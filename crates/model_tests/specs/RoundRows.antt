@@ -9,7 +9,7 @@ use Rattle.round_model.specs.Rounds.{IsBad, IsStill}
 use Rattle.round_model.specs.Stretches.{InStretch, IsStillStretch}
 use Rattle.model_tests.specs.Histories.{block_and_wake_history, eight_threads_history, stale_read_history}
 use Rattle.model_tests.specs.Plans.{block_and_wake, eight_threads, stale_read}
-use Rattle.fair_policy.specs.Fair.{fair_meaning}
+use Rattle.fair_policy.specs.Fair.{fair_meaning as fair}
 use Rattle.model_tests.specs.Policies.{basic}
 
 -- of the rounds of the eight threads the second is bad and the third is not, and the first alone is not still
@@ -36,7 +36,7 @@ abbrev pub phases_of_1 : List ℕ → List Phase
 phases_of_1 positions = map (λ k. phase_of 1 (take k block_and_wake_history)) positions
 
 abbrev pub stands_at : ℕ → ℕ × ℕ
-stands_at k = let m = after fair_meaning block_and_wake (take k block_and_wake_history) in
+stands_at k = let m = after fair block_and_wake (take k block_and_wake_history) in
     (places_of block_and_wake m 1, blocked_places_of block_and_wake m 1)
 
 pub record ThreadPhases : Type 0 where
@@ -52,5 +52,5 @@ pub record OwedEntries : Type 0 where
       (core_numbers eight_threads) ≡ 0 ∷ 2 ∷ 2 ∷ 2 ∷ []
   pub at_the_end : map (owed basic eight_threads eight_threads_history)
       (core_numbers eight_threads) ≡ 0 ∷ 0 ∷ 0 ∷ 0 ∷ []
-  pub one_to_wake : map (owed fair_meaning block_and_wake (take 8 block_and_wake_history))
+  pub one_to_wake : map (owed fair block_and_wake (take 8 block_and_wake_history))
       (core_numbers block_and_wake) ≡ 3 ∷ 2 ∷ []

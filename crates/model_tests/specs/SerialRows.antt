@@ -6,7 +6,7 @@ use Rattle.round_model.specs.SerialRounds.{serial_history}
 use Rattle.round_model.specs.Spread.{spread}
 use Rattle.model_tests.specs.Histories.{block_and_wake_history, eight_threads_history, one_core_history, stale_read_history, two_cores_history}
 use Rattle.model_tests.specs.Plans.{block_and_wake, eight_threads, one_core, stale_read, two_cores}
-use Rattle.fair_policy.specs.Fair.{fair_meaning}
+use Rattle.fair_policy.specs.Fair.{fair_meaning as fair}
 use Rattle.model_tests.specs.Policies.{basic}
 
 abbrev pub OneCoreTwoUnits : Type 0
@@ -19,7 +19,7 @@ abbrev pub StaleReadFails : Type 0
 StaleReadFails = serial_history basic stale_read ≡ stale_read_history
 
 abbrev pub FairBlocksAndWakes : Type 0
-FairBlocksAndWakes = serial_history fair_meaning block_and_wake ≡ block_and_wake_history
+FairBlocksAndWakes = serial_history fair block_and_wake ≡ block_and_wake_history
 
 -- the loads of all cores after the first k entries
 abbrev pub loads_at : ℕ → List ℕ

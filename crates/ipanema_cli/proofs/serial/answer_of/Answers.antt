@@ -5,7 +5,10 @@ use Rattle.ipanema_cli.specs.Loads.{FirstAreLoaded}
 use Rattle.ipanema_cli.proofs.serial.answer_of.Goals as goal
 
 pub make-requires : goal.make-requires
-make-requires g c = c.requires.sized c.in-Make.seed c.in-Make.size (ap asked c.in-Make.is)
+make-requires g c = c.requires.made c.in-Make.seed c.in-Make.size (ap asked c.in-Make.is)
+
+pub bench-requires : goal.bench-requires
+bench-requires g c = c.requires.benched c.in-Bench.seed c.in-Bench.size (ap asked c.in-Bench.is)
 
 pub returns-in-Check-clause-loads : goal.returns-in-Check-clause-loads
 returns-in-Check-clause-loads g c =

@@ -8,7 +8,10 @@ use Rattle.ipanema_cli.proofs.serial.answer_to.Goals as goal
 pub returns-in_err-request-clause-loads : goal.returns-in_err-request-clause-loads
 returns-in_err-request-clause-loads g c = none_loaded _ _ _
 
-pub answer_of-requires : goal.answer_of-requires
-answer_of-requires g c = record {
-  sized = λ seed size is. asked-sized (words_of c.args.words.now) seed size (sym c.in_ok-request.ensures.asks ∙ is);
-}
+pub answer_of-requires-clause-made : goal.answer_of-requires-clause-made
+answer_of-requires-clause-made g c seed size is =
+    (asked-sized (words_of c.args.words.now)).made seed size (sym c.in_ok-request.ensures.asks ∙ is)
+
+pub answer_of-requires-clause-benched : goal.answer_of-requires-clause-benched
+answer_of-requires-clause-benched g c seed size is =
+    (asked-sized (words_of c.args.words.now)).benched seed size (sym c.in_ok-request.ensures.asks ∙ is)
