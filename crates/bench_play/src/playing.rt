@@ -2,7 +2,6 @@
 
 ghost use Rattle.std.specs.Prelude.{◌≡◌, IfOk};
 ghost use Rattle.policy_tree.specs.Meaning.{meaning_of};
-ghost use Rattle.policy_eval.specs.Obligations.{MeetsHandlerObligations};
 ghost use Rattle.round_model.specs.Fits.{Fits};
 ghost use Rattle.round_model.specs.SerialEnds.{EndsWhole};
 ghost use Rattle.fair_policy.specs.Fair.{fair_meaning};
@@ -11,11 +10,11 @@ ghost use Rattle.bench_play.specs.Room.{HasRoomForAll};
 
 use crate::memory::BenchMemory;
 use crate::planning::made_plan;
-use policy_tree::Policy;
+use policy_checker::AcceptedPolicy;
 use round_model::{History, Plan, Played};
 use sched_report::{Totals, report};
-use serial_play::play_rounds;
 use std::alloc::Global;
+use trace_play::play_plan;
 
 /// What a bench comes to.
 #[derive(Clone, Copy)]
@@ -29,7 +28,7 @@ pub struct BenchTotals {
 /// Plays the made trace of so many threads, which the seed determines, under the policy `fair`.
 pub fn play_bench(
     alloc: Global,
-    policy: &Policy,
+    policy: &AcceptedPolicy,
     seed: u64,
     size: u32,
 ) -> Result<BenchTotals, BenchMemory>
@@ -37,9 +36,9 @@ pub fn play_bench(
     requires size { IsSize size }
     ensures is { IfOk result (IsBench seed size) }
 {
-    let plan = made_plan(alloc, policy, seed, size)?;
+    let plan = made_plan(alloc, policy.policy(), seed, size)?;
     let history = whole_history(alloc, policy, &plan)?;
-    let told = report(alloc, policy, &plan, &history)?;
+    let told = report(alloc, policy.policy(), &plan, &history)?;
     Ok(BenchTotals {
         threads: size,
         totals: told.totals,
@@ -47,13 +46,17 @@ pub fn play_bench(
 }
 
 /// The serial history of a plan with room for its rounds. It is whole.
-fn whole_history(alloc: Global, policy: &Policy, plan: &Plan) -> Result<History, BenchMemory>
+fn whole_history(
+    alloc: Global,
+    policy: &AcceptedPolicy,
+    plan: &Plan,
+) -> Result<History, BenchMemory>
+    requires policy { meaning_of policy.now ≡ fair_meaning }
     requires fits { Fits (meaning_of policy.now) plan.now }
-    requires handlers { MeetsHandlerObligations (meaning_of policy.now) }
     requires room { HasRoomForAll plan.now }
     ensures { IfOk result (EndsWhole (meaning_of policy.now) plan.now) }
 {
-    match play_rounds(alloc, policy, plan)? {
+    match play_plan(alloc, policy, plan)? {
         Played::Whole(history) => Ok(history),
         // No round comes due that might not fit.
         Played::Full(_history) => unreachable!(),

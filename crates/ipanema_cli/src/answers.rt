@@ -131,7 +131,7 @@ pub fn bench(alloc: Global, seed: u64, size: u32) -> Result<Answer, Stop>
     let policy = fair_policy(alloc)?;
     match check_policy(alloc, policy, CHECK_BUDGET) {
         Ok(Verdict::Accepted(kept)) => {
-            Ok(Answer::Benched(play_bench(alloc, kept.policy(), seed, size)?))
+            Ok(Answer::Benched(play_bench(alloc, &kept, seed, size)?))
         }
         Ok(verdict) => Ok(Answer::Checked(CheckAnswer::Judged(verdict))),
         Err(CheckFault::Memory(_policy)) => Err(Stop::Memory),

@@ -9,4 +9,4 @@ mod playing;
 pub use answer::PlayAnswer;
 pub use fault::{FaultWord, LineFault};
 pub use planning::{PlanStop, plan_text};
-pub use playing::{PlayMemory, play_text};
+pub use playing::{PlayMemory, play_plan, play_text};

@@ -1,6 +1,8 @@
-use Rattle.std.proofs.Common.{subst}
+use Rattle.std.proofs.Common.{sym, subst}
 use Rattle.policy_tree.specs.Meaning.{meaning_of}
+use Rattle.policy_eval.specs.Obligations.{MeetsHandlerObligations}
 use Rattle.round_model.specs.SerialEnds.{IsPlayed, StopsFull}
+use Rattle.fair_policy.proofs.FairMeets.{fair_handlers_meet}
 use Rattle.bench_play.proofs.Bounds.{room_suffices}
 use Rattle.bench_play.proofs.playing.whole_history.Goals as goal
 
@@ -8,4 +10,4 @@ pub unreachable-requires : goal.unreachable-requires
 unreachable-requires c =
     let p = meaning_of c.args.policy.now in let plan = c.args.plan.now in
     let stops : StopsFull p plan c.in-Full._history = subst (IsPlayed p plan) c.in-Full.is c.in_ok-history.ensures in
-    room_suffices p plan c.in-Full._history c.requires.fits c.requires.handlers c.requires.room stops.legal stops.full
+    room_suffices p plan c.in-Full._history c.requires.fits (subst MeetsHandlerObligations (sym c.requires.policy) fair_handlers_meet) c.requires.room stops.legal stops.full
