@@ -1,5 +1,5 @@
 -- The run before the first entry, and as a round begins.
-use Rattle.std.proofs.Common.{◌≡◌, ℕ, zero, suc, ◌+◌, ◌<◌, ◌≤◌, ◌==◌, Bool, false, List, [], ◌∷◌, ◌++◌, filter, length, map, replicate, get_or, All, Option, None, refl, sym, ap, ap₂, subst, ◌∙◌, arith}
+use Rattle.std.proofs.Common.{◌≡◌, ℕ, zero, suc, ◌+◌, ◌≤◌, ◌==◌, Bool, false, List, [], ◌∷◌, ◌++◌, filter, length, map, replicate, get_or, Option, None, refl, sym, ap, ap₂, subst, ◌∙◌, arith}
 use Rattle.std.specs.Prelude.{vec_capacity}
 use Rattle.std.proofs.lemmas.List.{length-append, length-replicate}
 use Rattle.std.proofs.lemmas.List.Folds.{list_any-append}
@@ -8,14 +8,13 @@ use Rattle.policy_tree.specs.Meaning.{Meaning}
 use Rattle.policy_eval.specs.Obligations.{MeetsHandlerObligations}
 use Rattle.round_model.specs.declared.entry.Entry.{Entry}
 use Rattle.round_model.specs.declared.entry.Entry.TheVariants as entry
-use Rattle.round_model.specs.declared.past.Arrival.{Arrival}
 use Rattle.round_model.specs.declared.plan.Plan.{Plan}
 use Rattle.round_model.specs.declared.plan.Planned.{Planned}
 use Rattle.round_model.specs.After.{round_of}
 use Rattle.round_model.specs.Code.Past.{arrival_of, arrives_at, is_flagged}
 use Rattle.round_model.specs.Entries.{ends}
 use Rattle.round_model.specs.Fits.{Fits}
-use Rattle.round_model.specs.Legal.{Legal, LegalNext, has_ended, rounds_begun}
+use Rattle.round_model.specs.Legal.{LegalNext, has_ended}
 use Rattle.round_model.specs.Scenes.{has_attempted, has_worked, is_entering}
 use Rattle.round_model.specs.Serial.{SerialState}
 use Rattle.round_model.proofs.Added.{or_nothing}
@@ -28,7 +27,7 @@ use Rattle.core_moves.specs.Moves.{MayMove}
 use Rattle.core_worker.specs.declared.run.Run.{Run}
 use Rattle.core_worker.specs.declared.turn.Look.{Look}
 use Rattle.core_worker.specs.Runs.{IsMoment, IsRunOf, KeepsLook, MayBegin, opened}
-use Rattle.core_worker.specs.Turns.{IsBegun, look_of}
+use Rattle.core_worker.specs.Turns.{IsBegun}
 
 pub none_set : (n c : ℕ) → is_flagged (replicate n false) c ≡ false
 none_set zero c = refl

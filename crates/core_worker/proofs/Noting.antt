@@ -1,28 +1,22 @@
 -- What an entry of a core makes of a run.
-use Rattle.std.proofs.Common.{◌≡◌, ◌≢◌, ℕ, ◌+◌, ◌<◌, ◌≤◌, ◌||◌, ◌&&◌, ◌==◌, eqb, Bool, true, false, cond, List, [], ◌∷◌, ◌++◌, length, take, get_or, set, All, IfSome, Option, Some, None, get_or-set_same, get_or-set_other, length-set, refl, sym, ap, ap₂, subst, ◌∙◌, arith}
+use Rattle.std.proofs.Common.{◌≡◌, ℕ, ◌+◌, ◌<◌, ◌||◌, ◌&&◌, Bool, true, cond, List, [], ◌∷◌, ◌++◌, length, get_or, Option, Some, None, length-set, refl, sym, ap, subst, ◌∙◌, arith}
 use Rattle.std.specs.Prelude.{vec_capacity}
-use Rattle.std.specs.List.{list_any}
-use Rattle.std.proofs.lemmas.Bool.Decides.{nat_tests}
-use Rattle.std.proofs.lemmas.Grind.{get_or_default_zero}
 use Rattle.std.proofs.lemmas.List.{length-append, take-append-le}
 use Rattle.std.proofs.lemmas.List.Folds.{list_any-append}
-use Rattle.sched_base.specs.declared.limits.TheConstants.{MAX_CORES, MAX_THREADS}
+use Rattle.sched_base.specs.declared.limits.TheConstants.{MAX_CORES}
 use Rattle.policy_tree.specs.Meaning.{Meaning}
 use Rattle.policy_eval.specs.Obligations.{MeetsHandlerObligations}
-use Rattle.policy_eval.specs.declared.env.CoreValues.{CoreValues}
 use Rattle.round_model.specs.declared.entry.Did.{Did}
 use Rattle.round_model.specs.declared.entry.Did.TheVariants as did
 use Rattle.round_model.specs.declared.entry.Entry.{Entry}
 use Rattle.round_model.specs.declared.past.Turn.{Turn}
 use Rattle.round_model.specs.declared.plan.Plan.{Plan}
-use Rattle.round_model.specs.declared.plan.Planned.{Planned}
 use Rattle.round_model.specs.After.{after}
-use Rattle.round_model.specs.Choices.{choice_of}
 use Rattle.round_model.specs.Code.Additions.{arrivals_after, ended_by}
 use Rattle.round_model.specs.Code.Outcomes.{values_at}
 use Rattle.round_model.specs.Code.Past.{Awaits, is_flagged}
 use Rattle.round_model.specs.Cores.{seen_of}
-use Rattle.round_model.specs.Entries.{acting_core, acts, ends, is_ended}
+use Rattle.round_model.specs.Entries.{acting_core, acts, ends}
 use Rattle.round_model.specs.Fits.{Fits}
 use Rattle.round_model.specs.Kinds.{is_attempt, is_work}
 use Rattle.round_model.specs.Legal.{LegalNext, has_ended, rounds_begun}
@@ -39,7 +33,7 @@ use Rattle.core_moves.specs.Cores.{AreCoresOf, IsReachedBy}
 use Rattle.core_moves.specs.Moves.{MayMove}
 use Rattle.core_worker.specs.declared.run.Run.{Run}
 use Rattle.core_worker.specs.declared.turn.Look.{Look}
-use Rattle.core_worker.specs.Runs.{IsLookOf, IsMoment, IsRunOf, KeepsLook}
+use Rattle.core_worker.specs.Runs.{IsMoment, IsRunOf, KeepsLook}
 use Rattle.core_worker.specs.Turns.{look_of}
 
 -- what is said of a unit leaves the number of flags

@@ -1,12 +1,10 @@
 -- The rounds of serial play over running cores.
-use Rattle.std.proofs.Common.{◌≡◌, ◌<◌, ◌≤◌, ℕ, ◌+◌, List, [], length, false, None, refl, sym, ap, subst, ◌∙◌, arith}
+use Rattle.std.proofs.Common.{◌≡◌, ◌<◌, ◌≤◌, ℕ, ◌+◌, [], length, false, None, refl, sym, subst, arith}
 use Rattle.sched_base.specs.declared.limits.TheConstants.{MAX_ENTRIES}
 use Rattle.policy_tree.specs.Meaning.{Meaning}
 use Rattle.policy_eval.specs.Obligations.{MeetsHandlerObligations, MeetsObligations}
 use Rattle.policy_eval.proofs.Statements.{handler_obligations}
 use Rattle.round_laws.proofs.MainTheorem.{main_theorem}
-use Rattle.round_laws.specs.MainTheorem.{KeepsLaws}
-use Rattle.round_model.specs.declared.entry.Entry.{Entry}
 use Rattle.round_model.specs.declared.plan.Plan.{Plan}
 use Rattle.round_model.specs.Fits.{Fits}
 use Rattle.round_model.specs.Legal.{IsDue, is_due}
@@ -17,7 +15,6 @@ use Rattle.round_model.proofs.SerialEnding.{ended_whole, fits_not_full, round_le
 use Rattle.round_model.proofs.SerialWholes.{next_too}
 use Rattle.core_state.specs.Logs.{LogsOf}
 use Rattle.core_state.specs.Views.{ClosedView}
-use Rattle.core_moves.specs.Cores.{AreCoresOf}
 use Rattle.core_worker.specs.declared.run.Run.{Run}
 use Rattle.core_worker.specs.Played.{PlaysFull, PlaysWhole}
 use Rattle.core_worker.specs.Runs.{IsRunOf, MayBegin}

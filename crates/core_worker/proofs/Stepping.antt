@@ -1,5 +1,5 @@
 -- The steps of a turn, by what the turn asks.
-use Rattle.std.proofs.Common.{◌≡◌, ◌≢◌, ℕ, zero, suc, ◌+◌, ◌<◌, ◌≤◌, ◌==◌, eqb, Bool, true, false, cond, List, [], ◌∷◌, ◌++◌, length, get_or, set, Contains, IfSome, Option, Some, None, find, option_map, get_or-set_same, get_or-set_other, refl, sym, ap, subst, ◌∙◌, arith}
+use Rattle.std.proofs.Common.{◌≡◌, ◌≢◌, ℕ, zero, suc, ◌<◌, ◌==◌, eqb, true, false, cond, List, [], ◌∷◌, ◌++◌, length, set, Contains, IfSome, Option, Some, None, find, option_map, get_or-set_same, get_or-set_other, refl, sym, ap, subst, ◌∙◌, arith}
 use Rattle.std.proofs.lemmas.Bool.Decides.{nat_tests}
 use Rattle.std.proofs.lemmas.List.{append_cancel_left, length-append}
 use Rattle.policy_tree.specs.Meaning.{Meaning}
@@ -20,13 +20,12 @@ use Rattle.round_model.specs.Code.Past.{arrives_at}
 use Rattle.round_model.specs.Code.Turns.{IsLateStepOf, placement_by, step_of_dids, with_step}
 use Rattle.round_model.specs.Entries.{acting_core}
 use Rattle.round_model.specs.Fits.{Fits}
-use Rattle.round_model.specs.FreshReads.{fresh_reads}
 use Rattle.round_model.specs.Legal.{LegalNext}
 use Rattle.round_model.specs.Reads.{ReadsFit, round_start}
 use Rattle.round_model.specs.Scenes.{entering_next, has_attempted, own_entries, scene_of}
 use Rattle.round_model.specs.Serial.{SerialState, step_of, with_entry}
 use Rattle.round_model.specs.SerialMoments.{IsWithinRound}
-use Rattle.round_model.specs.Work.{IsOutcomeOfWork, worked}
+use Rattle.round_model.specs.Work.{IsOutcomeOfWork}
 use Rattle.round_model.proofs.Bounded.{bounds_law}
 use Rattle.round_model.proofs.Bursts.{have_bursts}
 use Rattle.round_model.proofs.Histories.{open_round}

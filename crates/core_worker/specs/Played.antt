@@ -1,5 +1,5 @@
 -- What serial play over running cores comes to.
-use Rattle.std.specs.Prelude.{ℕ, List}
+use Rattle.std.specs.Prelude.{List}
 use Rattle.policy_tree.specs.Meaning.{Meaning}
 use Rattle.round_laws.specs.MainTheorem.{KeepsLaws}
 use Rattle.round_model.specs.declared.entry.Entry.{Entry}

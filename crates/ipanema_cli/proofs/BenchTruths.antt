@@ -1,12 +1,11 @@
 -- From how `bench` ends to the truth of what it writes.
-use Rattle.std.proofs.Common.{◌≡◌, ◌∙◌, ◌&&◌, ℕ, Bool, true, false, inl, inr, List, [], ◌∷◌, None, Option, refl, sym, arith}
+use Rattle.std.proofs.Common.{◌≡◌, ◌&&◌, ℕ, Bool, true, false, inl, inr, List, None, Option, refl, arith}
 use Rattle.std.specs.Prelude.{nat_le, IsTrue}
 use Rattle.std.proofs.lemmas.Bool.Decides.{nat_tests}
 use Rattle.sched_io.specs.Shown.{Shown}
 use Rattle.sched_base.specs.declared.limits.TheConstants.{MAX_THREADS}
 use Rattle.obligations.specs.Counts.{first_crowded}
 use Rattle.obligations.specs.Names.{ob_names}
-use Rattle.policy_checker.specs.declared.verdict.Verdict.{Verdict}
 use Rattle.policy_checker.specs.declared.verdict.Verdict.TheVariants as verdict
 use Rattle.policy_checker.proofs.Worth.{open_one, unmet}
 use Rattle.policy_check.specs.declared.answer.CheckAnswer.TheVariants as checked

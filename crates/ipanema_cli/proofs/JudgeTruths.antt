@@ -1,13 +1,11 @@
 -- From how a command that judges a history ends to the truth of what it says.
-use Rattle.std.proofs.Common.{◌≡◌, ◌≢◌, ℕ, inl, inr, List, [], ◌∷◌, Option, refl, sym, ◌∙◌, ap, arith, subst}
+use Rattle.std.proofs.Common.{◌≡◌, ◌≢◌, ℕ, inl, inr, List, Option, refl, sym, ◌∙◌, ap, arith, subst}
 use Rattle.sched_io.specs.Puts.{joined}
 use Rattle.sched_io.specs.Shown.{Shown}
 use Rattle.sched_io.specs.Told.{Told}
 use Rattle.sched_io.specs.Written.{Adds}
 use Rattle.policy_eval.specs.Obligations.{MeetsObligations}
-use Rattle.policy_tree.specs.declared.typed.Policy.{Policy}
-use Rattle.policy_tree.specs.Meaning.{Meaning, meaning_of}
-use Rattle.policy_checker.specs.declared.answer.Answered.{Answered}
+use Rattle.policy_tree.specs.Meaning.{Meaning}
 use Rattle.policy_checker.specs.declared.verdict.Verdict.{Verdict}
 use Rattle.policy_checker.specs.declared.verdict.Verdict.TheVariants as verdict
 use Rattle.policy_checker.proofs.True.{meets}
@@ -22,9 +20,9 @@ use Rattle.round_model.specs.Legal.{Whole}
 use Rattle.job_trace.specs.declared.trace.Numbered.{Numbered}
 use Rattle.job_trace.specs.Plans.{SpellsPlan}
 use Rattle.trace_play.specs.declared.fault.LineFault.{LineFault}
-use Rattle.trace_play.specs.Plays.{HasFault, MeansPlan}
+use Rattle.trace_play.specs.Plays.{HasFault}
 use Rattle.trace_play.proofs.OnePlay.{never_faulty, one_plan, one_trace}
-use Rattle.history_reader.specs.Reading.{IsFirstBadLine, SpellsHistory}
+use Rattle.history_reader.specs.Reading.{IsFirstBadLine}
 use Rattle.history_reader.proofs.OneReading.{not_both, one_history}
 use Rattle.history_judge.proofs.Judged.{one_judgement}
 use Rattle.history_replay.specs.declared.answer.HistoryAnswer.{HistoryAnswer}
@@ -36,7 +34,6 @@ use Rattle.history_replay.specs.Lines as histories
 use Rattle.sched_report.specs.Lines.{report_lines}
 use Rattle.round_laws.proofs.MainTheorem.{main_theorem}
 use Rattle.ipanema_cli.specs.Answers.{AnswersJudging, IsAccepted, JudgesTexts, Judging}
-use Rattle.ipanema_cli.specs.Causes.{OneOf}
 use Rattle.ipanema_cli.specs.Ends.{Writes}
 use Rattle.ipanema_cli.specs.Status.{check_status, code_of, history_refusal_status, history_status, refusal_status, verdict_status}
 use Rattle.ipanema_cli.specs.Texts.{MayRead}

@@ -1,4 +1,4 @@
-use Rattle.std.proofs.Common.{◌≡◌, ◌∙◌, sym, arith}
+use Rattle.std.proofs.Common.{◌∙◌, sym, arith}
 use Rattle.policy_tree.specs.Meaning.{meaning_of}
 use Rattle.policy_eval.proofs.Statements.{handler_obligations}
 use Rattle.core_worker.proofs.Rounding.{more_played, next_may, none_played, played_all, played_full, played_whole}

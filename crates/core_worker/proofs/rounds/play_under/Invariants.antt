@@ -1,7 +1,4 @@
-use Rattle.std.proofs.Common.{◌≡◌, ◌<◌, ℕ}
 use Rattle.policy_tree.specs.Meaning.{meaning_of}
-use Rattle.round_model.specs.SerialEnds.{IsFull}
-use Rattle.round_model.specs.SerialRounds.{serial_rounds}
 use Rattle.core_worker.proofs.Rounding.{HasPlayed}
 use Rattle.core_worker.proofs.rounds.play_under.Given as goal
 

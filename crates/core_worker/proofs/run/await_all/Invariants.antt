@@ -1,4 +1,4 @@
-use Rattle.std.proofs.Common.{◌≡◌, ◌==◌, ◌≤◌, map, filter, take, length}
+use Rattle.std.proofs.Common.{◌≡◌, ◌==◌, ◌≤◌, map, filter, take}
 use Rattle.std.specs.Prelude.{vec_capacity, vec_len}
 use Rattle.round_model.specs.declared.plan.Planned.{Planned}
 use Rattle.round_model.specs.Code.Past.{arrival_of}

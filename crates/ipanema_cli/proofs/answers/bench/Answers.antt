@@ -2,14 +2,13 @@
 -- cases.
 use Rattle.std.proofs.Common.{◌≡◌, ◌∙◌, Err, ap, sym, subst}
 use Rattle.policy_tree.specs.declared.typed.Policy.{Policy}
-use Rattle.policy_tree.specs.Meaning.{Meaning, meaning_of}
+use Rattle.policy_tree.specs.Meaning.{Meaning}
 use Rattle.policy_eval.specs.Resolved.{IsResolved}
 use Rattle.obligations.specs.Counts.{first_crowded}
 use Rattle.obligations.specs.Names.{ob_names}
-use Rattle.policy_checker.specs.Verdicts.{policy_of, returned_by}
+use Rattle.policy_checker.specs.Verdicts.{returned_by}
 use Rattle.policy_checker.specs.declared.verdict.CheckFault.{CheckFault}
 use Rattle.policy_checker.specs.declared.verdict.CheckFault.TheVariants.{Cases}
-use Rattle.fair_policy.specs.Fair.{fair_meaning}
 use Rattle.fair_policy.proofs.FairResolved.{fair_resolved}
 use Rattle.ipanema_cli.proofs.BenchTruths.{few_cases, sized}
 use Rattle.ipanema_cli.proofs.answers.bench.Goals as goal

@@ -1,4 +1,4 @@
-use Rattle.std.proofs.Common.{◌∙◌, ◌≡◌, ◌&&◌, ◌||◌, Bool, true, false, ap, ap₂, refl, sym, arith}
+use Rattle.std.proofs.Common.{◌∙◌, ◌≡◌, ◌&&◌, ◌||◌, Bool, true, false, ap, refl, sym, arith}
 use Rattle.policy_tree.specs.Meaning.{meaning_of}
 use Rattle.round_model.specs.Code.Past.{is_flagged}
 use Rattle.round_model.specs.Entries.{acts}

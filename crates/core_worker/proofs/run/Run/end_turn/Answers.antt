@@ -1,9 +1,8 @@
 use Rattle.std.proofs.Common.{◌≡◌, replicate, subst, arith}
 use Rattle.policy_tree.specs.Meaning.{meaning_of}
 use Rattle.round_model.specs.SerialRounds.{most_steps}
-use Rattle.round_model.proofs.SerialEnding.{replicate_more}
 use Rattle.core_worker.specs.Runs.{Moves}
-use Rattle.core_worker.proofs.Turning.{ended_early, moved_on, still_at}
+use Rattle.core_worker.proofs.Turning.{ended_early, still_at}
 use Rattle.core_worker.proofs.run.Run.end_turn.Goals as goal
 
 pub advance-requires-clause-at : goal.advance-requires-clause-at

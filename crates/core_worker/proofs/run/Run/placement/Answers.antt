@@ -1,4 +1,4 @@
-use Rattle.std.proofs.Common.{◌∙◌, ◌≡◌, ℕ, List, Some, ap, sym}
+use Rattle.std.proofs.Common.{◌∙◌, ℕ, List, ap}
 use Rattle.policy_tree.specs.Meaning.{meaning_of, place_tree}
 use Rattle.round_model.specs.Choices.{target_by, target_of}
 use Rattle.round_model.specs.Code.Outcomes.{values_at}

@@ -1,6 +1,6 @@
-use Rattle.std.proofs.Common.{◌∙◌, ◌++◌, List, cond, fold, ap, refl, sym}
+use Rattle.std.proofs.Common.{◌++◌, cond, fold, ap, sym}
 use Rattle.policy_tree.specs.Meaning.{meaning_of}
-use Rattle.round_model.specs.Legal.{LegalNext, is_due}
+use Rattle.round_model.specs.Legal.{LegalNext}
 use Rattle.round_model.specs.Serial.{step_of}
 use Rattle.round_model.specs.SerialRounds.{order_of, remaining_turns, with_round}
 use Rattle.core_worker.specs.Runs.{opened}

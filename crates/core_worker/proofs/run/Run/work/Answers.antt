@@ -5,7 +5,7 @@ use Rattle.round_model.specs.Code.Past.{is_flagged}
 use Rattle.round_model.specs.Entries.{acts}
 use Rattle.round_model.proofs.Added.{acts_is, flag_by, flag_set}
 use Rattle.round_model.proofs.Owing.{none_by}
-use Rattle.core_worker.proofs.Noting.{flags_long, may_move, moment_added, within_of}
+use Rattle.core_worker.proofs.Noting.{flags_long, moment_added, within_of}
 use Rattle.core_worker.proofs.Stepping.{added_legal, may_work, work_step}
 use Rattle.core_worker.proofs.run.Run.work.Goals as goal
 
