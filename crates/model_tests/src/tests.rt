@@ -4,7 +4,9 @@ use crate::builders::{basic_choice, basic_policy};
 use crate::plans::{may_come_first, no_past, two_cores};
 use crate::plays::play_of_two;
 use crate::steps::legal_length_of_two;
-use round_model::{Did, Entry, History, Played, opening, reads_fit, round_due, round_start, spread_of};
+use round_model::{
+    Did, Entry, History, Played, opening, reads_fit, round_due, round_start, spread_of,
+};
 use sched_base::{Pos, Reads, ThreadId};
 use std::test::Fail;
 
