@@ -7,8 +7,8 @@ use Rattle.policy_eval.specs.Evaluable.{IsEvaluableOrder}
 use Rattle.policy_eval.specs.Ranges.{AreIn, IsIn, range, wide_ranges}
 use Rattle.policy_eval.specs.Sights.{thread_values}
 use Rattle.policy_eval.proofs.Wide.{thread_wide}
-use Rattle.model_tests.specs.Policies.{fair}
-use Rattle.model_tests.proofs.ResolvedRows.{fair_resolved}
+use Rattle.fair_policy.proofs.FairResolved.{fair_resolved}
+use Rattle.fair_policy.specs.Fair.{fair_meaning}
 
 -- an order of one variable
 pub evaluable_22 : (greatest : Bool) → IsEvaluableOrder (record { greatest = greatest; expr = variable 22 } ∷ [])
@@ -27,7 +27,7 @@ pub seat_wide : (id weight : ℕ) (used : ℤ) (place : Place) → 1 ≤ weight 
 seat_wide id weight used place some light least most =
     let fits : FitsSigned w32 used = small used least most in
     subst (λ (z : ℤ). AreIn wide_ranges (thread_values weight (z ∷ pos 0 ∷ pos 0 ∷ pos 0 ∷ pos 0 ∷ pos 0 ∷ pos 0 ∷ pos 0 ∷ []))) (sym (to_z-of_z fits))
-    (thread_wide fair fair_resolved (record { id = id; weight = weight; attrs = used ∷ pos 0 ∷ pos 0 ∷ pos 0 ∷ pos 0 ∷ pos 0 ∷ pos 0 ∷ pos 0 ∷ []; place = place })
+    (thread_wide fair_meaning fair_resolved (record { id = id; weight = weight; attrs = used ∷ pos 0 ∷ pos 0 ∷ pos 0 ∷ pos 0 ∷ pos 0 ∷ pos 0 ∷ pos 0 ∷ []; place = place })
     (record {
       weight = record { least = some; greatest = light };
       attrs = (record { above = least; below = most }, (zero_in, (zero_in, (zero_in, (zero_in, (zero_in, (zero_in, (zero_in, tt))))))));
