@@ -1,5 +1,5 @@
 -- The rounds of serial play over running cores.
-use Rattle.std.proofs.Common.{◌≡◌, ◌<◌, ◌≤◌, ℕ, ◌+◌, [], length, false, None, refl, sym, subst, arith}
+use Rattle.std.proofs.Common.{◌∙◌, ◌≡◌, ◌<◌, ◌≤◌, ℕ, ◌+◌, [], length, false, None, refl, sym, subst, arith}
 use Rattle.sched_base.specs.declared.limits.TheConstants.{MAX_ENTRIES}
 use Rattle.policy_tree.specs.Meaning.{Meaning}
 use Rattle.policy_eval.specs.Obligations.{MeetsHandlerObligations, MeetsObligations}
@@ -58,22 +58,24 @@ module _ (p : Meaning) (plan : Plan) (fits : Fits p plan) (meets : MeetsObligati
   }
 
   -- no round is due any more
-  pub played_whole : (closed : ClosedView) → LogsOf played.state.history closed → k ≤ plan.rounds → is_due plan played.state.history ≡ false → PlaysWhole p plan closed
-  played_whole closed logs within none = record {
+  pub played_whole : (closed : ClosedView) → closed.cores ≡ run.cores.cores → LogsOf played.state.history closed → k ≤ plan.rounds → is_due plan played.state.history ≡ false → PlaysWhole p plan closed
+  played_whole closed same logs within none = record {
     history = played.state.history;
+    cores = same ∙ played.at.cores.cores;
     logs = logs;
     ends = ended_whole p plan fits handlers k played.state.history within played.serial none few played.fitted;
     keeps = main_theorem p meets plan played.state.history fits played.at.legal;
   }
 
-  pub played_all : (closed : ClosedView) → LogsOf played.state.history closed → k ≡ plan.rounds → PlaysWhole p plan closed
-  played_all closed logs all =
-      played_whole closed logs (omega (arith, all)) (rounds_over p plan fits handlers k played.state.history played.serial (omega (arith, all)))
+  pub played_all : (closed : ClosedView) → closed.cores ≡ run.cores.cores → LogsOf played.state.history closed → k ≡ plan.rounds → PlaysWhole p plan closed
+  played_all closed same logs all =
+      played_whole closed same logs (omega (arith, all)) (rounds_over p plan fits handlers k played.state.history played.serial (omega (arith, all)))
 
   -- the next round might not fit
-  pub played_full : (closed : ClosedView) → LogsOf played.state.history closed → IsDue plan played.state.history → (RoundFits plan run.cores.entries → ⊥) → PlaysFull p plan closed
-  played_full closed logs due full = record {
+  pub played_full : (closed : ClosedView) → closed.cores ≡ run.cores.cores → LogsOf played.state.history closed → IsDue plan played.state.history → (RoundFits plan run.cores.entries → ⊥) → PlaysFull p plan closed
+  played_full closed same logs due full = record {
     history = played.state.history;
+    cores = same ∙ played.at.cores.cores;
     logs = logs;
     stops = stopped_full p plan fits handlers k played.state.history played.serial due (λ room. full (subst (RoundFits plan) (sym count_is) room)) few played.fitted;
     keeps = main_theorem p meets plan played.state.history fits played.at.legal;

@@ -85,7 +85,8 @@ Moves p plan cores old new =
 -- the thread is the next that the core lets in
 abbrev pub Enters : Plan → (a thread : ℕ) → SerialState → Type 0
 Enters plan a thread s =
-    Some thread ≡ option_map (λ (t : Planned). t.id) (entering_next plan (round_of s.history) a (own_entries s.history a))
+    Some thread ≡ option_map (λ (t : Planned). t.id)
+    (entering_next plan (round_of s.history) a (own_entries s.history a))
 
 -- no thread is left that the core is to let in
 abbrev pub HasLetIn : Plan → ℕ → SerialState → Type 0

@@ -53,7 +53,8 @@ impl Run {
     ) -> Entry
         requires fits { Fits (meaning_of policy.now) plan.now }
         requires handlers { MeetsHandlerObligations (meaning_of policy.now) }
-        requires at { IsAt (meaning_of policy.now) plan.now (HasLooked (meaning_of policy.now) plan.now core look) self.now }
+        requires at { IsAt (meaning_of policy.now) plan.now
+            (HasLooked (meaning_of policy.now) plan.now core look) self.now }
         requires core { core < plan.now.cores }
         ensures kind { IsTrue (is_attempt result) }
         ensures acts { acting_core result ≡ Some core }

@@ -50,7 +50,8 @@ impl Run {
 
     /// Whether a next round is due.
     pub(crate) fn is_due(&self, plan: &Plan) -> bool
-        ensures { (p : Meaning) (s : SerialState) → IsRunOf p plan.now self.now s → result ≡ is_due_after plan.now s.history }
+        ensures { (p : Meaning) (s : SerialState) → IsRunOf p plan.now self.now s →
+            result ≡ is_due_after plan.now s.history }
     {
         is_due_by(plan, self.round, &self.ended)
     }

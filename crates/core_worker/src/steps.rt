@@ -83,7 +83,8 @@ impl Run {
     fn wake(&mut self, policy: &Policy, plan: &Plan, core: CoreId, thread: ThreadId)
         requires fits { Fits (meaning_of policy.now) plan.now }
         requires handlers { MeetsHandlerObligations (meaning_of policy.now) }
-        requires at { IsAt (meaning_of policy.now) plan.now (Wakes (meaning_of policy.now) plan.now core thread) self.old }
+        requires at { IsAt (meaning_of policy.now) plan.now
+            (Wakes (meaning_of policy.now) plan.now core thread) self.old }
         requires core { core < plan.now.cores }
         ensures { Steps (meaning_of policy.now) plan.now core (Wakes (meaning_of policy.now) plan.now core thread)
             self.old self.new }
@@ -126,7 +127,8 @@ impl Run {
     fn attempt(&mut self, policy: &Policy, plan: &Plan, core: CoreId, look: Look)
         requires fits { Fits (meaning_of policy.now) plan.now }
         requires handlers { MeetsHandlerObligations (meaning_of policy.now) }
-        requires at { IsAt (meaning_of policy.now) plan.now (HasLooked (meaning_of policy.now) plan.now core look) self.old }
+        requires at { IsAt (meaning_of policy.now) plan.now
+            (HasLooked (meaning_of policy.now) plan.now core look) self.old }
         requires core { core < plan.now.cores }
         ensures { Steps (meaning_of policy.now) plan.now core (HasLooked (meaning_of policy.now) plan.now core look)
             self.old self.new }

@@ -1,6 +1,7 @@
-use Rattle.std.proofs.Common.{◌∙◌, sym, arith}
+use Rattle.std.proofs.Common.{◌∙◌, ap, sym, arith}
 use Rattle.policy_tree.specs.Meaning.{meaning_of}
 use Rattle.policy_eval.proofs.Statements.{handler_obligations}
+use Rattle.core_state.specs.Views.{ClosedView}
 use Rattle.core_worker.proofs.Rounding.{more_played, next_may, none_played, played_all, played_full, played_whole}
 use Rattle.core_worker.proofs.rounds.play_under.Goals as goal
 
@@ -10,13 +11,13 @@ loop-begun-init c = none_played (meaning_of c.args.policy.now) c.args.plan.now _
 pub returns-then-not-is_due-clause-whole : goal.returns-then-not-is_due-clause-whole
 returns-then-not-is_due-clause-whole c =
     let p = meaning_of c.args.policy.now in let plan = c.args.plan.now in let played = c.loop-begun.invariant in
-    played_whole p plan c.requires.fits c.requires.meets c.loop-begun.begun c.loop-begun.run played _ (c.close.ensures.logs p plan played.state.history played.at.legal played.at.cores) (omega arith)
+    played_whole p plan c.requires.fits c.requires.meets c.loop-begun.begun c.loop-begun.run played _ (ap (λ (v : ClosedView). v.cores) c.close.ensures.same) (c.close.ensures.logs p plan played.state.history played.at.legal played.at.cores) (omega arith)
     (sym (c.is_due.ensures p played.state played.at) ∙ c.if-not-is_due.true)
 
 pub returns-then-not-round_fits-clause-fault : goal.returns-then-not-round_fits-clause-fault
 returns-then-not-round_fits-clause-fault c =
     let p = meaning_of c.args.policy.now in let plan = c.args.plan.now in let played = c.loop-begun.invariant in
-    played_full p plan c.requires.fits c.requires.meets c.loop-begun.begun c.loop-begun.run played c.close-then-not-round_fits.result
+    played_full p plan c.requires.fits c.requires.meets c.loop-begun.begun c.loop-begun.run played c.close-then-not-round_fits.result (ap (λ (v : ClosedView). v.cores) c.close-then-not-round_fits.ensures.same)
     (c.close-then-not-round_fits.ensures.logs p plan played.state.history played.at.legal played.at.cores)
     (sym (c.is_due.ensures p played.state played.at) ∙ c.if-not-is_due.false)
     (λ room. let count = c.entries.ensures in let fits = c.round_fits.ensures.1 (omega (arith, count)) in let none = c.if-not-round_fits.true in absurd (cc))
@@ -41,5 +42,5 @@ loop-begun-preserved c =
 pub returns-clause-whole : goal.returns-clause-whole
 returns-clause-whole c =
     let p = meaning_of c.args.policy.now in let plan = c.args.plan.now in let played = c.loop-begun.invariant in
-    played_all p plan c.requires.fits c.requires.meets c.loop-begun.begun c.loop-begun.run played c.close-2.result
+    played_all p plan c.requires.fits c.requires.meets c.loop-begun.begun c.loop-begun.run played c.close-2.result (ap (λ (v : ClosedView). v.cores) c.close-2.ensures.same)
     (c.close-2.ensures.logs p plan played.state.history played.at.legal played.at.cores) (omega arith)
