@@ -5,7 +5,7 @@ ghost use Rattle.sched_base.specs.declared.limits.TheConstants.{MAX_CORES};
 ghost use Rattle.round_model.specs.declared.entry.Entry.{Entry as ModelEntry};
 ghost use Rattle.core_state.specs.Logs.{AreLogsOfOne, LogsOf};
 ghost use Rattle.core_state.specs.Views.{ClosedView};
-ghost use Rattle.history_merge.specs.Code.Moves.{entry_there, moved};
+ghost use Rattle.history_merge.specs.Code.Moves.{entry_there, lent, moved};
 
 use core_state::{Closed, Logged};
 use round_model::Entry;
@@ -54,52 +54,52 @@ impl Cursors {
             let next = self.next_of(core, closed.core(core).entries(), at);
             found = next.or(found);
         }
-        found
+        found.copied()
     }
 
     /// The entry where the cursor of the core stands in that log, if its position is that one. The cursor passes it.
-    fn next_of(&mut self, core: CoreId, log: &[Logged], at: Pos) -> Option<Entry>
+    fn next_of<'a>(&mut self, core: CoreId, log: &'a [Logged], at: Pos) -> Option<&'a Entry>
         requires core { core < MAX_CORES }
         requires cursor { slice_index self.old.cores core < u32.MAX }
-        ensures entry { result ≡ entry_there at (slice_get log.now (slice_index self.old.cores core)) }
+        ensures entry { lent result ≡ entry_there at (slice_get log.now (slice_index self.old.cores core)) }
         ensures cursor { self.new ≡ record self.old {
-          cores = slice_set self.old.cores core (moved (slice_index self.old.cores core) result);
+          cores = slice_set self.old.cores core (moved (slice_index self.old.cores core) (lent result));
         } }
     {
         let cursor = self.cores[core as usize];
         let entry = entry_at(log, cursor, at);
-        self.cores[core as usize] = behind(cursor, &entry);
+        self.cores[core as usize] = behind(cursor, entry);
         entry
     }
 
     /// The same of the log of rounds.
-    fn next_round(&mut self, log: &[Logged], at: Pos) -> Option<Entry>
+    fn next_round<'a>(&mut self, log: &'a [Logged], at: Pos) -> Option<&'a Entry>
         requires { self.old.rounds < u32.MAX }
-        ensures entry { result ≡ entry_there at (slice_get log.now self.old.rounds) }
-        ensures cursor { self.new ≡ record self.old { rounds = moved self.old.rounds result } }
+        ensures entry { lent result ≡ entry_there at (slice_get log.now self.old.rounds) }
+        ensures cursor { self.new ≡ record self.old { rounds = moved self.old.rounds (lent result) } }
     {
         let entry = entry_at(log, self.rounds, at);
-        self.rounds = behind(self.rounds, &entry);
+        self.rounds = behind(self.rounds, entry);
         entry
     }
 }
 
 /// The entry where that cursor stands in the log, if its position is that one.
-fn entry_at(log: &[Logged], cursor: u32, at: Pos) -> Option<Entry>
-    ensures { result ≡ entry_there at (slice_get log.now cursor) }
+fn entry_at<'a>(log: &'a [Logged], cursor: u32, at: Pos) -> Option<&'a Entry>
+    ensures { lent result ≡ entry_there at (slice_get log.now cursor) }
 {
     let next = log.get(cursor as usize)?;
     if next.at == at {
-        Some(next.entry)
+        Some(&next.entry)
     } else {
         None
     }
 }
 
 /// Where the cursor stands then: behind the entry, where there is one.
-fn behind(cursor: u32, entry: &Option<Entry>) -> u32
+fn behind(cursor: u32, entry: Option<&Entry>) -> u32
     requires { cursor < u32.MAX }
-    ensures { result ≡ moved cursor entry.now }
+    ensures { result ≡ moved cursor (lent entry.entry) }
 {
     match entry {
         Some(_) => cursor + 1,
