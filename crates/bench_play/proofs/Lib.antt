@@ -1,3 +1,2 @@
 pub mod Benches
-pub mod Bounds
 pub mod MadePlans

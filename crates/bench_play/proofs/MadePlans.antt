@@ -12,6 +12,8 @@ use Rattle.policy_tree.specs.declared.typed.Load.TheVariants as load
 use Rattle.policy_tree.specs.Meaning.{Meaning}
 use Rattle.round_model.specs.declared.plan.Plan.{Plan}
 use Rattle.round_model.specs.Fits.{Fits}
+use Rattle.round_model.specs.Room.{HasRoomForRounds}
+use Rattle.round_model.specs.SerialEnds.{most_entries}
 use Rattle.job_trace.specs.declared.plan_fault.PlanFault.{PlanFault}
 use Rattle.job_trace.specs.declared.trace.Numbered.{Numbered}
 use Rattle.job_trace.specs.Plans.{SpellsPlan, first_fault, is_foreign, limit_of, line_fault, rounds_of, IsForeign, thread_of, threads_of}
@@ -20,7 +22,6 @@ use Rattle.trace_maker.specs.Generator.{drawn, state_after}
 use Rattle.trace_maker.specs.Made.{made, made_trace, thread_line, thread_lines}
 use Rattle.fair_policy.specs.Fair.{fair_meaning}
 use Rattle.bench_play.specs.Bench.{IsMadePlan, IsSize}
-use Rattle.bench_play.specs.Room.{HasRoomForAll, most_entries}
 
 -- the weight of a made thread is one that the policy has
 weight_fits : (draw : ℕ) → is_foreign (load.Weight 1 8) (1 + draw / 32 % 8) ≡ false
@@ -80,7 +81,7 @@ is_made_plan seed size plan sized spells fits = record {
 }
 
 -- 60 rounds of at most 1,088 entries
-pub made_room : (seed size : ℕ) (plan : Plan) → IsSize size → IsMadePlan seed size plan → HasRoomForAll plan
+pub made_room : (seed size : ℕ) (plan : Plan) → IsSize size → IsMadePlan seed size plan → HasRoomForRounds plan
 made_room seed size plan sized planned =
     let same : made_trace seed size ≡ planned.trace = cc (is_made seed size sized, planned.made) in
     let rounds : plan.rounds ≡ 60 = ap (λ (q : Plan). q.rounds) planned.means.is ∙ sym (ap rounds_of same) in

@@ -1,3 +1,2 @@
 pub mod Bench
 pub mod Lines
-pub mod Room

@@ -7,7 +7,7 @@ mod planning;
 mod playing;
 mod printing;
 
-pub use laws::{law_entry_bound, law_one_bench, law_room_suffices};
+pub use laws::law_one_bench;
 pub use memory::BenchMemory;
 pub use playing::{BenchTotals, play_bench};
 pub use printing::print_bench;

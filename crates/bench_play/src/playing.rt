@@ -3,10 +3,10 @@
 ghost use Rattle.std.specs.Prelude.{◌≡◌, IfOk};
 ghost use Rattle.policy_tree.specs.Meaning.{meaning_of};
 ghost use Rattle.round_model.specs.Fits.{Fits};
+ghost use Rattle.round_model.specs.Room.{HasRoomForRounds};
 ghost use Rattle.round_model.specs.SerialEnds.{EndsWhole};
 ghost use Rattle.fair_policy.specs.Fair.{fair_meaning};
 ghost use Rattle.bench_play.specs.Bench.{IsBench, IsSize};
-ghost use Rattle.bench_play.specs.Room.{HasRoomForAll};
 
 use crate::memory::BenchMemory;
 use crate::planning::made_plan;
@@ -53,7 +53,7 @@ fn whole_history(
 ) -> Result<History, BenchMemory>
     requires policy { meaning_of policy.now ≡ fair_meaning }
     requires fits { Fits (meaning_of policy.now) plan.now }
-    requires room { HasRoomForAll plan.now }
+    requires room { HasRoomForRounds plan.now }
     ensures { IfOk result (EndsWhole (meaning_of policy.now) plan.now) }
 {
     match play_plan(alloc, policy, plan)? {

@@ -6,6 +6,5 @@ pub mod Reached
 pub mod Seeing
 pub mod Shown
 pub mod Stealing
-pub mod Touched
 pub mod Waking
 pub mod Working

@@ -15,17 +15,16 @@ ghost use Rattle.round_model.specs.Cores.{seen_of};
 ghost use Rattle.round_model.specs.Fits.{Fits};
 ghost use Rattle.round_model.specs.Reads.{values_of};
 ghost use Rattle.round_model.specs.Scenes.{waking_next};
-ghost use Rattle.core_state.specs.Logs.{after_last};
 ghost use Rattle.core_moves.specs.Code.Changes.{HoldsAt, IsCountable};
 ghost use Rattle.core_moves.specs.Cores.{AreReached};
 ghost use Rattle.core_moves.specs.Sights.{OfEach, reads_now, values_now};
 
 use crate::cores::Cores;
-use core_state::Logged;
+use core_state::end_of;
 use policy_eval::{CoreValues, Env, holds};
 use policy_tree::Policy;
 use round_model::{Plan, choice, target};
-use sched_base::{CoreId, MAX_ATTRIBUTES, MAX_CORES, MAX_ENTRIES, Pos, Reads, ThreadId};
+use sched_base::{CoreId, MAX_ATTRIBUTES, MAX_CORES, Reads, ThreadId};
 
 impl Cores {
     /// What a core that looks just now reads: of each core the position behind the last entry that touched it, or the
@@ -150,17 +149,6 @@ impl Cores {
             consts: *plan.consts.get(core),
         }
     }
-}
-
-/// The position behind the last entry of a log, and 0 where the log is empty.
-fn end_of(log: &[Logged]) -> Pos
-    requires { after_last 0 log.now ≤ MAX_ENTRIES }
-    ensures { result ≡ after_last 0 log.now }
-{
-    if log.is_empty() {
-        return 0;
-    }
-    log[log.len() - 1].at + 1
 }
 
 /// What is known of a core that isn't there.

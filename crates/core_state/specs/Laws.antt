@@ -14,7 +14,8 @@ LogGrowsLaw = (test : Entry → Bool) (history : List Entry) (e : Entry) →
 
 -- no entry of a log stands behind the history
 abbrev pub LastWithinLaw : Type 0
-LastWithinLaw = (test : Entry → Bool) (history : List Entry) → after_last 0 (logged_from test 0 history) ≤ length history
+LastWithinLaw = (test : Entry → Bool) (history : List Entry) →
+    after_last 0 (logged_from test 0 history) ≤ length history
 
 -- from the last entry of its log on, a core stays as it is
 abbrev pub QuietLaw : Type 0

@@ -12,6 +12,6 @@ pub mod state;
 mod steps;
 
 pub use crate::closed::Closed;
-pub use crate::logged::Logged;
+pub use crate::logged::{Logged, end_of};
 pub use crate::memory::StateMemory;
 pub use crate::state::CoreState;

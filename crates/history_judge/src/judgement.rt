@@ -19,7 +19,8 @@ pub struct Replayed {
 pub enum ReplayFault {
     /// The position, from 0, of the first entry that isn't legal after those before it.
     Illegal(Pos),
-    /// All entries are legal, so many they are, and more have to come: the last round isn't complete, or one more is due.
+    /// All entries are legal, so many they are, and more have to come: the last round isn't complete, or one more is
+    /// due.
     Short(Pos),
     /// There was no memory to judge it.
     Memory,

@@ -1,5 +1,5 @@
-//! The program `ipanema`: it checks scheduling policies and explains what fails, plays traces of jobs under them, judges
-//! and reports histories, makes traces, and tells what those come to.
+//! The program `ipanema`: it checks scheduling policies and explains what fails, plays traces of jobs under them,
+//! judges and reports histories, makes traces, and tells what those come to.
 #![tactic(auto)]
 
 mod answers;

@@ -1,5 +1,7 @@
 //! Which values of a variable leave a whole number for the one below it, by an equation of the two. Nothing is promised
-//! of them: each point that the walk finds is tested.
+//! of them but that they lie in their range: each point that the walk finds is tested.
+
+ghost use Rattle.std.specs.Prelude.{◌≤ℤ◌, IfSome};
 
 use crate::derived::Derived;
 use crate::factors::MAX_NUMBER;
@@ -120,7 +122,9 @@ fn held(number: u64) -> i64 {
 impl Stride {
     /// One of the values that are tried in a range: its ends, its middle, and the neighbours of its ends. There is none
     /// where it isn't in the range.
-    pub fn picked(self, range: Bound, pick: u32) -> Option<i64> {
+    pub fn picked(self, range: Bound, pick: u32) -> Option<i64>
+        ensures inside { IfSome result (λ value. range.lo ≤ℤ value × value ≤ℤ range.hi) }
+    {
         let value = match pick {
             0 => self.first(range.lo),
             1 => self.last(range.hi),

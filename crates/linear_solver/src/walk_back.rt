@@ -1,7 +1,7 @@
 //! A walk back through the lists of an elimination, which picks a value for one variable after another,
 //! the last first. Nothing is promised of what it finds but that it ends: each point is tested.
 
-ghost use Rattle.std.specs.Prelude.{◌≤◌};
+ghost use Rattle.std.specs.Prelude.{◌≡◌, ◌≤◌, pos, slice_index_or};
 
 use crate::derived::Derived;
 use crate::stride::stride_of;
@@ -84,7 +84,9 @@ fn narrowed(range: Bound, row: &Derived, values: &[i64], variable: usize) -> Bou
 }
 
 /// The coefficient of the variable, 0 where the row has none.
-pub fn coefficient_at(coefs: &[i64], variable: usize) -> i64 {
+pub fn coefficient_at(coefs: &[i64], variable: usize) -> i64
+    ensures { slice_index_or coefs.now variable (pos 0) ≡ result }
+{
     match coefs.get(variable) {
         Some(coef) => *coef,
         None => 0,

@@ -15,7 +15,8 @@ choose first
 steal first
 ";
 
-// The third obligation has two systems, neither of differences. The first one of the basic policy has one of differences.
+// The third obligation has two systems, neither of differences. The first one of the basic policy has one of
+// differences.
 #[test]
 fn kinds_and_points_of_systems(rt: HostRuntime) -> Result<(), Fail> {
     let all = made(rt.alloc(), WEIGHTED)?;

@@ -16,6 +16,7 @@ pub mod Counting
 pub mod Directories
 pub mod Elections
 pub mod Entering
+pub mod EntryBounds
 pub mod Finding
 pub mod Free
 pub mod Gaining
@@ -23,6 +24,7 @@ pub mod Grows
 pub mod Histories
 pub mod Judging
 pub mod Keeping
+pub mod Locality
 pub mod Longer
 pub mod Moved
 pub mod Openings
@@ -32,6 +34,7 @@ pub mod OwedTotals
 pub mod Owing
 pub mod Pasts
 pub mod Paying
+pub mod Reaching
 pub mod SerialEnding
 pub mod SerialSteps
 pub mod SerialTurns

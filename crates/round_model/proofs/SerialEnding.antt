@@ -13,7 +13,7 @@ use Rattle.round_model.specs.Fits.{Fits}
 use Rattle.round_model.specs.Legal.{IsComplete, IsDue, Legal, LegalNext, is_due, rounds_begun}
 use Rattle.round_model.specs.Owed.{owed_total}
 use Rattle.round_model.specs.Serial.{SerialState, step_of}
-use Rattle.round_model.specs.SerialEnds.{EndsWhole, IsFull, RoundFits, StopsFull}
+use Rattle.round_model.specs.SerialEnds.{EndsWhole, IsFull, RoundFits, StopsFull, most_entries}
 use Rattle.round_model.specs.SerialRounds.{serial_rounds, with_round}
 use Rattle.round_model.proofs.Begun.{due_within}
 use Rattle.round_model.proofs.OwedBounds.{owed_bound}
@@ -104,7 +104,7 @@ module _ (p : Meaning) (plan : Plan) (fits : Fits p plan) (handlers : MeetsHandl
         few = few;
         full = record {
           due = due;
-          full = elim (ltb plan.limit (length h + 1 + 2 * plan.cores + length plan.threads)) as (λ b. ltb plan.limit (length h + 1 + 2 * plan.cores + length plan.threads) ≡ b → plan.limit < length h + 1 + 2 * plan.cores + length plan.threads) [
+          full = elim (ltb plan.limit (length h + most_entries plan)) as (λ b. ltb plan.limit (length h + most_entries plan) ≡ b → plan.limit < length h + most_entries plan) [
             | true ↦ λ e. grind (arith, nat_tests)
             | false ↦ λ e. absurd (full (grind (arith, nat_tests)))
           ] refl;

@@ -17,6 +17,7 @@ use Rattle.round_model.specs.Fits.{Fits, OrderFits}
 use Rattle.round_model.specs.Legal.{IsComplete, IsDue, Legal, LegalNext, is_complete, is_due, rounds_begun}
 use Rattle.round_model.specs.Scenes.{has_attempted, own_entries}
 use Rattle.round_model.specs.Serial.{SerialState, step_of}
+use Rattle.round_model.specs.SerialEnds.{most_entries}
 use Rattle.round_model.specs.SerialLaws.{IsBeginning, SerialRoundsLaw, SerialWholeLaw, StopsFullLaw}
 use Rattle.round_model.specs.SerialMoments.{IsWithinRound}
 use Rattle.round_model.specs.SerialRounds.{cores_in, most_steps, order_of, remaining_turns, serial_history, serial_rounds, with_round}
@@ -27,6 +28,10 @@ use Rattle.round_model.proofs.Keeping.{All-append}
 use Rattle.round_model.proofs.Longer.{begun_more}
 use Rattle.round_model.proofs.OwedBounds.{owed_bound}
 use Rattle.round_model.proofs.SerialTurns.{All-same, keeps_all, keeps_both, turn_made}
+
+-- once more
+pub times_more : (n most : ℕ) → (n + 1) * most ≡ n * most + most
+times_more n most = omega arith
 
 -- one number more
 map_same : (xs : List ℕ) → map (λ (k : ℕ). k) xs ≡ xs
@@ -117,7 +122,7 @@ module _ (p : Meaning) (plan : Plan) (fits : Fits p plan) (handlers : MeetsHandl
     pub legal : Legal p plan new
     pub complete : IsComplete plan new
     pub rounds : rounds_begun new ≡ rounds_begun old + 1
-    pub few : length new ≤ length old + (1 + 2 * plan.cores + length plan.threads)
+    pub few : length new ≤ length old + most_entries plan
     pub rest : List Entry
     pub longer : new ≡ old ++ rest
 
@@ -175,16 +180,13 @@ serial_stays p plan k none (suc j) =
     ∙ same))
 
 module _ (p : Meaning) (plan : Plan) (fits : Fits p plan) (handlers : MeetsHandlerObligations p) where
-  abbrev each_round : ℕ
-  each_round = 1 + 2 * plan.cores + length plan.threads
-
   -- so many rounds of serial play
   record IsKept (k : ℕ) : Type 0 where
     legal : Legal p plan (serial_rounds p plan k)
     complete : IsComplete plan (serial_rounds p plan k)
     rounds : rounds_begun (serial_rounds p plan k) ≤ k
     all_due : IsDue plan (serial_rounds p plan k) → rounds_begun (serial_rounds p plan k) ≡ k
-    few : length (serial_rounds p plan k) ≤ k * each_round
+    few : length (serial_rounds p plan k) ≤ k * most_entries plan
 
   -- the next round comes, or none is due
   pub record OneMore (old new : List Entry) : Type 0 where
@@ -204,7 +206,7 @@ module _ (p : Meaning) (plan : Plan) (fits : Fits p plan) (handlers : MeetsHandl
       let now : RoundPlayed p plan fits handlers h (serial_rounds p plan (k + 1)) = subst (RoundPlayed p plan fits handlers h) is played in
       let before = kept.few in
       let one = now.few in
-      let product : (k + 1) * each_round ≡ k * each_round + each_round = times_more k each_round in (
+      let product : (k + 1) * most_entries plan ≡ k * most_entries plan + most_entries plan = times_more k (most_entries plan) in (
         record {
           legal = now.legal;
           complete = now.complete;
@@ -214,15 +216,12 @@ module _ (p : Meaning) (plan : Plan) (fits : Fits p plan) (handlers : MeetsHandl
         },
         record { rest = now.rest; longer = now.longer },
       )
-    where
-      times_more : (n m : ℕ) → (n + 1) * m ≡ n * m + m
-      times_more n m = grind (arith)
   kept_more k kept false none =
       let h = serial_rounds p plan k in
       let same : h ≡ serial_rounds p plan (k + 1) = sym (serial_more p plan k ∙ not_due_stays p plan h (k + 1) none) in
       let few = kept.few in
       let rounds = kept.rounds in
-      let grows : k * each_round ≤ (k + 1) * each_round = grind (arith) in (
+      let grows : k * most_entries plan ≤ (k + 1) * most_entries plan = omega (arith, times_more k (most_entries plan)) in (
         record {
           legal = subst (Legal p plan) same kept.legal;
           complete = subst (IsComplete plan) same kept.complete;

@@ -1,5 +1,5 @@
--- What the code works with on its way. A reader of the model needs none of it: no definition and no law outside this
--- folder rests on what stands here.
+-- What the code works with on its way. A reader of the model needs none of it: no definition and no law of `specs/`
+-- outside this folder rests on what stands here.
 pub mod Additions
 pub mod Kept
 pub mod Lists

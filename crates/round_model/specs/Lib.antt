@@ -15,6 +15,7 @@ pub mod FreshReads
 pub mod Kinds
 pub mod Laws
 pub mod Legal
+pub mod Local
 pub mod Moves
 pub mod OnePlace
 pub mod Owed
@@ -22,6 +23,7 @@ pub mod OwedLaws
 pub mod Phases
 pub mod Programs
 pub mod Reads
+pub mod Room
 pub mod Rounds
 pub mod Rows
 pub mod Scenes

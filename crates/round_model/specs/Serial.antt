@@ -13,7 +13,7 @@ use Rattle.round_model.specs.Reads.{read_values}
 use Rattle.round_model.specs.Scenes.{Scene, scene_of}
 use Rattle.round_model.specs.Work.{worked}
 
--- the history so far, and the look of each core that has looked in the open round and made no attempt yet
+-- the history so far, and the look of each core that has looked in the open round
 pub record SerialState : Type 0 where
   pub history : List Entry
   pub looks : ℕ → Option (List ℕ)

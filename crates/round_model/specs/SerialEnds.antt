@@ -9,15 +9,18 @@ use Rattle.round_model.specs.declared.serial.Played.TheVariants as played
 use Rattle.round_model.specs.Legal.{IsComplete, IsDue, Legal, Whole}
 use Rattle.round_model.specs.SerialRounds.{serial_history, serial_rounds}
 
--- behind so many entries, all that a round may add fits the plan's limit: its beginning, two entries for each core, and
--- one for each thread
+-- the most entries of a round: its beginning, two for each core, and one for each thread
+abbrev pub most_entries : Plan → ℕ
+most_entries plan = 1 + 2 * plan.cores + length plan.threads
+
+-- behind so many entries, all that a round may add fits the plan's limit
 abbrev pub RoundFits : Plan → ℕ → Type 0
-RoundFits plan entries = entries + 1 + 2 * plan.cores + length plan.threads ≤ plan.limit
+RoundFits plan entries = entries + most_entries plan ≤ plan.limit
 
 -- a round is due, and all that it may add doesn't fit the plan's limit
 pub record IsFull (plan : Plan) (history : List Entry) : Type 0 where
   pub due : IsDue plan history
-  pub full : plan.limit < length history + 1 + 2 * plan.cores + length plan.threads
+  pub full : plan.limit < length history + most_entries plan
 
 -- serial play came to its end: its history is whole, and every round fitted
 pub record EndsWhole (p : Meaning) (plan : Plan) (history : List Entry) : Type 0 where

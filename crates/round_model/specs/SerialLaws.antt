@@ -1,12 +1,12 @@
 -- What the serial history of a plan is meant to be.
-use Rattle.std.specs.Prelude.{◌≡◌, ℕ, ◌+◌, ◌*◌, ◌<◌, ◌≤◌, List, ◌++◌, length}
+use Rattle.std.specs.Prelude.{◌≡◌, ℕ, ◌*◌, ◌<◌, ◌≤◌, List, ◌++◌, length}
 use Rattle.policy_tree.specs.Meaning.{Meaning}
 use Rattle.policy_eval.specs.Obligations.{MeetsHandlerObligations}
 use Rattle.round_model.specs.declared.entry.Entry.{Entry}
 use Rattle.round_model.specs.declared.plan.Plan.{Plan}
 use Rattle.round_model.specs.Fits.{Fits}
 use Rattle.round_model.specs.Legal.{IsComplete, Legal, Whole, rounds_begun}
-use Rattle.round_model.specs.SerialEnds.{StopsFull}
+use Rattle.round_model.specs.SerialEnds.{StopsFull, most_entries}
 use Rattle.round_model.specs.SerialRounds.{serial_history, serial_rounds}
 
 -- the history begins the serial history of the plan
@@ -14,12 +14,12 @@ pub record IsBeginning (p : Meaning) (plan : Plan) (history : List Entry) : Type
   pub rest : List Entry
   pub whole : serial_history p plan ≡ history ++ rest
 
--- so many rounds of serial play: a legal beginning of the serial history, in complete rounds of few entries
+-- so many rounds of serial play: a legal beginning of the serial history, in complete rounds of `most_entries` each at most
 pub record AreRounds (p : Meaning) (plan : Plan) (k : ℕ) : Type 0 where
   pub legal : Legal p plan (serial_rounds p plan k)
   pub complete : IsComplete plan (serial_rounds p plan k)
   pub rounds : rounds_begun (serial_rounds p plan k) ≤ k
-  pub few : length (serial_rounds p plan k) ≤ k * (1 + 2 * plan.cores + length plan.threads)
+  pub few : length (serial_rounds p plan k) ≤ k * most_entries plan
   pub begins : IsBeginning p plan (serial_rounds p plan k)
 
 -- so it is of every number of rounds

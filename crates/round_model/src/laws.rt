@@ -3,7 +3,9 @@
 ghost use Rattle.round_model.specs.Bursts.{BurstsLaw};
 ghost use Rattle.round_model.specs.BoundsLaws.{BoundsLaw, OpenRoundLaw};
 ghost use Rattle.round_model.specs.Laws.{ActingLaw, ConstantsLaw, EnteringLaw, LegalGrows, OneMoreLaw, OpeningLaw, PrefixLaw, UntouchedLaw};
+ghost use Rattle.round_model.specs.Local.{LocalLaw};
 ghost use Rattle.round_model.specs.OwedLaws.{NoneFallsDueLaw, OwedBoundLaw, OwedLaw};
+ghost use Rattle.round_model.specs.Room.{EntryBoundLaw, RoomSufficesLaw};
 ghost use Rattle.round_model.specs.SerialLaws.{SerialRoundsLaw, SerialWholeLaw, StopsFullLaw};
 
 /// The state after a longer history is what its last entry makes of the state before it.
@@ -56,6 +58,12 @@ pub fn law_open_round()
     ensures { OpenRoundLaw }
 {}
 
+/// An entry of a core is legal next exactly where it is so in every moment of which as much is known as the entry
+/// needs.
+pub fn law_local()
+    ensures { LocalLaw }
+{}
+
 /// After a legal history numbers lie in their ranges, and threads stand once at most and come from the plan alone.
 pub fn law_bounds()
     ensures { BoundsLaw }
@@ -74,6 +82,16 @@ pub fn law_none_falls_due()
 /// No more is ever owed than an entry for each thread and two for each core.
 pub fn law_owed_bound()
     ensures { OwedBoundLaw }
+{}
+
+/// A legal history has no more entries than its rounds may have.
+pub fn law_entry_bound()
+    ensures { EntryBoundLaw }
+{}
+
+/// In a plan with room for its rounds no round comes due that might not fit.
+pub fn law_room_suffices()
+    ensures { RoomSufficesLaw }
 {}
 
 /// So many rounds of serial play are complete, legal, and a beginning of the serial history.

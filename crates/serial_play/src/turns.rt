@@ -50,7 +50,8 @@ pub(crate) fn end_turn(
     requires begun { 0 < play.old.past.rounds }
     requires core { core < plan.now.cores }
     requires room { HasRoom (meaning_of policy.now) plan.now play.old.history }
-    ensures { OnOk result (Moves (meaning_of policy.now) plan.now (replicate (most_steps_of plan.now) core) play.old play.new) }
+    ensures { OnOk result
+        (Moves (meaning_of policy.now) plan.now (replicate (most_steps_of plan.now) core) play.old play.new) }
 {
     for _step in 0..most_steps(plan) {
         if !advance(alloc, policy, plan, play, core)? {

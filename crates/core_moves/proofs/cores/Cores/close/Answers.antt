@@ -1,11 +1,11 @@
 use Rattle.std.proofs.Common.{sym, ap, ◌∙◌, subst, arith}
 use Rattle.std.proofs.lemmas.Option.{slice_get_within}
 use Rattle.round_model.specs.After.{after}
+use Rattle.round_model.proofs.Reaching.{touched_there}
 use Rattle.core_state.specs.Logs.{LogsOf}
 use Rattle.core_state.specs.Views.{ClosedView, CoreView}
 use Rattle.core_moves.specs.Cores.{CoresView}
 use Rattle.core_moves.proofs.Shown.{shown_at, shown_count}
-use Rattle.core_moves.proofs.Touched.{touched_there}
 use Rattle.core_moves.proofs.cores.Cores.close.Goals as goal
 
 pub returns-clause-logs : goal.returns-clause-logs

@@ -51,7 +51,7 @@ fail_there p plan h by from reads legal =
     let s = scene_of p plan h by in let values = read_values plan s.seen reads in
     failed_at p plan s.cores by from reads (choice_of p plan.cores values by) legal.row.outcome (choice_there p plan.cores values by)
 
-touched_next : (p : Meaning) (plan : Plan) (h : List Entry) (e : Entry) → LegalNext p plan h e → (c : ℕ) → touches c e ≡ true → c < plan.cores
+pub touched_next : (p : Meaning) (plan : Plan) (h : List Entry) (e : Entry) → LegalNext p plan h e → (c : ℕ) → touches c e ≡ true → c < plan.cores
 unfolding touches
 touched_next p plan h (entry.Round number) legal c is = absurd (cc)
 touched_next p plan h (entry.Enter thread by at reads) legal c is = one_of at c plan.cores is (are_there p plan h (entry.Enter thread by at reads) legal)

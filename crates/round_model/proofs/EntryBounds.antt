@@ -15,17 +15,15 @@ use Rattle.round_model.specs.Entries.{acting_core}
 use Rattle.round_model.specs.Fits.{Fits}
 use Rattle.round_model.specs.Legal.{IsDue, Legal, LegalNext, has_ended, is_due, rounds_begun}
 use Rattle.round_model.specs.Owed.{owed, owed_total}
+use Rattle.round_model.specs.Room.{EntryBoundLaw, RoomSufficesLaw}
 use Rattle.round_model.specs.Rows.{Row}
+use Rattle.round_model.specs.SerialEnds.{most_entries}
 use Rattle.round_model.proofs.Grows.{legal_grows}
 use Rattle.round_model.proofs.Histories.{legal_induction}
 use Rattle.round_model.proofs.Longer.{begun_more}
 use Rattle.round_model.proofs.OwedBounds.{owed_bound}
 use Rattle.round_model.proofs.OwedTotals.{reserve_kept}
-use Rattle.bench_play.specs.Room.{EntryBoundLaw, RoomSufficesLaw, most_entries}
-
--- once more
-times_more : (n most : ℕ) → (n + 1) * most ≡ n * most + most
-times_more n most = omega arith
+use Rattle.round_model.proofs.SerialWholes.{times_more}
 
 module _ (p : Meaning) (plan : Plan) (fits : Fits p plan) (handlers : MeetsHandlerObligations p) where
   abbrev IsBounded : List Entry → Type 0
