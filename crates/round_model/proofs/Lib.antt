@@ -8,6 +8,7 @@ pub mod Awaited
 pub mod Beginnings
 pub mod Begun
 pub mod BegunBounds
+pub mod Between
 pub mod Bounded
 pub mod Bursts
 pub mod Changed

@@ -1,6 +1,7 @@
 pub mod After
 pub mod Asked
 pub mod Attempts
+pub mod Between
 pub mod Bounds
 pub mod BoundsLaws
 pub mod Bursts

@@ -1,5 +1,6 @@
 //! Laws of the model, each a function without parameters whose contract is the law.
 
+ghost use Rattle.round_model.specs.Between.{HasEndedLaw, SameCoreLaw};
 ghost use Rattle.round_model.specs.Bursts.{BurstsLaw};
 ghost use Rattle.round_model.specs.BoundsLaws.{BoundsLaw, OpenRoundLaw};
 ghost use Rattle.round_model.specs.Laws.{ActingLaw, ConstantsLaw, EnteringLaw, LegalGrows, OneMoreLaw, OpeningLaw, PrefixLaw, UntouchedLaw};
@@ -16,6 +17,16 @@ pub fn law_one_more()
 /// An entry leaves the cores that it doesn't touch.
 pub fn law_untouched()
     ensures { UntouchedLaw }
+{}
+
+/// A core is the same at two positions between which no entry touches it.
+pub fn law_same_core()
+    ensures { SameCoreLaw }
+{}
+
+/// A thread has ended exactly where it had as the open round began, or ends in what some core has done in it.
+pub fn law_has_ended()
+    ensures { HasEndedLaw }
 {}
 
 /// A legal history with an entry more is legal exactly where that entry is legal next.
