@@ -10,6 +10,7 @@ use Rattle.policy_tree.specs.declared.syntax.ExprSyntax.{ExprSyntax}
 use Rattle.policy_tree.specs.SyntaxTrees.{ConditionTree, ConditionTrees, no_more, more}
 use Rattle.policy_grammar.specs.declared.terminal.Lexeme.{Lexeme}
 use Rattle.policy_grammar.specs.declared.terminal.Terminal.TheVariants.{And, Or, Not, Always, Open, Close}
+use Rattle.policy_grammar.specs.declared.terminal.Terminal.TheVariants as terminal
 use Rattle.policy_grammar.specs.declared.limits.Limits.{Limits}
 use Rattle.policy_grammar.specs.declared.fault.ParseFault.{ParseFault}
 use Rattle.policy_grammar.specs.Terminals.{code, kind_at}
@@ -88,17 +89,17 @@ pub record NoOr (ts : List Lexeme) (at : ℕ) : Type 0 where
   pub before : NoAnd ts at
   pub or : (kind_at ts at == code Or) ≡ false
 
-pub no_operator-by : (ts : List Lexeme) (at k : ℕ) → kind_at ts at ≡ k → (k == 46) ≡ false → (k == 44) ≡ false → (k == 45) ≡ false → NoOperator ts at
+pub no_operator-by : (ts : List Lexeme) (at k : ℕ) → kind_at ts at ≡ k → (k == code terminal.Star) ≡ false → (k == code terminal.Plus) ≡ false → (k == code terminal.Minus) ≡ false → NoOperator ts at
 no_operator-by ts at k e star plus minus = record { star = rw e star; plus = rw e plus; minus = rw e minus }
 
 and-stops : {ts : List Lexeme} {at : ℕ} → kind_at ts at ≡ code And → NoOperator ts at
-and-stops k = no_operator-by _ _ 26 k refl refl refl
+and-stops k = no_operator-by _ _ (code terminal.And) k refl refl refl
 
 or-stops : {ts : List Lexeme} {at : ℕ} → kind_at ts at ≡ code Or → NoAnd ts at
-or-stops k = record { operator = no_operator-by _ _ 27 k refl refl refl; and = rw k refl }
+or-stops k = record { operator = no_operator-by _ _ (code terminal.Or) k refl refl refl; and = rw k refl }
 
 pub close-stops : {ts : List Lexeme} {at : ℕ} → kind_at ts at ≡ code Close → NoOr ts at
-close-stops k = record { before = record { operator = no_operator-by _ _ 41 k refl refl refl; and = rw k refl }; or = rw k refl }
+close-stops k = record { before = record { operator = no_operator-by _ _ (code terminal.Close) k refl refl refl; and = rw k refl }; or = rw k refl }
 
 pub ands-stop : {text : List ℕ} {ts : List Lexeme} {at to : ℕ} {us : ConditionTrees} → IsAnds text ts at us to → NoOperator ts to → NoOperator ts at
 ands-stop ands_none n = n
@@ -121,12 +122,12 @@ module _ (limits : Limits) (text : List ℕ) (ts : List Lexeme) where
   pub compares : (at count depth : ℕ) (below : List Symbol) (c : Cmp) → kind_at ts at ≡ compare_word c →
       go limits ts at count (compare depth ∷ below)
       ≡ judged (many limits.comparisons at count) (go limits ts (at + 1) (count + 1) (operand depth depth 0 ∷ below))
-  compares at count depth below cmp.Eq k = go-move limits ts at 48 count (count + 1) (compare depth ∷ below) _ (many limits.comparisons at count) k (lit< tt) refl
-  compares at count depth below cmp.Ne k = go-move limits ts at 49 count (count + 1) (compare depth ∷ below) _ (many limits.comparisons at count) k (lit< tt) refl
-  compares at count depth below cmp.Lt k = go-move limits ts at 50 count (count + 1) (compare depth ∷ below) _ (many limits.comparisons at count) k (lit< tt) refl
-  compares at count depth below cmp.Le k = go-move limits ts at 51 count (count + 1) (compare depth ∷ below) _ (many limits.comparisons at count) k (lit< tt) refl
-  compares at count depth below cmp.Gt k = go-move limits ts at 52 count (count + 1) (compare depth ∷ below) _ (many limits.comparisons at count) k (lit< tt) refl
-  compares at count depth below cmp.Ge k = go-move limits ts at 53 count (count + 1) (compare depth ∷ below) _ (many limits.comparisons at count) k (lit< tt) refl
+  compares at count depth below cmp.Eq k = go-move limits ts at (code terminal.Equal) count (count + 1) (compare depth ∷ below) _ (many limits.comparisons at count) k (lit< tt) refl
+  compares at count depth below cmp.Ne k = go-move limits ts at (code terminal.Unequal) count (count + 1) (compare depth ∷ below) _ (many limits.comparisons at count) k (lit< tt) refl
+  compares at count depth below cmp.Lt k = go-move limits ts at (code terminal.Less) count (count + 1) (compare depth ∷ below) _ (many limits.comparisons at count) k (lit< tt) refl
+  compares at count depth below cmp.Le k = go-move limits ts at (code terminal.AtMost) count (count + 1) (compare depth ∷ below) _ (many limits.comparisons at count) k (lit< tt) refl
+  compares at count depth below cmp.Gt k = go-move limits ts at (code terminal.More) count (count + 1) (compare depth ∷ below) _ (many limits.comparisons at count) k (lit< tt) refl
+  compares at count depth below cmp.Ge k = go-move limits ts at (code terminal.AtLeast) count (count + 1) (compare depth ∷ below) _ (many limits.comparisons at count) k (lit< tt) refl
 
   pub ands-end : (at count depth : ℕ) (below : List Symbol) → (kind_at ts at == code And) ≡ false →
       go limits ts at count (ands depth ∷ below) ≡ go limits ts at count below
@@ -141,19 +142,19 @@ module _ (limits : Limits) (text : List ℕ) (ts : List Lexeme) where
         go limits ts at count (unit depth ∷ below)
         ≡ judged (breaks_condition limits depth count v) (go limits ts to (count + comparisons v) below)
     unit_read {at = at} (unit_always k) n count depth below =
-        go-move limits ts at 29 count count (unit depth ∷ below) below None k (lit< tt) refl
+        go-move limits ts at (code terminal.Always) count count (unit depth ∷ below) below None k (lit< tt) refl
         ∙ go-count (at + 1) below (omega arith)
     unit_read {at = at} (unit_not {v = v} k d) n count depth below =
-        go-move limits ts at 28 count count (unit depth ∷ below) (unit (depth + 1) ∷ below) (deep limits at depth) k (lit< tt) refl
+        go-move limits ts at (code terminal.Not) count count (unit depth ∷ below) (unit (depth + 1) ∷ below) (deep limits at depth) k (lit< tt) refl
         ∙ ap (judged (deep limits at depth)) (unit_read d n count (depth + 1) below)
         ∙ sym (judged-first (deep limits at depth) _ _)
     unit_read {at = at} (unit_group {mid = mid} {v = v} k d c) n count depth below =
-        go-move limits ts at 40 count count (unit depth ∷ below) (unit (depth + 1) ∷ ands (depth + 1) ∷ ors (depth + 1) ∷ close ∷ below)
+        go-move limits ts at (code terminal.Open) count count (unit depth ∷ below) (unit (depth + 1) ∷ ands (depth + 1) ∷ ors (depth + 1) ∷ close ∷ below)
         (deep limits at depth) k (lit< tt) refl
         ∙ ap (judged (deep limits at depth))
         (condition_read d (close-stops c) count (depth + 1) (close ∷ below)
         ∙ ap (judged (breaks_condition limits (depth + 1) count v))
-        (go-move limits ts mid 41 (count + comparisons v) (count + comparisons v) (close ∷ below) below None c (lit< tt) refl))
+        (go-move limits ts mid (code terminal.Close) (count + comparisons v) (count + comparisons v) (close ∷ below) below None c (lit< tt) refl))
         ∙ sym (judged-first (deep limits at depth) _ _)
     unit_read {at = at} {to = to} (unit_test {mid = mid} c {left = left} {right = right} d k e) n count depth below =
         begins-test at count depth below (expr-begins d)
@@ -170,7 +171,8 @@ module _ (limits : Limits) (text : List ℕ) (ts : List Lexeme) where
     ands_read {at = at} ands_none n count depth below =
         ands-end at count depth below n.and ∙ go-count at below (omega arith)
     ands_read {at = at} {to = to} (ands_more {v = v} {rest = rest} k d others) n count depth below =
-        go-move limits ts at 26 count count (ands depth ∷ below) (unit depth ∷ ands depth ∷ below) None k (lit< tt) refl
+        go-move limits ts at (code terminal.And) count count (ands depth ∷ below) (unit depth ∷ ands depth ∷ below)
+        None k (lit< tt) refl
         ∙ unit_read d (ands-stop others n.operator) count depth (ands depth ∷ below)
         ∙ ap (judged (breaks_condition limits depth count v))
         (ands_read others n (count + comparisons v) depth below
@@ -194,7 +196,7 @@ module _ (limits : Limits) (text : List ℕ) (ts : List Lexeme) where
     ors_read {at = at} ors_none n count depth below =
         ors-end at count depth below n.or ∙ go-count at below (omega arith)
     ors_read {at = at} {to = to} (ors_more {v = v} {rest = rest} k d others) n count depth below =
-        go-move limits ts at 27 count count (ors depth ∷ below) (unit depth ∷ ands depth ∷ ors depth ∷ below) None k (lit< tt) refl
+        go-move limits ts at (code terminal.Or) count count (ors depth ∷ below) (unit depth ∷ ands depth ∷ ors depth ∷ below) None k (lit< tt) refl
         ∙ conjunction_read d (ors-stop others n.before) count depth (ors depth ∷ below)
         ∙ ap (judged (breaks_condition limits depth count v))
         (ors_read others n (count + comparisons v) depth below

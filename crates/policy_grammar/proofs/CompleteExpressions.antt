@@ -15,6 +15,7 @@ use Rattle.policy_tree.specs.declared.syntax.OrderSyntax.{OrderSyntax}
 use Rattle.policy_grammar.specs.declared.terminal.Lexeme.{Lexeme}
 use Rattle.policy_grammar.specs.declared.terminal.Terminal.TheVariants.{Star, Plus, Minus, Comma, Number, Range}
 use Rattle.policy_grammar.specs.declared.terminal.Terminal.{Terminal}
+use Rattle.policy_grammar.specs.declared.terminal.Terminal.TheVariants as terminal_is
 use Rattle.std.proofs.lemmas.Bool.Decides.{nat_tests}
 use Rattle.policy_grammar.specs.Words.{key_word, sign_word, owner_word}
 use Rattle.policy_grammar.specs.declared.limits.Limits.{Limits}
@@ -52,9 +53,10 @@ module _ (limits : Limits) (text : List ℕ) (ts : List Lexeme) where
 
   pub int_read : {at to : ℕ} {v : IntSyntax} → IsInt ts at v to → (below : List Symbol) →
       go limits ts at 0 (int ∷ below) ≡ go limits ts to 0 below
-  int_read {at = at} (int_plain k) below = go-move limits ts at 35 0 0 (int ∷ below) below None k (lit< tt) refl
+  int_read {at = at} (int_plain k) below =
+      go-move limits ts at (code terminal_is.Number) 0 0 (int ∷ below) below None k (lit< tt) refl
   int_read {at = at} (int_signed k n) below =
-      go-move limits ts at 45 0 0 (int ∷ below) (the Number ∷ below) None k (lit< tt) refl
+      go-move limits ts at (code terminal_is.Minus) 0 0 (int ∷ below) (the Number ∷ below) None k (lit< tt) refl
       ∙ the-read (at + 1) 0 below Number n (lit< tt) refl ∙ go-at 0 below (two at)
 
   pub range_read : {at to : ℕ} {v : RangeSyntax} → IsRange ts at v to → (below : List Symbol) →
@@ -64,10 +66,10 @@ module _ (limits : Limits) (text : List ℕ) (ts : List Lexeme) where
 
   pub owner-read : (at count base depth before : ℕ) (below : List Symbol) (o : Owner) → kind_at ts at ≡ owner_word o →
       go limits ts at count (operand base depth before ∷ below) ≡ go limits ts (at + 1) count (dot base before ∷ below)
-  owner-read at count base depth before below owner.Itself e = go-move limits ts at 30 count count (operand base depth before ∷ below) _ None e (lit< tt) refl
-  owner-read at count base depth before below owner.Victim e = go-move limits ts at 31 count count (operand base depth before ∷ below) _ None e (lit< tt) refl
-  owner-read at count base depth before below owner.Core e = go-move limits ts at 5 count count (operand base depth before ∷ below) _ None e (lit< tt) refl
-  owner-read at count base depth before below owner.Thread e = go-move limits ts at 32 count count (operand base depth before ∷ below) _ None e (lit< tt) refl
+  owner-read at count base depth before below owner.Itself e = go-move limits ts at (code terminal_is.Itself) count count (operand base depth before ∷ below) _ None e (lit< tt) refl
+  owner-read at count base depth before below owner.Victim e = go-move limits ts at (code terminal_is.Victim) count count (operand base depth before ∷ below) _ None e (lit< tt) refl
+  owner-read at count base depth before below owner.Core e = go-move limits ts at (code terminal_is.Core) count count (operand base depth before ∷ below) _ None e (lit< tt) refl
+  owner-read at count base depth before below owner.Thread e = go-move limits ts at (code terminal_is.Task) count count (operand base depth before ∷ below) _ None e (lit< tt) refl
 
   word-some : (kind : ℕ) → is_word kind ≡ true → 0 < kind
   word-some kind e = grind (arith, nat_tests)
@@ -75,10 +77,11 @@ module _ (limits : Limits) (text : List ℕ) (ts : List Lexeme) where
   pub operand_read : {at to : ℕ} {v : OperandSyntax} → IsOperand text ts at v to → (count base depth before : ℕ) (below : List Symbol) →
       go limits ts at count (operand base depth before ∷ below) ≡ go limits ts to count (operators base before ∷ below)
   operand_read {at = at} (operand_number k) count base depth before below =
-      go-move limits ts at 35 count count (operand base depth before ∷ below) _ None k (lit< tt) refl
+      go-move limits ts at (code terminal_is.Number) count count (operand base depth before ∷ below) _
+      None k (lit< tt) refl
   operand_read {at = at} (operand_reference o k d w) count base depth before below =
       owner-read at count base depth before below o k
-      ∙ go-move limits ts (at + 1) 36 count count (dot base before ∷ below) (word base before ∷ below) None d (lit< tt) refl
+      ∙ go-move limits ts (at + 1) (code terminal_is.Dot) count count (dot base before ∷ below) (word base before ∷ below) None d (lit< tt) refl
       ∙ go-at count (word base before ∷ below) (two at)
       ∙ go-move limits ts (at + 2) (kind_at ts (at + 2)) count count (word base before ∷ below) (operators base before ∷ below) None refl
       (word-some (kind_at ts (at + 2)) w) (rw w refl)
@@ -92,7 +95,7 @@ module _ (limits : Limits) (text : List ℕ) (ts : List Lexeme) where
       ∙ ap (λ n. go limits ts to count (operators base n ∷ below)) (let e : before ≡ before + 0 = omega arith in e)
   factor_read {at = at} {to = to} (factor_signed f k d) count base depth before below =
       let here = first_of (many limits.operators at before) (deep limits at depth) in
-      go-move limits ts at 45 count count (operand base depth before ∷ below) (operand base (depth + 1) (before + 1) ∷ below) here k (lit< tt) refl
+      go-move limits ts at (code terminal_is.Minus) count count (operand base depth before ∷ below) (operand base (depth + 1) (before + 1) ∷ below) here k (lit< tt) refl
       ∙ ap (judged here)
       (factor_read d count base (depth + 1) (before + 1) below
       ∙ ap (λ n. judged (breaks_signs limits (depth + 1) (before + 1) n f.signs) (go limits ts to count (operators base (before + 1 + f.signs) ∷ below))) (factor-at d)
@@ -105,7 +108,7 @@ module _ (limits : Limits) (text : List ℕ) (ts : List Lexeme) where
       ≡ judged (breaks_times limits base before fs) (go limits ts to count (operators base (after_times before fs) ∷ below))
   times_read times_none count base before below = refl
   times_read {at = at} (times_more {f = f} {rest = rest} k d more) count base before below =
-      go-move limits ts at 46 count count (operators base before ∷ below) (operand base base (before + 1) ∷ below) (many limits.operators at before) k (lit< tt) refl
+      go-move limits ts at (code terminal_is.Star) count count (operators base before ∷ below) (operand base base (before + 1) ∷ below) (many limits.operators at before) k (lit< tt) refl
       ∙ ap (judged (many limits.operators at before))
       (factor_read d count base base (before + 1) below
       ∙ ap (judged (breaks_factor limits base (before + 1) f)) (times_read more count base (before + 1 + f.signs) below)
@@ -124,9 +127,9 @@ module _ (limits : Limits) (text : List ℕ) (ts : List Lexeme) where
       go limits ts at count (operators base before ∷ below)
       ≡ judged (many limits.operators at before) (go limits ts (at + 1) count (operand base base (before + 1) ∷ below))
   sign-read at count base before below true k =
-      go-move limits ts at 45 count count (operators base before ∷ below) _ (many limits.operators at before) k (lit< tt) refl
+      go-move limits ts at (code terminal_is.Minus) count count (operators base before ∷ below) _ (many limits.operators at before) k (lit< tt) refl
   sign-read at count base before below false k =
-      go-move limits ts at 44 count count (operators base before ∷ below) _ (many limits.operators at before) k (lit< tt) refl
+      go-move limits ts at (code terminal_is.Plus) count count (operators base before ∷ below) _ (many limits.operators at before) k (lit< tt) refl
 
   pub added_read : {at to : ℕ} {us : List AddedSyntax} → IsAdded text ts at us to → (count base before : ℕ) (below : List Symbol) →
       go limits ts at count (operators base before ∷ below)
@@ -162,8 +165,8 @@ module _ (limits : Limits) (text : List ℕ) (ts : List Lexeme) where
   key-starts : (at before : ℕ) (below : List Symbol) (greatest : Bool) → kind_at ts at ≡ key_word greatest →
       go limits ts at 0 (key before ∷ below)
       ≡ judged (many limits.keys at before) (go limits ts (at + 1) 0 (operand 0 0 0 ∷ keys (before + 1) ∷ below))
-  key-starts at before below true k = go-move limits ts at 12 0 0 (key before ∷ below) _ (many limits.keys at before) k (lit< tt) refl
-  key-starts at before below false k = go-move limits ts at 11 0 0 (key before ∷ below) _ (many limits.keys at before) k (lit< tt) refl
+  key-starts at before below true k = go-move limits ts at (code terminal_is.Max) 0 0 (key before ∷ below) _ (many limits.keys at before) k (lit< tt) refl
+  key-starts at before below false k = go-move limits ts at (code terminal_is.Min) 0 0 (key before ∷ below) _ (many limits.keys at before) k (lit< tt) refl
 
   pub key_read : {at to : ℕ} {k : KeySyntax} → IsKey text ts at k to → NoOperator ts to → (before : ℕ) (below : List Symbol) →
       go limits ts at 0 (key before ∷ below)
@@ -181,7 +184,7 @@ module _ (limits : Limits) (text : List ℕ) (ts : List Lexeme) where
       go limits ts at 0 (keys before ∷ below) ≡ judged (breaks_keys limits before ks) (go limits ts to 0 below)
   keys_read {at = at} keys_none n c before below = go-same limits ts at 0 0 (keys before ∷ below) below refl (rw c refl)
   keys_read {at = at} (keys_more {k = k} {rest = rest} e d more) n c before below =
-      go-move limits ts at 38 0 0 (keys before ∷ below) (key before ∷ below) None e (lit< tt) refl
+      go-move limits ts at (code terminal_is.Comma) 0 0 (keys before ∷ below) (key before ∷ below) None e (lit< tt) refl
       ∙ key_read d (keys-stop more n) before below
       ∙ ap (judged (many limits.keys k.at before))
       (ap (judged (breaks_expr limits 0 k.value)) (keys_read more n c (before + 1) below)
@@ -199,7 +202,7 @@ module _ (limits : Limits) (text : List ℕ) (ts : List Lexeme) where
 
   pub order_read : {at to : ℕ} {o : OrderSyntax} → IsOrder text ts at o to → NoOperator ts to → (kind_at ts to == code Comma) ≡ false →
       (below : List Symbol) → go limits ts at 0 (order ∷ below) ≡ judged (breaks_order limits o) (go limits ts to 0 below)
-  order_read {at = at} (order_first k) n c below = go-move limits ts at 16 0 0 (order ∷ below) below None k (lit< tt) refl
+  order_read {at = at} (order_first k) n c below = go-move limits ts at (code terminal_is.First) 0 0 (order ∷ below) below None k (lit< tt) refl
   order_read {at = at} (order_keys {k = k} d more) n c below =
       key-begins d below
       ∙ key_read d (keys-stop more n) 0 below

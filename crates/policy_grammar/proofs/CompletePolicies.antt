@@ -14,6 +14,7 @@ use Rattle.policy_tree.specs.declared.syntax.SetSyntax.{SetSyntax}
 use Rattle.policy_tree.specs.SyntaxTrees.{CaseSyntaxTree, HandlerSyntaxTree, SyntaxTree}
 use Rattle.policy_grammar.specs.declared.terminal.Lexeme.{Lexeme}
 use Rattle.policy_grammar.specs.declared.terminal.Terminal.TheVariants.{Policy, Load, In, Start, Choose, Steal, When, Filter, Name, Dot, Comma, Colon, Begin, Finish, Gets, Range}
+use Rattle.policy_grammar.specs.declared.terminal.Terminal.TheVariants as terminal
 use Rattle.policy_grammar.specs.declared.limits.Limits.{Limits}
 use Rattle.policy_grammar.specs.declared.fault.ParseFault.{ParseFault}
 use Rattle.policy_grammar.specs.Terminals.{code, kind_at, is_word}
@@ -28,48 +29,51 @@ use Rattle.policy_grammar.proofs.CompleteConditions.{NoOr, no_operator-by, whole
 -- a part of a policy stands there, as late as the one with that word, and at the latest the filter
 pub record From (first : ℕ) (ts : List Lexeme) (at : ℕ) : Type 0 where
   pub least : first ≤ kind_at ts at
-  pub most : kind_at ts at ≤ 25
+  pub most : kind_at ts at ≤ code terminal.Filter
 
 pub from-no_operator : {first : ℕ} {ts : List Lexeme} {at : ℕ} → From first ts at → NoOperator ts at
 from-no_operator {ts = ts} {at = at} f =
     let most = f.most in
     record {
-      star = ne_eqb (kind_at ts at) 46 (λ e. omega (arith, e, most));
-      plus = ne_eqb (kind_at ts at) 44 (λ e. omega (arith, e, most));
-      minus = ne_eqb (kind_at ts at) 45 (λ e. omega (arith, e, most));
+      star = ne_eqb (kind_at ts at) (code terminal.Star) (λ e. omega (arith, e, most));
+      plus = ne_eqb (kind_at ts at) (code terminal.Plus) (λ e. omega (arith, e, most));
+      minus = ne_eqb (kind_at ts at) (code terminal.Minus) (λ e. omega (arith, e, most));
     }
 
 pub from-no_comma : {first : ℕ} {ts : List Lexeme} {at : ℕ} → From first ts at → (kind_at ts at == code Comma) ≡ false
-from-no_comma {ts = ts} {at = at} f = let most = f.most in ne_eqb (kind_at ts at) 38 (λ e. omega (arith, e, most))
+from-no_comma {ts = ts} {at = at} f =
+    let most = f.most in ne_eqb (kind_at ts at) (code terminal.Comma) (λ e. omega (arith, e, most))
 
 pub from-past : {first : ℕ} {ts : List Lexeme} {at : ℕ} (k : ℕ) → k < first → From first ts at → (kind_at ts at == k) ≡ false
 from-past {ts = ts} {at = at} k less f = let least = f.least in ne_eqb (kind_at ts at) k (λ e. omega (arith, e, least, less))
 
-from-at : {ts : List Lexeme} {at : ℕ} (first k : ℕ) → kind_at ts at ≡ k → first ≤ k → k ≤ 25 → From first ts at
+from-at : {ts : List Lexeme} {at : ℕ} (first k : ℕ) → kind_at ts at ≡ k → first ≤ k → k ≤ code terminal.Filter →
+    From first ts at
 from-at first k e low high = record { least = omega (arith, e, low); most = omega (arith, e, high) }
 
 from-less : {m n : ℕ} {ts : List Lexeme} {at : ℕ} → m ≤ n → From n ts at → From m ts at
 from-less le f = let least = f.least in record { least = omega (arith, least, le); most = f.most }
 
 pub handlers-from : {text : List ℕ} {ts : List Lexeme} {at to : ℕ} {hs : List HandlerSyntaxTree} → IsHandlers text ts at hs to →
-    kind_at ts to ≡ code Filter → From 17 ts at
-handlers-from handlers_none k = from-at 17 25 k (omega arith) (omega arith)
-handlers-from (handlers_more (handler_of e k1 k2 k3 c cs k4) more) k = from-at 17 17 k1 (omega arith) (omega arith)
+    kind_at ts to ≡ code Filter → From (code terminal.On) ts at
+handlers-from handlers_none k = from-at (code terminal.On) (code terminal.Filter) k (omega arith) (omega arith)
+handlers-from (handlers_more (handler_of e k1 k2 k3 c cs k4) more) k =
+    from-at (code terminal.On) (code terminal.On) k1 (omega arith) (omega arith)
 
-pub elect-from : {text : List ℕ} {ts : List Lexeme} {at to : ℕ} {e : Option ElectSyntax} → IsElect text ts at e to → From 17 ts to → From 13 ts at
+pub elect-from : {text : List ℕ} {ts : List Lexeme} {at to : ℕ} {e : Option ElectSyntax} → IsElect text ts at e to → From (code terminal.On) ts to → From (code terminal.Elect) ts at
 elect-from elect_none f = from-less (omega arith) f
-elect-from (elect_some k d) f = from-at 13 13 k (omega arith) (omega arith)
+elect-from (elect_some k d) f = from-at (code terminal.Elect) (code terminal.Elect) k (omega arith) (omega arith)
 
-pub place-from : {text : List ℕ} {ts : List Lexeme} {at to : ℕ} {p : Option PlaceSyntax} → IsPlace text ts at p to → From 13 ts to → From 9 ts at
+pub place-from : {text : List ℕ} {ts : List Lexeme} {at to : ℕ} {p : Option PlaceSyntax} → IsPlace text ts at p to → From (code terminal.Elect) ts to → From (code terminal.Place) ts at
 place-from place_none f = from-less (omega arith) f
-place-from (place_here k h) f = from-at 9 9 k (omega arith) (omega arith)
-place-from (place_least k h d) f = from-at 9 9 k (omega arith) (omega arith)
+place-from (place_here k h) f = from-at (code terminal.Place) (code terminal.Place) k (omega arith) (omega arith)
+place-from (place_least k h d) f = from-at (code terminal.Place) (code terminal.Place) k (omega arith) (omega arith)
 
 pub kind-end : (ts : List Lexeme) → kind_at ts (length ts) ≡ 0
 kind-end [] = refl
 kind-end (t ∷ ts) = kind-end ts
 
-pub no_or-by : (ts : List Lexeme) (at k : ℕ) → kind_at ts at ≡ k → (k == 46) ≡ false → (k == 44) ≡ false → (k == 45) ≡ false → (k == 26) ≡ false → (k == 27) ≡ false → NoOr ts at
+pub no_or-by : (ts : List Lexeme) (at k : ℕ) → kind_at ts at ≡ k → (k == code terminal.Star) ≡ false → (k == code terminal.Plus) ≡ false → (k == code terminal.Minus) ≡ false → (k == code terminal.And) ≡ false → (k == code terminal.Or) ≡ false → NoOr ts at
 no_or-by ts at k e star plus minus and or =
     record { before = record { operator = no_operator-by ts at k e star plus minus; and = rw e and }; or = rw e or }
 
@@ -85,11 +89,11 @@ module _ (limits : Limits) (text : List ℕ) (ts : List Lexeme) where
       go limits ts at 0 (the Load ∷ load_rule ∷ below) ≡ go limits ts to 0 below
   load_read {at = at} (load_count k c) below =
       the-read limits text ts at 0 (load_rule ∷ below) Load k (lit< tt) refl
-      ∙ go-move limits ts (at + 1) 3 0 0 (load_rule ∷ below) below None c (lit< tt) refl
+      ∙ go-move limits ts (at + 1) (code terminal.Count) 0 0 (load_rule ∷ below) below None c (lit< tt) refl
       ∙ next (at + 1) 0 below (at + 2) (omega arith)
   load_read {at = at} (load_weight k w d) below =
       the-read limits text ts at 0 (load_rule ∷ below) Load k (lit< tt) refl
-      ∙ go-move limits ts (at + 1) 4 0 0 (load_rule ∷ below) _ None w (lit< tt) refl
+      ∙ go-move limits ts (at + 1) (code terminal.Weight) 0 0 (load_rule ∷ below) _ None w (lit< tt) refl
       ∙ next (at + 1) 0 _ (at + 2) (omega arith)
       ∙ range_read limits text ts d below
 
@@ -97,8 +101,8 @@ module _ (limits : Limits) (text : List ℕ) (ts : List Lexeme) where
       go limits ts at 0 (attrs cores threads ∷ below)
       ≡ judged (many limits.attrs at (of_kind of_cores cores threads))
       (go limits ts (at + 1) 0 (the Name ∷ the In ∷ int ∷ the Range ∷ int ∷ the Start ∷ int ∷ attrs (of_cores_more of_cores cores) (of_threads_more of_cores threads) ∷ below))
-  attr-starts at cores threads below true k = go-move limits ts at 5 0 0 (attrs cores threads ∷ below) _ (many limits.attrs at cores) k (lit< tt) refl
-  attr-starts at cores threads below false k = go-move limits ts at 6 0 0 (attrs cores threads ∷ below) _ (many limits.attrs at threads) k (lit< tt) refl
+  attr-starts at cores threads below true k = go-move limits ts at (code terminal.Core) 0 0 (attrs cores threads ∷ below) _ (many limits.attrs at cores) k (lit< tt) refl
+  attr-starts at cores threads below false k = go-move limits ts at (code terminal.Thread) 0 0 (attrs cores threads ∷ below) _ (many limits.attrs at threads) k (lit< tt) refl
 
   pub attr_read : {at to : ℕ} {a : AttrSyntax} → IsAttr text ts at a to → (cores threads : ℕ) (below : List Symbol) →
       go limits ts at 0 (attrs cores threads ∷ below)
@@ -116,53 +120,55 @@ module _ (limits : Limits) (text : List ℕ) (ts : List Lexeme) where
       ∙ the-read limits text ts mid 0 (int ∷ rest) Start s (lit< tt) refl
       ∙ int_read limits text ts d rest)
 
-  pub attrs_read : {at to : ℕ} {us : List AttrSyntax} → IsAttrs text ts at us to → From 9 ts to → (cores threads : ℕ) (below : List Symbol) →
+  pub attrs_read : {at to : ℕ} {us : List AttrSyntax} → IsAttrs text ts at us to → From (code terminal.Place) ts to → (cores threads : ℕ) (below : List Symbol) →
       go limits ts at 0 (attrs cores threads ∷ below) ≡ judged (breaks_attrs limits cores threads us) (go limits ts to 0 below)
   attrs_read {at = at} attrs_none f cores threads below =
-      go-same limits ts at 0 0 (attrs cores threads ∷ below) below refl (rw (from-past 5 (omega arith) f, from-past 6 (omega arith) f) refl)
+      go-same limits ts at 0 0 (attrs cores threads ∷ below) below refl (rw (from-past (code terminal.Core) (omega arith) f, from-past (code terminal.Thread) (omega arith) f) refl)
   attrs_read (attrs_more {a = a} d more) f cores threads below =
       attr_read d cores threads below
       ∙ ap (judged (many limits.attrs a.at (of_kind a.of_cores cores threads))) (attrs_read more f _ _ below)
       ∙ sym (judged-first (many limits.attrs a.at (of_kind a.of_cores cores threads)) _ _)
 
-  pub place_read : {at to : ℕ} {p : Option PlaceSyntax} → IsPlace text ts at p to → From 13 ts to → (below : List Symbol) →
+  pub place_read : {at to : ℕ} {p : Option PlaceSyntax} → IsPlace text ts at p to → From (code terminal.Elect) ts to → (below : List Symbol) →
       go limits ts at 0 (place ∷ below) ≡ judged (breaks_place limits p) (go limits ts to 0 below)
-  place_read {at = at} place_none f below = go-same limits ts at 0 0 (place ∷ below) below refl (rw (from-past 9 (omega arith) f) refl)
+  place_read {at = at} place_none f below = go-same limits ts at 0 0 (place ∷ below) below refl (rw (from-past (code terminal.Place) (omega arith) f) refl)
   place_read {at = at} (place_here k h) f below =
-      go-move limits ts at 9 0 0 (place ∷ below) (place_rule ∷ below) None k (lit< tt) refl
-      ∙ go-move limits ts (at + 1) 10 0 0 (place_rule ∷ below) below None h (lit< tt) refl
+      go-move limits ts at (code terminal.Place) 0 0 (place ∷ below) (place_rule ∷ below) None k (lit< tt) refl
+      ∙ go-move limits ts (at + 1) (code terminal.Here) 0 0 (place_rule ∷ below) below None h (lit< tt) refl
       ∙ next (at + 1) 0 below (at + 2) (omega arith)
   place_read {at = at} (place_least k m d) f below =
-      go-move limits ts at 9 0 0 (place ∷ below) (place_rule ∷ below) None k (lit< tt) refl
-      ∙ go-move limits ts (at + 1) 11 0 0 (place_rule ∷ below) (operand 0 0 0 ∷ below) None m (lit< tt) refl
+      go-move limits ts at (code terminal.Place) 0 0 (place ∷ below) (place_rule ∷ below) None k (lit< tt) refl
+      ∙ go-move limits ts (at + 1) (code terminal.Min) 0 0 (place_rule ∷ below) (operand 0 0 0 ∷ below)
+      None m (lit< tt) refl
       ∙ next (at + 1) 0 _ (at + 2) (omega arith)
       ∙ expr_read limits text ts d (from-no_operator f) 0 0 below
 
-  pub elect_read : {at to : ℕ} {e : Option ElectSyntax} → IsElect text ts at e to → From 17 ts to → (below : List Symbol) →
+  pub elect_read : {at to : ℕ} {e : Option ElectSyntax} → IsElect text ts at e to → From (code terminal.On) ts to → (below : List Symbol) →
       go limits ts at 0 (elect ∷ below) ≡ judged (breaks_elect limits e) (go limits ts to 0 below)
-  elect_read {at = at} elect_none f below = go-same limits ts at 0 0 (elect ∷ below) below refl (rw (from-past 13 (omega arith) f) refl)
+  elect_read {at = at} elect_none f below = go-same limits ts at 0 0 (elect ∷ below) below refl (rw (from-past (code terminal.Elect) (omega arith) f) refl)
   elect_read {at = at} (elect_some k d) f below =
-      go-move limits ts at 13 0 0 (elect ∷ below) (order ∷ below) None k (lit< tt) refl
+      go-move limits ts at (code terminal.Elect) 0 0 (elect ∷ below) (order ∷ below) None k (lit< tt) refl
       ∙ order_read limits text ts d (from-no_operator f) (from-no_comma f) below
 
   put-read : (at before : ℕ) (below : List Symbol) (p : Put) → kind_at ts at ≡ put_word p →
       go limits ts at 0 (actions before ∷ below) ≡ go limits ts (at + 1) 0 below
-  put-read at before below put_is.Queue k = go-move limits ts at 23 0 0 (actions before ∷ below) below None k (lit< tt) refl
-  put-read at before below put_is.Keep k = go-move limits ts at 24 0 0 (actions before ∷ below) below None k (lit< tt) refl
-  put-read at before below put_is.Block k = go-move limits ts at 21 0 0 (actions before ∷ below) below None k (lit< tt) refl
+  put-read at before below put_is.Queue k = go-move limits ts at (code terminal.Queue) 0 0 (actions before ∷ below) below None k (lit< tt) refl
+  put-read at before below put_is.Keep k = go-move limits ts at (code terminal.Keep) 0 0 (actions before ∷ below) below None k (lit< tt) refl
+  put-read at before below put_is.Block k = go-move limits ts at (code terminal.Block) 0 0 (actions before ∷ below) below None k (lit< tt) refl
 
   word-some : (kind : ℕ) → is_word kind ≡ true → 0 < kind
   word-some kind e = grind (arith, nat_tests)
 
   comma-stops : (at : ℕ) → kind_at ts at ≡ code Comma → NoOperator ts at
-  comma-stops at k = no_operator-by ts at 38 k refl refl refl
+  comma-stops at k = no_operator-by ts at (code terminal.Comma) k refl refl refl
 
   pub actions_read : {at last : ℕ} {ss : List SetSyntax} → IsSets text ts at ss last → (p : Put) → kind_at ts last ≡ put_word p →
       (before : ℕ) (below : List Symbol) →
       go limits ts at 0 (actions before ∷ below) ≡ judged (breaks_sets limits before ss) (go limits ts (last + 1) 0 below)
   actions_read {at = at} sets_none p k before below = put-read at before below p k
   actions_read {at = at} (sets_more {mid = mid} {v = v} t d w g e c more) p k before below =
-      go-move limits ts at 32 0 0 (actions before ∷ below) _ (many limits.sets at before) t (lit< tt) refl
+      go-move limits ts at (code terminal.Task) 0 0 (actions before ∷ below) _ (many limits.sets at before)
+      t (lit< tt) refl
       ∙ ap (judged (many limits.sets at before))
       (the-read limits text ts (at + 1) 0 (field ∷ the Gets ∷ operand 0 0 0 ∷ the Comma ∷ actions (before + 1) ∷ below) Dot d (lit< tt) refl
       ∙ next (at + 1) 0 _ (at + 2) (omega arith)
@@ -182,7 +188,8 @@ module _ (limits : Limits) (text : List ℕ) (ts : List Lexeme) where
       go limits ts (at + 1) 0 (condition ∷ the Colon ∷ actions 0 ∷ below)
       ≡ judged (breaks_condition limits 0 0 c.guard) (judged (breaks_sets limits 0 c.sets) (go limits ts to 0 below))
   case-body (case_of {mid = mid} {guard = guard} p k g c sets q) below =
-      whole_read limits text ts g (no_or-by ts mid 39 c refl refl refl refl refl) (the Colon ∷ actions 0 ∷ below)
+      whole_read limits text ts g (no_or-by ts mid (code terminal.Colon) c refl refl refl refl refl)
+      (the Colon ∷ actions 0 ∷ below)
       ∙ ap (judged (breaks_condition limits 0 0 guard))
       (the-read limits text ts mid (comparisons guard) (actions 0 ∷ below) Colon c (lit< tt) refl
       ∙ actions_read sets p q 0 below)
@@ -191,13 +198,15 @@ module _ (limits : Limits) (text : List ℕ) (ts : List Lexeme) where
       go limits ts at 0 (case before ∷ below)
       ≡ judged (many limits.cases c.at before) (go limits ts (at + 1) 0 (condition ∷ the Colon ∷ actions 0 ∷ cases (before + 1) ∷ below))
   case-when {at = at} (case_of p k g c sets q) before below =
-      go-move limits ts at 22 0 0 (case before ∷ below) _ (many limits.cases at before) k (lit< tt) refl
+      go-move limits ts at (code terminal.When) 0 0 (case before ∷ below) _ (many limits.cases at before)
+      k (lit< tt) refl
 
   cases-when : {at to : ℕ} {c : CaseSyntaxTree} → IsCase text ts at c to → (before : ℕ) (below : List Symbol) →
       go limits ts at 0 (cases before ∷ below)
       ≡ judged (many limits.cases c.at before) (go limits ts (at + 1) 0 (condition ∷ the Colon ∷ actions 0 ∷ cases (before + 1) ∷ below))
   cases-when {at = at} (case_of p k g c sets q) before below =
-      go-move limits ts at 22 0 0 (cases before ∷ below) _ (many limits.cases at before) k (lit< tt) refl
+      go-move limits ts at (code terminal.When) 0 0 (cases before ∷ below) _ (many limits.cases at before)
+      k (lit< tt) refl
 
   joined : (a b c d : Option ParseFault) (r : Option ParseFault) →
       judged a (judged b (judged c (judged d r))) ≡ judged (first_of a (first_of b (first_of c d))) r
@@ -218,16 +227,21 @@ module _ (limits : Limits) (text : List ℕ) (ts : List Lexeme) where
       ∙ joined (many limits.cases c.at before) (breaks_condition limits 0 0 c.guard) (breaks_sets limits 0 c.sets) _ _
 
   event-read : (at : ℕ) (below : List Symbol) (e : Event) → kind_at ts at ≡ event_word e → go limits ts at 0 (event ∷ below) ≡ go limits ts (at + 1) 0 below
-  event-read at below event_is.Enqueue k = go-move limits ts at 18 0 0 (event ∷ below) below None k (lit< tt) refl
-  event-read at below event_is.Tick k = go-move limits ts at 19 0 0 (event ∷ below) below None k (lit< tt) refl
-  event-read at below event_is.Yield k = go-move limits ts at 20 0 0 (event ∷ below) below None k (lit< tt) refl
-  event-read at below event_is.Block k = go-move limits ts at 21 0 0 (event ∷ below) below None k (lit< tt) refl
+  event-read at below event_is.Enqueue k =
+      go-move limits ts at (code terminal.Enqueue) 0 0 (event ∷ below) below None k (lit< tt) refl
+  event-read at below event_is.Tick k =
+      go-move limits ts at (code terminal.Tick) 0 0 (event ∷ below) below None k (lit< tt) refl
+  event-read at below event_is.Yield k =
+      go-move limits ts at (code terminal.Yield) 0 0 (event ∷ below) below None k (lit< tt) refl
+  event-read at below event_is.Block k =
+      go-move limits ts at (code terminal.Block) 0 0 (event ∷ below) below None k (lit< tt) refl
 
   pub handler_read : {at to : ℕ} {h : HandlerSyntaxTree} → IsHandler text ts at h to → (below : List Symbol) →
       go limits ts at 0 (handlers ∷ below) ≡ judged (breaks_cases limits 0 h.cases) (go limits ts to 0 (handlers ∷ below))
   handler_read {at = at} (handler_of {last = last} e {c = c} k v b d more f) below =
       let rest = the Finish ∷ handlers ∷ below in
-      go-move limits ts at 17 0 0 (handlers ∷ below) (event ∷ the Begin ∷ case 0 ∷ rest) None k (lit< tt) refl
+      go-move limits ts at (code terminal.On) 0 0 (handlers ∷ below) (event ∷ the Begin ∷ case 0 ∷ rest)
+      None k (lit< tt) refl
       ∙ event-read (at + 1) (the Begin ∷ case 0 ∷ rest) e v
       ∙ next (at + 1) 0 _ (at + 2) (omega arith)
       ∙ the-read limits text ts (at + 2) 0 (case 0 ∷ rest) Begin b (lit< tt) refl
@@ -270,9 +284,9 @@ policy_read limits text ts
     ∙ judged-is _ (elect_read limits text ts de fh _
     ∙ judged-is _ (handlers_read limits text ts dh kf _
     ∙ judged-is _ (the-read limits text ts at_filter 0 _ Filter kf (lit< tt) refl
-    ∙ whole_read limits text ts df (no_or-by ts at_choose 14 kc refl refl refl refl refl) _
+    ∙ whole_read limits text ts df (no_or-by ts at_choose (code terminal.Choose) kc refl refl refl refl refl) _
     ∙ judged-is _ (the-read limits text ts at_choose (comparisons filter) _ Choose kc (lit< tt) refl
-    ∙ order_read limits text ts dc (no_operator-by ts at_steal 15 ks refl refl refl) (rw ks refl) _
+    ∙ order_read limits text ts dc (no_operator-by ts at_steal (code terminal.Steal) ks refl refl refl) (rw ks refl) _
     ∙ judged-is _ (the-read limits text ts at_steal 0 _ Steal ks (lit< tt) refl
     ∙ order_read limits text ts ds (no_operator-by ts (length ts) 0 none refl refl refl) (rw none refl) []
     ∙ ap (judged _) (is-zero limits ts (length ts) refl 0 [] refl)

@@ -12,7 +12,8 @@ use Rattle.policy_tree.specs.declared.syntax.ExprSyntax.{ExprSyntax}
 use Rattle.policy_tree.specs.declared.syntax.KeySyntax.{KeySyntax}
 use Rattle.policy_tree.specs.declared.syntax.OrderSyntax.{OrderSyntax}
 use Rattle.policy_grammar.specs.declared.terminal.Lexeme.{Lexeme}
-use Rattle.policy_grammar.specs.Terminals.{kind_at, word_at}
+use Rattle.policy_grammar.specs.declared.terminal.Terminal.TheVariants as terminal
+use Rattle.policy_grammar.specs.Terminals.{code, kind_at, word_at}
 use Rattle.policy_grammar.specs.Words.{sign_word}
 use Rattle.policy_grammar.specs.Expressions.{IsInt, int_plain, int_signed, IsRange, range_of, IsOperand, operand_number, operand_reference, IsFactor, factor_plain, factor_signed, IsTimes, times_none, times_more, IsTerm, term_of, IsAdded, added_none, added_more, IsExpr, expr_of, IsKey, key_of, IsKeys, keys_none, keys_more, IsOrder, order_first, order_keys}
 use Rattle.policy_grammar.proofs.CompleteExpressions.{NoOperator}
@@ -20,10 +21,10 @@ use Rattle.policy_grammar.proofs.Same.{Same, same, same-ap, and-then, is-not, ke
 
 -- `*` doesn't stand there
 abbrev pub NoStar : List Lexeme → ℕ → Type 0
-NoStar ts at = (kind_at ts at == 46) ≡ false
+NoStar ts at = (kind_at ts at == code terminal.Star) ≡ false
 
 abbrev pub NoComma : List Lexeme → ℕ → Type 0
-NoComma ts at = (kind_at ts at == 38) ≡ false
+NoComma ts at = (kind_at ts at == code terminal.Comma) ≡ false
 
 module _ (text : List ℕ) (ts : List Lexeme) where
   pub int-one : {at to so : ℕ} {v w : IntSyntax} → IsInt ts at v to → IsInt ts at w so → Same v to w so
@@ -44,7 +45,8 @@ module _ (text : List ℕ) (ts : List Lexeme) where
   operand-one {at = at} (operand_reference o k d w) (operand_reference p l e x) =
       same-ap (λ o. operand.Reference o (word_at text ts (at + 2))) (owner-same (at + 3) o p k l)
 
-  operand-no_sign : {at to : ℕ} {v : OperandSyntax} → IsOperand text ts at v to → kind_at ts at ≡ 45 → ⊥
+  operand-no_sign : {at to : ℕ} {v : OperandSyntax} → IsOperand text ts at v to →
+      kind_at ts at ≡ code terminal.Minus → ⊥
   operand-no_sign (operand_number k) l = omega (arith, k, l)
   operand-no_sign (operand_reference o k d w) l = let small = owner-small o in omega (arith, k, l)
 
@@ -57,8 +59,8 @@ module _ (text : List ℕ) (ts : List Lexeme) where
 
   times-one : {at to so : ℕ} {v w : List TimesSyntax} → IsTimes text ts at v to → NoStar ts to → IsTimes text ts at w so → NoStar ts so → Same v to w so
   times-one times_none n times_none m = same
-  times-one times_none n (times_more l e more) m = absurd (is-not _ 46 n l)
-  times-one (times_more k d more) n times_none m = absurd (is-not _ 46 m k)
+  times-one times_none n (times_more l e more) m = absurd (is-not _ (code terminal.Star) n l)
+  times-one (times_more k d more) n times_none m = absurd (is-not _ (code terminal.Star) m k)
   times-one {at = at} (times_more k d more) n (times_more l e others) m =
       same-ap (λ p. record { at = at; factor = p.0 } ∷ p.1) (and-then (IsTimes text ts) (factor-one d e) others (λ o. times-one more n o m))
 
@@ -75,8 +77,8 @@ module _ (text : List ℕ) (ts : List Lexeme) where
   added-no_star (added_more minus k d more) n = sign-no_star _ minus k
 
   no-sign : (at : ℕ) (minus : Bool) → NoOperator ts at → kind_at ts at ≡ sign_word minus → ⊥
-  no-sign at true n k = is-not _ 45 n.minus k
-  no-sign at false n k = is-not _ 44 n.plus k
+  no-sign at true n k = is-not _ (code terminal.Minus) n.minus k
+  no-sign at false n k = is-not _ (code terminal.Plus) n.plus k
 
   added-one : {at to so : ℕ} {v w : List AddedSyntax} → IsAdded text ts at v to → NoOperator ts to → IsAdded text ts at w so → NoOperator ts so → Same v to w so
   added-one added_none n added_none m = same
@@ -105,13 +107,13 @@ module _ (text : List ℕ) (ts : List Lexeme) where
   keys-one : {at to so : ℕ} {v w : List KeySyntax} → IsKeys text ts at v to → NoOperator ts to → NoComma ts to →
       IsKeys text ts at w so → NoOperator ts so → NoComma ts so → Same v to w so
   keys-one keys_none n c keys_none m c' = same
-  keys-one keys_none n c (keys_more l e more) m c' = absurd (is-not _ 38 c l)
-  keys-one (keys_more k d more) n c keys_none m c' = absurd (is-not _ 38 c' k)
+  keys-one keys_none n c (keys_more l e more) m c' = absurd (is-not _ (code terminal.Comma) c l)
+  keys-one (keys_more k d more) n c keys_none m c' = absurd (is-not _ (code terminal.Comma) c' k)
   keys-one {at = at} (keys_more k d more) n c (keys_more l e others) m c' =
       same-ap (λ p. p.0 ∷ p.1)
       (and-then (IsKeys text ts) (key-one d (keys-over more n) e (keys-over others m)) others (λ o. keys-one more n c o m c'))
 
-  key-no_first : {at to : ℕ} {k : KeySyntax} → IsKey text ts at k to → kind_at ts at ≡ 16 → ⊥
+  key-no_first : {at to : ℕ} {k : KeySyntax} → IsKey text ts at k to → kind_at ts at ≡ code terminal.First → ⊥
   key-no_first (key_of true k d) l = omega (arith, k, l)
   key-no_first (key_of false k d) l = omega (arith, k, l)
 

@@ -11,7 +11,8 @@ use Rattle.policy_tree.specs.declared.syntax.ElectSyntax.{ElectSyntax}
 use Rattle.policy_tree.specs.declared.syntax.SetSyntax.{SetSyntax}
 use Rattle.policy_tree.specs.SyntaxTrees.{CaseSyntaxTree, HandlerSyntaxTree, SyntaxTree}
 use Rattle.policy_grammar.specs.declared.terminal.Lexeme.{Lexeme}
-use Rattle.policy_grammar.specs.Terminals.{kind_at, word_at}
+use Rattle.policy_grammar.specs.declared.terminal.Terminal.TheVariants as terminal
+use Rattle.policy_grammar.specs.Terminals.{code, kind_at, word_at}
 use Rattle.policy_grammar.specs.Words.{put_word}
 use Rattle.policy_grammar.specs.Expressions.{IsInt, IsRange, IsOrder}
 use Rattle.policy_grammar.specs.Conditions.{IsCondition}
@@ -40,50 +41,61 @@ module _ (text : List ℕ) (ts : List Lexeme) where
       (and-then (λ i. IsRange ts (i + 3)) (attr-same at a b k k') r' (λ o. range-one text ts r o))
       e (λ o. int-one text ts d o))
 
-  attr-none : {at to : ℕ} {a : AttrSyntax} → From 9 ts at → IsAttr text ts at a to → ⊥
-  attr-none f (attr_of true k n i r s d) = is-not _ 5 (from-past 5 (omega arith) f) k
-  attr-none f (attr_of false k n i r s d) = is-not _ 6 (from-past 6 (omega arith) f) k
+  attr-none : {at to : ℕ} {a : AttrSyntax} → From (code terminal.Place) ts at → IsAttr text ts at a to → ⊥
+  attr-none f (attr_of true k n i r s d) =
+      is-not _ (code terminal.Core) (from-past (code terminal.Core) (omega arith) f) k
+  attr-none f (attr_of false k n i r s d) =
+      is-not _ (code terminal.Thread) (from-past (code terminal.Thread) (omega arith) f) k
 
-  attrs-one : {at to so : ℕ} {v w : List AttrSyntax} → IsAttrs text ts at v to → From 9 ts to → IsAttrs text ts at w so → From 9 ts so → Same v to w so
+  attrs-one : {at to so : ℕ} {v w : List AttrSyntax} → IsAttrs text ts at v to → From (code terminal.Place) ts to → IsAttrs text ts at w so → From (code terminal.Place) ts so → Same v to w so
   attrs-one attrs_none f attrs_none g = same
   attrs-one attrs_none f (attrs_more e others) g = absurd (attr-none f e)
   attrs-one (attrs_more d rest) f attrs_none g = absurd (attr-none g d)
   attrs-one (attrs_more d rest) f (attrs_more e others) g =
       same-ap (λ p. p.0 ∷ p.1) (and-then (IsAttrs text ts) (attr-one d e) others (λ o. attrs-one rest f o g))
 
-  place-one : {at to so : ℕ} {v w : Option PlaceSyntax} → IsPlace text ts at v to → From 13 ts to → IsPlace text ts at w so → From 13 ts so → Same v to w so
+  place-one : {at to so : ℕ} {v w : Option PlaceSyntax} → IsPlace text ts at v to → From (code terminal.Elect) ts to → IsPlace text ts at w so → From (code terminal.Elect) ts so → Same v to w so
   place-one place_none f place_none g = same
-  place-one place_none f (place_here l h) g = absurd (is-not _ 9 (from-past 9 (omega arith) f) l)
-  place-one place_none f (place_least l h e) g = absurd (is-not _ 9 (from-past 9 (omega arith) f) l)
-  place-one (place_here k h) f place_none g = absurd (is-not _ 9 (from-past 9 (omega arith) g) k)
+  place-one place_none f (place_here l h) g =
+      absurd (is-not _ (code terminal.Place) (from-past (code terminal.Place) (omega arith) f) l)
+  place-one place_none f (place_least l h e) g =
+      absurd (is-not _ (code terminal.Place) (from-past (code terminal.Place) (omega arith) f) l)
+  place-one (place_here k h) f place_none g =
+      absurd (is-not _ (code terminal.Place) (from-past (code terminal.Place) (omega arith) g) k)
   place-one (place_here k h) f (place_here l i) g = same
   place-one (place_here k h) f (place_least l i e) g = absurd (omega (arith, h, i))
-  place-one (place_least k h d) f place_none g = absurd (is-not _ 9 (from-past 9 (omega arith) g) k)
+  place-one (place_least k h d) f place_none g =
+      absurd (is-not _ (code terminal.Place) (from-past (code terminal.Place) (omega arith) g) k)
   place-one (place_least k h d) f (place_here l i) g = absurd (omega (arith, h, i))
   place-one {at = at} (place_least k h d) f (place_least l i e) g =
       same-ap (λ v. Some (place.Least at v)) (expr-one text ts d (from-no_operator f) e (from-no_operator g))
 
-  elect-one : {at to so : ℕ} {v w : Option ElectSyntax} → IsElect text ts at v to → From 17 ts to → IsElect text ts at w so → From 17 ts so → Same v to w so
+  elect-one : {at to so : ℕ} {v w : Option ElectSyntax} → IsElect text ts at v to → From (code terminal.On) ts to → IsElect text ts at w so → From (code terminal.On) ts so → Same v to w so
   elect-one elect_none f elect_none g = same
-  elect-one elect_none f (elect_some l e) g = absurd (is-not _ 13 (from-past 13 (omega arith) f) l)
-  elect-one (elect_some k d) f elect_none g = absurd (is-not _ 13 (from-past 13 (omega arith) g) k)
+  elect-one elect_none f (elect_some l e) g =
+      absurd (is-not _ (code terminal.Elect) (from-past (code terminal.Elect) (omega arith) f) l)
+  elect-one (elect_some k d) f elect_none g =
+      absurd (is-not _ (code terminal.Elect) (from-past (code terminal.Elect) (omega arith) g) k)
   elect-one {at = at} (elect_some k d) f (elect_some l e) g =
       same-ap (λ order. Some (record { at = at; order = order }))
       (order-one text ts d (from-no_operator f) (from-no_comma f) e (from-no_operator g) (from-no_comma g))
 
-  sets-one : {at to so : ℕ} {v w : List SetSyntax} → IsSets text ts at v to → (kind_at ts to == 32) ≡ false →
-      IsSets text ts at w so → (kind_at ts so == 32) ≡ false → Same v to w so
+  sets-one : {at to so : ℕ} {v w : List SetSyntax} → IsSets text ts at v to →
+      (kind_at ts to == code terminal.Task) ≡ false →
+      IsSets text ts at w so → (kind_at ts so == code terminal.Task) ≡ false → Same v to w so
   sets-one sets_none n sets_none m = same
-  sets-one sets_none n (sets_more l d' w' g' e c' others) m = absurd (is-not _ 32 n l)
-  sets-one (sets_more k d' w' g' d c rest) n sets_none m = absurd (is-not _ 32 m k)
+  sets-one sets_none n (sets_more l d' w' g' e c' others) m = absurd (is-not _ (code terminal.Task) n l)
+  sets-one (sets_more k d' w' g' d c rest) n sets_none m = absurd (is-not _ (code terminal.Task) m k)
   sets-one {at = at} (sets_more k dot word gets d c rest) n (sets_more l dot' word' gets' e c' others) m =
       same-ap (λ p. record { at = at; word = word_at text ts (at + 2); value = p.0 } ∷ p.1)
       (and-then (λ i. IsSets text ts (i + 1))
-      (expr-one text ts d (no_operator-by ts _ 38 c refl refl refl) e (no_operator-by ts _ 38 c' refl refl refl))
+      (expr-one text ts d (no_operator-by ts _ (code terminal.Comma) c refl refl refl) e
+      (no_operator-by ts _ (code terminal.Comma) c' refl refl refl))
       others (λ o. sets-one rest n o m))
 
-  puts-end : (at : ℕ) (p : Put) → kind_at ts at ≡ put_word p → (kind_at ts at == 32) ≡ false
-  puts-end at p k = let less = put-no_task p in ne_eqb (kind_at ts at) 32 (λ e. omega (arith, e, k, less))
+  puts-end : (at : ℕ) (p : Put) → kind_at ts at ≡ put_word p → (kind_at ts at == code terminal.Task) ≡ false
+  puts-end at p k =
+      let less = put-no_task p in ne_eqb (kind_at ts at) (code terminal.Task) (λ e. omega (arith, e, k, less))
 
   put-both : {X : Type 0} {x y : X} {m n : ℕ} (p q : Put) → kind_at ts m ≡ put_word p → kind_at ts n ≡ put_word q →
       Same x m y n → Same {X = (X × ℕ) × Put} ((x, m), p) m ((y, n), q) n
@@ -94,17 +106,18 @@ module _ (text : List ℕ) (ts : List Lexeme) where
       closed (same-ap (λ t. record { at = at; guard = t.0.0.0; sets = t.0.0.1; put_at = t.0.1; put = t.1 })
       (put-both p r q s
       (and-then (λ i. IsSets text ts (i + 1))
-      (condition-one text ts d (no_or-by ts mid 39 c refl refl refl refl refl) e (no_or-by ts there 39 f refl refl refl refl refl))
+      (condition-one text ts d (no_or-by ts mid (code terminal.Colon) c refl refl refl refl refl) e (no_or-by ts there (code terminal.Colon) f refl refl refl refl refl))
       others (λ o. sets-one sets (puts-end _ p q) o (puts-end _ r s)))))
 
-  case-when : {at to : ℕ} {c : CaseSyntaxTree} → IsCase text ts at c to → kind_at ts at ≡ 22
+  case-when : {at to : ℕ} {c : CaseSyntaxTree} → IsCase text ts at c to → kind_at ts at ≡ code terminal.When
   case-when (case_of p k d c sets q) = k
 
-  cases-one : {at to so : ℕ} {v w : List CaseSyntaxTree} → IsCases text ts at v to → (kind_at ts to == 22) ≡ false →
-      IsCases text ts at w so → (kind_at ts so == 22) ≡ false → Same v to w so
+  cases-one : {at to so : ℕ} {v w : List CaseSyntaxTree} → IsCases text ts at v to →
+      (kind_at ts to == code terminal.When) ≡ false →
+      IsCases text ts at w so → (kind_at ts so == code terminal.When) ≡ false → Same v to w so
   cases-one cases_none n cases_none m = same
-  cases-one cases_none n (cases_more e others) m = absurd (is-not _ 22 n (case-when e))
-  cases-one (cases_more d rest) n cases_none m = absurd (is-not _ 22 m (case-when d))
+  cases-one cases_none n (cases_more e others) m = absurd (is-not _ (code terminal.When) n (case-when e))
+  cases-one (cases_more d rest) n cases_none m = absurd (is-not _ (code terminal.When) m (case-when d))
   cases-one (cases_more d rest) n (cases_more e others) m =
       same-ap (λ p. p.0 ∷ p.1) (and-then (IsCases text ts) (case-one d e) others (λ o. cases-one rest n o m))
 
@@ -115,11 +128,12 @@ module _ (text : List ℕ) (ts : List Lexeme) where
       (and-then (λ i. IsCase text ts (i + 3)) (event-same at a b k2 l2) e (λ o. case-one d o))
       others (λ o. cases-one more (rw f refl) o (rw g refl))))
 
-  handler-on : {at to : ℕ} {h : HandlerSyntaxTree} → IsHandler text ts at h to → kind_at ts at ≡ 17
+  handler-on : {at to : ℕ} {h : HandlerSyntaxTree} → IsHandler text ts at h to → kind_at ts at ≡ code terminal.On
   handler-on (handler_of a k1 k2 k3 d more f) = k1
 
-  handlers-one : {at to so : ℕ} {v w : List HandlerSyntaxTree} → IsHandlers text ts at v to → kind_at ts to ≡ 25 →
-      IsHandlers text ts at w so → kind_at ts so ≡ 25 → Same v to w so
+  handlers-one : {at to so : ℕ} {v w : List HandlerSyntaxTree} → IsHandlers text ts at v to →
+      kind_at ts to ≡ code terminal.Filter →
+      IsHandlers text ts at w so → kind_at ts so ≡ code terminal.Filter → Same v to w so
   handlers-one handlers_none n handlers_none m = same
   handlers-one handlers_none n (handlers_more e others) m = let on = handler-on e in absurd (omega (arith, n, on))
   handlers-one (handlers_more d rest) n handlers_none m = let on = handler-on d in absurd (omega (arith, m, on))
@@ -142,9 +156,9 @@ module _ (text : List ℕ) (ts : List Lexeme) where
       let elected = and-then (IsElect text ts) placed ee (λ o. elect-one de fh o gh) in
       let handled = same-place (and-then (IsHandlers text ts) elected eh (λ o. handlers-one dh kf o lf)) in
       let filtered = same-place (and-then (λ i. IsCondition text ts (i + 1)) handled ef
-      (λ o. condition-one text ts df (no_or-by ts at_choose 14 kc refl refl refl refl refl) o (no_or-by ts bt_choose 14 lc refl refl refl refl refl))) in
+      (λ o. condition-one text ts df (no_or-by ts at_choose (code terminal.Choose) kc refl refl refl refl refl) o (no_or-by ts bt_choose (code terminal.Choose) lc refl refl refl refl refl))) in
       let chosen = same-place (and-then (λ i. IsOrder text ts (i + 1)) filtered ec
-      (λ o. order-one text ts dc (no_operator-by ts at_steal 15 ks refl refl refl) (rw ks refl) o (no_operator-by ts bt_steal 15 ls refl refl refl) (rw ls refl))) in
+      (λ o. order-one text ts dc (no_operator-by ts at_steal (code terminal.Steal) ks refl refl refl) (rw ks refl) o (no_operator-by ts bt_steal (code terminal.Steal) ls refl refl refl) (rw ls refl))) in
       let end = no_operator-by ts (length ts) 0 none refl refl refl in
       let stolen = and-then (λ i. IsOrder text ts (i + 1)) chosen es (λ o. order-one text ts ds end (rw none refl) o end (rw none refl)) in
       same-is (same-ap (λ t. record {

@@ -12,6 +12,7 @@ use Rattle.policy_tree.specs.declared.syntax.AddedSyntax.{AddedSyntax}
 use Rattle.policy_tree.specs.declared.syntax.ExprSyntax.{ExprSyntax}
 use Rattle.policy_tree.specs.SyntaxTrees.{ConditionTree, always, negated, grouped, all, any, test, ConditionTrees, no_more, more, CaseSyntaxTree, HandlerSyntaxTree, SyntaxTree}
 use Rattle.policy_grammar.specs.declared.limits.Limits.{Limits}
+use Rattle.policy_grammar.specs.declared.terminal.Terminal.TheVariants as terminal_is
 use Rattle.policy_grammar.specs.Terminals.{code, is_word}
 use Rattle.policy_grammar.specs.declared.fault.ParseFault.{ParseFault}
 use Rattle.policy_grammar.specs.declared.fault.ParseFault.TheVariants.{Unexpected, Deep, Many, Memory}
@@ -153,55 +154,64 @@ token-here at false q = tt
 module _ (limits : Limits) where
   factor-here : (count base depth before at : ℕ) (below : List Symbol) (k : ℕ) → MovesHere at (factor_move limits count base depth before at below k)
   factor-here count base depth before at below k =
-      either-here at (k == 35) _ _ tt
-      (either-here at (k == 45) _ _ (here-first at _ _ (here-many limits.operators at before) (here-deep limits at depth))
-      (either-here at (((k == 30) || (k == 31)) || ((k == 5) || (k == 32))) _ _ tt tt))
+      either-here at (k == code terminal_is.Number) _ _ tt
+      (either-here at (k == code terminal_is.Minus) _ _ (here-first at _ _ (here-many limits.operators at before) (here-deep limits at depth))
+      (either-here at (((k == code terminal_is.Itself) || (k == code terminal_is.Victim)) ||
+      ((k == code terminal_is.Core) || (k == code terminal_is.Task))) _ _ tt tt))
 
   unit-here : (count depth at : ℕ) (below : List Symbol) (k : ℕ) → MovesHere at (unit_move limits count depth at below k)
   unit-here count depth at below k =
-      either-here at (k == 29) _ _ tt
-      (either-here at (k == 28) _ _ (here-deep limits at depth)
-      (either-here at (k == 40) _ _ (here-deep limits at depth) (factor-here count depth depth 0 at (compare depth ∷ below) k)))
+      either-here at (k == code terminal_is.Always) _ _ tt
+      (either-here at (k == code terminal_is.Not) _ _ (here-deep limits at depth)
+      (either-here at (k == code terminal_is.Open) _ _ (here-deep limits at depth) (factor-here count depth depth 0 at (compare depth ∷ below) k)))
 
   key-here : (before at : ℕ) (below : List Symbol) (k : ℕ) → MovesHere at (key_move limits before at below k)
-  key-here before at below k = either-here at ((k == 11) || (k == 12)) _ _ (here-many limits.keys at before) tt
+  key-here before at below k =
+      either-here at ((k == code terminal_is.Min) || (k == code terminal_is.Max)) _ _
+      (here-many limits.keys at before) tt
 
   case-here : (before at : ℕ) (below : List Symbol) (k : ℕ) (outer : Move) → MovesHere at outer → MovesHere at (case_move limits before at below k outer)
-  case-here before at below k outer h = either-here at (k == 22) _ outer (here-many limits.cases at before) h
+  case-here before at below k outer h =
+      either-here at (k == code terminal_is.When) _ outer (here-many limits.cases at before) h
 
   attr-here : (cores threads at : ℕ) (below : List Symbol) (k : ℕ) (outer : Move) → MovesHere at outer → MovesHere at (attr_move limits cores threads at below k outer)
   attr-here cores threads at below k outer h =
-      either-here at (k == 5) _ _ (here-many limits.attrs at cores) (either-here at (k == 6) _ outer (here-many limits.attrs at threads) h)
+      either-here at (k == code terminal_is.Core) _ _ (here-many limits.attrs at cores) (either-here at (k == code terminal_is.Thread) _ outer (here-many limits.attrs at threads) h)
 
   symbol-here : (count at : ℕ) (s : Symbol) (below : List Symbol) (k : ℕ) (outer : Move) → MovesHere at outer → MovesHere at (symbol_move limits count at s below k outer)
   symbol-here count at (the terminal) below k outer h = token-here at (k == code terminal) (state 0 below)
-  symbol-here count at load_rule below k outer h = either-here at (k == 3) _ _ tt (either-here at (k == 4) _ _ tt tt)
-  symbol-here count at int below k outer h = either-here at (k == 35) _ _ tt (either-here at (k == 45) _ _ tt tt)
+  symbol-here count at load_rule below k outer h =
+      either-here at (k == code terminal_is.Count) _ _ tt (either-here at (k == code terminal_is.Weight) _ _ tt tt)
+  symbol-here count at int below k outer h =
+      either-here at (k == code terminal_is.Number) _ _ tt (either-here at (k == code terminal_is.Minus) _ _ tt tt)
   symbol-here count at (attrs cores threads) below k outer h = attr-here cores threads at below k outer h
-  symbol-here count at place below k outer h = either-here at (k == 9) _ outer tt h
-  symbol-here count at place_rule below k outer h = either-here at (k == 10) _ _ tt (either-here at (k == 11) _ _ tt tt)
-  symbol-here count at elect below k outer h = either-here at (k == 13) _ outer tt h
-  symbol-here count at handlers below k outer h = either-here at (k == 17) _ outer tt h
-  symbol-here count at event below k outer h = either-here at (((k == 18) || (k == 19)) || ((k == 20) || (k == 21))) _ _ tt tt
+  symbol-here count at place below k outer h = either-here at (k == code terminal_is.Place) _ outer tt h
+  symbol-here count at place_rule below k outer h =
+      either-here at (k == code terminal_is.Here) _ _ tt (either-here at (k == code terminal_is.Min) _ _ tt tt)
+  symbol-here count at elect below k outer h = either-here at (k == code terminal_is.Elect) _ outer tt h
+  symbol-here count at handlers below k outer h = either-here at (k == code terminal_is.On) _ outer tt h
+  symbol-here count at event below k outer h = either-here at (((k == code terminal_is.Enqueue) || (k == code terminal_is.Tick)) || ((k == code terminal_is.Yield) || (k == code terminal_is.Block))) _ _ tt tt
   symbol-here count at (case before) below k outer h = case-here before at below k refuses tt
   symbol-here count at (cases before) below k outer h = case-here before at below k outer h
   symbol-here count at (actions before) below k outer h =
-      either-here at (k == 32) _ _ (here-many limits.sets at before) (either-here at (((k == 23) || (k == 24)) || (k == 21)) _ _ tt tt)
+      either-here at (k == code terminal_is.Task) _ _ (here-many limits.sets at before) (either-here at (((k == code terminal_is.Queue) || (k == code terminal_is.Keep)) || (k == code terminal_is.Block)) _ _ tt tt)
   symbol-here count at field below k outer h = token-here at (is_word k) (state 0 below)
-  symbol-here count at order below k outer h = either-here at (k == 16) _ _ tt (key-here 0 at below k)
+  symbol-here count at order below k outer h =
+      either-here at (k == code terminal_is.First) _ _ tt (key-here 0 at below k)
   symbol-here count at (key before) below k outer h = key-here before at below k
-  symbol-here count at (keys before) below k outer h = either-here at (k == 38) _ outer tt h
+  symbol-here count at (keys before) below k outer h = either-here at (k == code terminal_is.Comma) _ outer tt h
   symbol-here count at condition below k outer h = unit-here 0 0 at (ands 0 ∷ ors 0 ∷ below) k
   symbol-here count at (unit depth) below k outer h = unit-here count depth at below k
-  symbol-here count at (ands depth) below k outer h = either-here at (k == 26) _ outer tt h
-  symbol-here count at (ors depth) below k outer h = either-here at (k == 27) _ outer tt h
-  symbol-here count at close below k outer h = either-here at (k == 41) _ _ tt tt
+  symbol-here count at (ands depth) below k outer h = either-here at (k == code terminal_is.And) _ outer tt h
+  symbol-here count at (ors depth) below k outer h = either-here at (k == code terminal_is.Or) _ outer tt h
+  symbol-here count at close below k outer h = either-here at (k == code terminal_is.Close) _ _ tt tt
   symbol-here count at (compare depth) below k outer h = either-here at (is_compare k) _ _ (here-many limits.comparisons at count) tt
   symbol-here count at (operand base depth before) below k outer h = factor-here count base depth before at below k
-  symbol-here count at (dot base before) below k outer h = either-here at (k == 36) _ _ tt tt
+  symbol-here count at (dot base before) below k outer h = either-here at (k == code terminal_is.Dot) _ _ tt tt
   symbol-here count at (word base before) below k outer h = token-here at (is_word k) (state count (operators base before ∷ below))
   symbol-here count at (operators base before) below k outer h =
-      either-here at (((k == 46) || (k == 44)) || (k == 45)) _ outer (here-many limits.operators at before) h
+      either-here at (((k == code terminal_is.Star) || (k == code terminal_is.Plus)) || (k == code terminal_is.Minus))
+      _ outer (here-many limits.operators at before) h
 
   -- a limit is passed at the token that is read
   pub moves-here : (count at : ℕ) (stack : List Symbol) (k : ℕ) → MovesHere at (moves limits count at stack k)

@@ -9,6 +9,8 @@ use Rattle.policy_tree.specs.declared.typed.Put.{Put}
 use Rattle.policy_tree.specs.declared.typed.Put.TheVariants as put
 use Rattle.policy_tree.specs.declared.syntax.Owner.{Owner}
 use Rattle.policy_tree.specs.declared.syntax.Owner.TheVariants as owner
+use Rattle.policy_grammar.specs.declared.terminal.Terminal.TheVariants as terminal
+use Rattle.policy_grammar.specs.Terminals.{code}
 use Rattle.policy_grammar.specs.Words.{attr_word, key_word, sign_word, owner_word, event_word, put_word, compare_word}
 
 -- the two are one, and end at one place
@@ -37,29 +39,31 @@ is-not m k differs e = absurd (grind (arith, nat_tests))
 by-back : {X : Type 0} (word : X → ℕ) (back : ℕ → X) → ((x : X) → back (word x) ≡ x) → {k : ℕ} (at : ℕ) (x y : X) → k ≡ word x → k ≡ word y → Same x at y at
 by-back word back is at x y e f = subst (λ z. Same x at z at) (sym (is x) ∙ ap back (sym e ∙ f) ∙ is y) same
 
-attr-back : (x : Bool) → (attr_word x == 5) ≡ x
+attr-back : (x : Bool) → (attr_word x == code terminal.Core) ≡ x
 attr-back true = refl
 attr-back false = refl
 
 pub attr-same : {k : ℕ} (at : ℕ) (x y : Bool) → k ≡ attr_word x → k ≡ attr_word y → Same x at y at
-attr-same = by-back attr_word (λ k. k == 5) attr-back
+attr-same = by-back attr_word (λ k. k == code terminal.Core) attr-back
 
-key-back : (x : Bool) → (key_word x == 12) ≡ x
+key-back : (x : Bool) → (key_word x == code terminal.Max) ≡ x
 key-back true = refl
 key-back false = refl
 
 pub key-same : {k : ℕ} (at : ℕ) (x y : Bool) → k ≡ key_word x → k ≡ key_word y → Same x at y at
-key-same = by-back key_word (λ k. k == 12) key-back
+key-same = by-back key_word (λ k. k == code terminal.Max) key-back
 
-sign-back : (x : Bool) → (sign_word x == 45) ≡ x
+sign-back : (x : Bool) → (sign_word x == code terminal.Minus) ≡ x
 sign-back true = refl
 sign-back false = refl
 
 pub sign-same : {k : ℕ} (at : ℕ) (x y : Bool) → k ≡ sign_word x → k ≡ sign_word y → Same x at y at
-sign-same = by-back sign_word (λ k. k == 45) sign-back
+sign-same = by-back sign_word (λ k. k == code terminal.Minus) sign-back
 
 abbrev owner_from : ℕ → Owner
-owner_from k = if k == 30 then owner.Itself else if k == 31 then owner.Victim else if k == 5 then owner.Core else owner.Thread
+owner_from k =
+    if k == code terminal.Itself then owner.Itself else if k == code terminal.Victim then owner.Victim else
+    if k == code terminal.Core then owner.Core else owner.Thread
 
 owner-back : (o : Owner) → owner_from (owner_word o) ≡ o
 owner-back owner.Itself = refl
@@ -70,14 +74,16 @@ owner-back owner.Thread = refl
 pub owner-same : {k : ℕ} (at : ℕ) (x y : Owner) → k ≡ owner_word x → k ≡ owner_word y → Same x at y at
 owner-same = by-back owner_word owner_from owner-back
 
-pub owner-small : (o : Owner) → owner_word o < 35
+pub owner-small : (o : Owner) → owner_word o < code terminal.Number
 owner-small owner.Itself = lit< tt
 owner-small owner.Victim = lit< tt
 owner-small owner.Core = lit< tt
 owner-small owner.Thread = lit< tt
 
 abbrev event_from : ℕ → Event
-event_from k = if k == 18 then event.Enqueue else if k == 19 then event.Tick else if k == 20 then event.Yield else event.Block
+event_from k =
+    if k == code terminal.Enqueue then event.Enqueue else if k == code terminal.Tick then event.Tick else
+    if k == code terminal.Yield then event.Yield else event.Block
 
 event-back : (e : Event) → event_from (event_word e) ≡ e
 event-back event.Enqueue = refl
@@ -89,7 +95,7 @@ pub event-same : {k : ℕ} (at : ℕ) (x y : Event) → k ≡ event_word x → k
 event-same = by-back event_word event_from event-back
 
 abbrev put_from : ℕ → Put
-put_from k = if k == 23 then put.Queue else if k == 24 then put.Keep else put.Block
+put_from k = if k == code terminal.Queue then put.Queue else if k == code terminal.Keep then put.Keep else put.Block
 
 put-back : (p : Put) → put_from (put_word p) ≡ p
 put-back put.Queue = refl
@@ -99,15 +105,16 @@ put-back put.Block = refl
 pub put-same : {k : ℕ} (at : ℕ) (x y : Put) → k ≡ put_word x → k ≡ put_word y → Same x at y at
 put-same = by-back put_word put_from put-back
 
-pub put-no_task : (p : Put) → put_word p < 32
+pub put-no_task : (p : Put) → put_word p < code terminal.Task
 put-no_task put.Queue = lit< tt
 put-no_task put.Keep = lit< tt
 put-no_task put.Block = lit< tt
 
 abbrev compare_from : ℕ → Cmp
 compare_from k =
-    if k == 48 then cmp.Eq else if k == 49 then cmp.Ne else if k == 50 then cmp.Lt else
-    if k == 51 then cmp.Le else if k == 52 then cmp.Gt else cmp.Ge
+    if k == code terminal.Equal then cmp.Eq else if k == code terminal.Unequal then cmp.Ne else
+    if k == code terminal.Less then cmp.Lt else if k == code terminal.AtMost then cmp.Le else
+    if k == code terminal.More then cmp.Gt else cmp.Ge
 
 compare-back : (c : Cmp) → compare_from (compare_word c) ≡ c
 compare-back cmp.Eq = refl

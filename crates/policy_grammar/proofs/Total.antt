@@ -1,5 +1,5 @@
 -- Reading comes to a policy or to a fault.
-use Rattle.std.proofs.Common.{◌≡◌, ◌≢◌, ℕ, ◌+◌, ◌⊎◌, inl, inr, List, [], ◌∷◌, ◌++◌, length, refl, sym, ap, subst, ◌∙◌, Bool, true, false, if◌then◌else◌, Option, Some, None, append-nil}
+use Rattle.std.proofs.Common.{◌≡◌, ◌≢◌, ℕ, ◌+◌, inl, inr, List, [], ◌∷◌, ◌++◌, length, refl, sym, ap, subst, ◌∙◌, Bool, true, false, if◌then◌else◌, Option, Some, None, append-nil}
 use Rattle.policy_tree.specs.SyntaxTrees.{SyntaxTree}
 use Rattle.policy_grammar.specs.declared.terminal.Lexeme.{Lexeme}
 use Rattle.policy_grammar.specs.declared.limits.Limits.{Limits}
@@ -7,12 +7,11 @@ use Rattle.policy_grammar.specs.declared.fault.ParseFault.{ParseFault}
 use Rattle.policy_grammar.specs.declared.fault.ParseFault.TheVariants.{Unexpected, Deep, Many, Memory}
 use Rattle.policy_grammar.specs.Answered.{HasAnswer}
 use Rattle.policy_grammar.specs.Conditions.{ands_none, ors_none}
-use Rattle.policy_grammar.specs.Correct.{IsWithin}
 use Rattle.policy_grammar.specs.Expressions.{keys_none, times_none, added_none}
 use Rattle.policy_grammar.specs.Machine.{Symbol, the, load_rule, int, attrs, place, place_rule, elect, handlers, event, case, cases, actions, field, order, key, keys, condition, unit, ands, ors, close, compare, operand, dot, word, operators, state, Move, refuses, goes, moves, all_nothing, is_nothing, kind_of, after, run, go, start}
 use Rattle.policy_grammar.specs.Policies.{IsPolicy, attrs_none, cases_none, elect_none, handlers_none, place_none}
 use Rattle.policy_grammar.proofs.CompletePolicies.{policy_read}
-use Rattle.policy_grammar.proofs.Exact.{Course, Stops, at_end, refused, passed, course, fault-exact}
+use Rattle.policy_grammar.proofs.Exact.{Stops, at_end, refused, passed, course, fault-exact}
 use Rattle.policy_grammar.proofs.Places.{IsHere, MovesHere, moves-here}
 use Rattle.policy_grammar.proofs.Reached.{Reach, policy-from, reach-start}
 use Rattle.policy_grammar.proofs.Viable.{Are, are_none, are_more, Means}

@@ -25,6 +25,7 @@ use Rattle.policy_tree.specs.declared.syntax.OperandSyntax.{OperandSyntax}
 use Rattle.policy_tree.specs.SyntaxTrees.{ConditionTree, ConditionTrees, CaseSyntaxTree, HandlerSyntaxTree}
 use Rattle.policy_grammar.specs.declared.terminal.Lexeme.{Lexeme}
 use Rattle.policy_grammar.specs.declared.terminal.Terminal.TheVariants.{Load, Count, Weight, Core, In, Start, Place, Here, Min, Max, Elect, On, Enqueue, Tick, Yield, Block, When, Queue, Keep, And, Or, Not, Itself, Victim, Task, Name, Number, Dot, Range, Comma, Colon, Open, Close, Begin, Finish, Plus, Minus, Star, Gets, Equal, Unequal, Less, AtMost, More, AtLeast}
+use Rattle.policy_grammar.specs.declared.terminal.Terminal.TheVariants as terminal_is
 use Rattle.policy_grammar.specs.declared.limits.Limits.{Limits}
 use Rattle.policy_grammar.specs.Terminals.{code, kind_at, is_word}
 use Rattle.policy_grammar.specs.Words.{attr_word, key_word, sign_word, owner_word, event_word, put_word, compare_word}
@@ -278,8 +279,8 @@ module _ (limits : Limits) (text : List ℕ) (ts : List Lexeme) where
       ((e : ExprSyntax) (mid : ℕ) → IsExpr text ts at e mid → Are text ts below mid to → Are text ts stack at to) →
       Pulls text ts stack at to (factor_move limits count base depth before at below (kind_at ts at))
   factor-pulls at to count base depth before below stack whole =
-      if-pulls text ts stack at to _ 35 _ _ (λ k. number k)
-      (if-pulls text ts stack at to _ 45 _ _ (λ k. sign k)
+      if-pulls text ts stack at to _ (code terminal_is.Number) _ _ (λ k. number k)
+      (if-pulls text ts stack at to _ (code terminal_is.Minus) _ _ (λ k. sign k)
       (any-pulls text ts stack at to _ _ _ (λ e. refers (owner-by _ e)) tt))
     where
       number : kind_at ts at ≡ code Number → Are text ts (operators base before ∷ below) (at + 1) to → Are text ts stack at to
@@ -295,9 +296,9 @@ module _ (limits : Limits) (text : List ℕ) (ts : List Lexeme) where
       ((v : ConditionTree) (mid : ℕ) → IsUnit text ts at v mid → Are text ts below mid to → Are text ts stack at to) →
       Pulls text ts stack at to (unit_move limits count depth at below (kind_at ts at))
   unit-pulls at to count depth below stack whole =
-      takes text ts stack below at to _ _ 29 _ (λ k rest. whole _ (at + 1) (unit_always k) rest)
-      (if-pulls text ts stack at to _ 28 _ _ (λ k. negates k)
-      (if-pulls text ts stack at to _ 40 _ _ (λ k. groups k)
+      takes text ts stack below at to _ _ (code terminal_is.Always) _ (λ k rest. whole _ (at + 1) (unit_always k) rest)
+      (if-pulls text ts stack at to _ (code terminal_is.Not) _ _ (λ k. negates k)
+      (if-pulls text ts stack at to _ (code terminal_is.Open) _ _ (λ k. groups k)
       (factor-pulls at to count depth depth 0 (compare depth ∷ below) stack (λ e mid d. tests e mid d))))
     where
       negates : kind_at ts at ≡ code Not → Are text ts (unit (depth + 1) ∷ below) (at + 1) to → Are text ts stack at to
@@ -324,7 +325,7 @@ module _ (limits : Limits) (text : List ℕ) (ts : List Lexeme) where
       ((mid : ℕ) → Cases text ts at mid → Are text ts below mid to → Are text ts stack at to) →
       Pulls text ts stack at to (case_move limits before at below (kind_at ts at) outer)
   case-pulls at to before below stack outer out whole =
-      if-pulls text ts stack at to _ 22 _ _ (λ k. cased k) out
+      if-pulls text ts stack at to _ (code terminal_is.When) _ _ (λ k. cased k) out
     where
       cased : kind_at ts at ≡ code When → Are text ts (condition ∷ the Colon ∷ actions 0 ∷ cases (before + 1) ∷ below) (at + 1) to → Are text ts stack at to
       cased k (are_more m1 g (are_more m2 (token c) (are_more m3 (acts p s q) (are_more m4 cs rest)))) =
@@ -334,8 +335,8 @@ module _ (limits : Limits) (text : List ℕ) (ts : List Lexeme) where
       ((us : List AttrSyntax) (mid : ℕ) → IsAttrs text ts at us mid → Are text ts below mid to → Are text ts stack at to) →
       Pulls text ts stack at to (attr_move limits cores threads at below (kind_at ts at) outer)
   attr-pulls at to cores threads below stack outer out whole =
-      if-pulls text ts stack at to _ 5 _ _ (λ k. declared true k (cores + 1) threads)
-      (if-pulls text ts stack at to _ 6 _ _ (λ k. declared false k cores (threads + 1)) out)
+      if-pulls text ts stack at to _ (code terminal_is.Core) _ _ (λ k. declared true k (cores + 1) threads)
+      (if-pulls text ts stack at to _ (code terminal_is.Thread) _ _ (λ k. declared false k cores (threads + 1)) out)
     where
       declared : (of_cores : Bool) → kind_at ts at ≡ attr_word of_cores → (c t : ℕ) →
           Are text ts (the Name ∷ the In ∷ int ∷ the Range ∷ int ∷ the Start ∷ int ∷ attrs c t ∷ below) (at + 1) to → Are text ts stack at to
@@ -354,15 +355,16 @@ module _ (limits : Limits) (text : List ℕ) (ts : List Lexeme) where
       takes text ts (the terminal ∷ below) below at to 0 (kind_at ts at) (code terminal) refuses
       (λ k rest. are_more {symbol = the terminal} (at + 1) (token k) rest) tt
   symbol-pulls at to count load_rule below outer out =
-      takes text ts _ below at to _ _ 3 _ (λ k rest. are_more (at + 1) (λ from l. load-count k l refl) rest)
-      (if-pulls text ts _ at to _ 4 _ _ (λ k. weighs k) tt)
+      takes text ts _ below at to _ _ (code terminal_is.Count) _
+      (λ k rest. are_more (at + 1) (λ from l. load-count k l refl) rest)
+      (if-pulls text ts _ at to _ (code terminal_is.Weight) _ _ (λ k. weighs k) tt)
     where
       weighs : kind_at ts at ≡ code Weight → Are text ts (int ∷ the Range ∷ int ∷ below) (at + 1) to → Are text ts (load_rule ∷ below) at to
       weighs k (are_more m1 low (are_more m2 r (are_more m3 high rest))) =
           are_more m3 (λ from l. load-weight k low.1 r high.1 l) rest
   symbol-pulls at to count int below outer out =
-      takes text ts _ below at to _ _ 35 _ (λ k rest. are_more (at + 1) (_, int_plain k) rest)
-      (if-pulls text ts _ at to _ 45 _ _ (λ k. signs k) tt)
+      takes text ts _ below at to _ _ (code terminal_is.Number) _ (λ k rest. are_more (at + 1) (_, int_plain k) rest)
+      (if-pulls text ts _ at to _ (code terminal_is.Minus) _ _ (λ k. signs k) tt)
     where
       signs : kind_at ts at ≡ code Minus → Are text ts (the Number ∷ below) (at + 1) to → Are text ts (int ∷ below) at to
       signs k (are_more m1 (token n) rest) =
@@ -372,23 +374,24 @@ module _ (limits : Limits) (text : List ℕ) (ts : List Lexeme) where
       attr-pulls at to cores threads below _ outer (lift-pulls text ts _ below at to outer (λ rest. are_more at ([], attrs_none) rest) out)
       (λ us mid d rest. are_more mid (us, d) rest)
   symbol-pulls at to count place below outer out =
-      if-pulls text ts _ at to _ 9 _ _ (λ k. places k) (lift-pulls text ts _ below at to outer (λ rest. are_more at (None, place_none) rest) out)
+      if-pulls text ts _ at to _ (code terminal_is.Place) _ _ (λ k. places k) (lift-pulls text ts _ below at to outer (λ rest. are_more at (None, place_none) rest) out)
     where
       places : kind_at ts at ≡ code Place → Are text ts (place_rule ∷ below) (at + 1) to → Are text ts (place ∷ below) at to
       places k (are_more m1 f rest) = are_more m1 (f at (token k)) rest
   symbol-pulls at to count place_rule below outer out =
-      takes text ts _ below at to _ _ 10 _ (λ k rest. are_more (at + 1) (λ from l. place-here k l refl) rest)
-      (if-pulls text ts _ at to _ 11 _ _ (λ k. least k) tt)
+      takes text ts _ below at to _ _ (code terminal_is.Here) _
+      (λ k rest. are_more (at + 1) (λ from l. place-here k l refl) rest)
+      (if-pulls text ts _ at to _ (code terminal_is.Min) _ _ (λ k. least k) tt)
     where
       least : kind_at ts at ≡ code Min → Are text ts (operand 0 0 0 ∷ below) (at + 1) to → Are text ts (place_rule ∷ below) at to
       least k (are_more m1 e rest) = are_more m1 (λ from l. place-least k e.1 l) rest
   symbol-pulls at to count elect below outer out =
-      if-pulls text ts _ at to _ 13 _ _ (λ k. elects k) (lift-pulls text ts _ below at to outer (λ rest. are_more at (None, elect_none) rest) out)
+      if-pulls text ts _ at to _ (code terminal_is.Elect) _ _ (λ k. elects k) (lift-pulls text ts _ below at to outer (λ rest. are_more at (None, elect_none) rest) out)
     where
       elects : kind_at ts at ≡ code Elect → Are text ts (order ∷ below) (at + 1) to → Are text ts (elect ∷ below) at to
       elects k (are_more m1 o rest) = are_more m1 (_, elect_some k o.1) rest
   symbol-pulls at to count handlers below outer out =
-      if-pulls text ts _ at to _ 17 _ _ (λ k. handles k) (lift-pulls text ts _ below at to outer (λ rest. are_more at ([], handlers_none) rest) out)
+      if-pulls text ts _ at to _ (code terminal_is.On) _ _ (λ k. handles k) (lift-pulls text ts _ below at to outer (λ rest. are_more at ([], handlers_none) rest) out)
     where
       handles : kind_at ts at ≡ code On → Are text ts (event ∷ the Begin ∷ case 0 ∷ the Finish ∷ handlers ∷ below) (at + 1) to → Are text ts (handlers ∷ below) at to
       handles k (are_more m1 (e, token v) (are_more m2 (token b) (are_more m3 c (are_more m4 (token f) (are_more m5 hs rest))))) =
@@ -410,7 +413,7 @@ module _ (limits : Limits) (text : List ℕ) (ts : List Lexeme) where
       case-pulls at to before below _ outer (lift-pulls text ts _ below at to outer (λ rest. are_more at ([], cases_none) rest) out)
       (λ mid c rest. are_more mid (_, cases_more c.is c.are) rest)
   symbol-pulls at to count (actions before) below outer out =
-      if-pulls text ts _ at to _ 32 _ _ (λ k. sets k)
+      if-pulls text ts _ at to _ (code terminal_is.Task) _ _ (λ k. sets k)
       (any-takes text ts _ below at to _ _ _ (λ e. puts (put-by _ e)) tt)
     where
       puts : ((p : Put) × (kind_at ts at ≡ put_word p)) → Are text ts below (at + 1) to → Are text ts (actions before ∷ below) at to
@@ -430,11 +433,11 @@ module _ (limits : Limits) (text : List ℕ) (ts : List Lexeme) where
       any-takes text ts (field ∷ below) below at to 0 (is_word (kind_at ts at)) refuses
       (λ e rest. are_more {symbol = field} (at + 1) (any_word e) rest) tt
   symbol-pulls at to count order below outer out =
-      takes text ts _ below at to _ _ 16 _ (λ k rest. are_more (at + 1) (_, order_first k) rest)
+      takes text ts _ below at to _ _ (code terminal_is.First) _ (λ k rest. are_more (at + 1) (_, order_first k) rest)
       (key-pulls at to 0 below _ (λ mid k rest. are_more mid (_, order_keys k.is k.are) rest))
   symbol-pulls at to count (key before) below outer out = key-pulls at to before below _ (λ mid k rest. are_more mid k rest)
   symbol-pulls at to count (keys before) below outer out =
-      if-pulls text ts _ at to _ 38 _ _ (λ k. follows k) (lift-pulls text ts _ below at to outer (λ rest. are_more at ([], keys_none) rest) out)
+      if-pulls text ts _ at to _ (code terminal_is.Comma) _ _ (λ k. follows k) (lift-pulls text ts _ below at to outer (λ rest. are_more at ([], keys_none) rest) out)
     where
       follows : kind_at ts at ≡ code Comma → Are text ts (key before ∷ below) (at + 1) to → Are text ts (keys before ∷ below) at to
       follows k (are_more m1 ks rest) = are_more m1 (_, keys_more k ks.is ks.are) rest
@@ -444,17 +447,17 @@ module _ (limits : Limits) (text : List ℕ) (ts : List Lexeme) where
       joins v mid d (are_more m1 us (are_more m2 cs rest)) = are_more m2 (_, condition_of _ cs.0 (conjunction_of v us.0 d us.1) cs.1) rest
   symbol-pulls at to count (unit depth) below outer out = unit-pulls at to count depth below _ (λ v mid d rest. are_more mid (v, d) rest)
   symbol-pulls at to count (ands depth) below outer out =
-      if-pulls text ts _ at to _ 26 _ _ (λ k. follows k) (lift-pulls text ts _ below at to outer (λ rest. are_more at (_, ands_none) rest) out)
+      if-pulls text ts _ at to _ (code terminal_is.And) _ _ (λ k. follows k) (lift-pulls text ts _ below at to outer (λ rest. are_more at (_, ands_none) rest) out)
     where
       follows : kind_at ts at ≡ code And → Are text ts (unit depth ∷ ands depth ∷ below) (at + 1) to → Are text ts (ands depth ∷ below) at to
       follows k (are_more m1 u (are_more m2 us rest)) = are_more m2 (_, ands_more k u.1 us.1) rest
   symbol-pulls at to count (ors depth) below outer out =
-      if-pulls text ts _ at to _ 27 _ _ (λ k. follows k) (lift-pulls text ts _ below at to outer (λ rest. are_more at (_, ors_none) rest) out)
+      if-pulls text ts _ at to _ (code terminal_is.Or) _ _ (λ k. follows k) (lift-pulls text ts _ below at to outer (λ rest. are_more at (_, ors_none) rest) out)
     where
       follows : kind_at ts at ≡ code Or → Are text ts (unit depth ∷ ands depth ∷ ors depth ∷ below) (at + 1) to → Are text ts (ors depth ∷ below) at to
       follows k (are_more m1 u (are_more m2 us (are_more m3 cs rest))) = are_more m3 (_, ors_more k (conjunction_of u.0 us.0 u.1 us.1) cs.1) rest
   symbol-pulls at to count close below outer out =
-      takes text ts (close ∷ below) below at to count (kind_at ts at) 41 refuses
+      takes text ts (close ∷ below) below at to count (kind_at ts at) (code terminal_is.Close) refuses
       (λ k rest. are_more {symbol = close} (at + 1) (token k) rest) tt
   symbol-pulls at to count (compare depth) below outer out =
       any-pulls text ts _ at to _ _ _ (λ e. compares (compare-by _ e)) tt
@@ -464,7 +467,7 @@ module _ (limits : Limits) (text : List ℕ) (ts : List Lexeme) where
   symbol-pulls at to count (operand base depth before) below outer out =
       factor-pulls at to count base depth before below _ (λ e mid d rest. are_more mid (e, d) rest)
   symbol-pulls at to count (dot base before) below outer out =
-      if-pulls text ts _ at to _ 36 _ _ (λ k. dots k) tt
+      if-pulls text ts _ at to _ (code terminal_is.Dot) _ _ (λ k. dots k) tt
     where
       dots : kind_at ts at ≡ code Dot → Are text ts (word base before ∷ below) (at + 1) to → Are text ts (dot base before ∷ below) at to
       dots k (are_more m1 f rest) = are_more m1 (λ from o l. f from at o l (token k)) rest

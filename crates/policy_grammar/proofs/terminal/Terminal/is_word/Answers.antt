@@ -2,14 +2,15 @@ use Rattle.std.proofs.Common.{◌≡◌, ◌<◌, ◌≤◌, ℕ, nat_le, ap, ar
 use Rattle.std.proofs.lemmas.Bool.Decides.{nat_tests}
 use denote.Enum.Declared.{tag_of}
 use Rattle.policy_grammar.specs.contracts.terminal.Terminal.{the_type}
-use Rattle.policy_grammar.specs.Terminals.{is_word}
+use Rattle.policy_grammar.specs.declared.terminal.Terminal.TheVariants as terminal
+use Rattle.policy_grammar.specs.Terminals.{code, is_word}
 use Rattle.policy_grammar.proofs.Tags.{tag-is}
 use Rattle.policy_grammar.proofs.terminal.Terminal.is_word.Goals as goal
 
-low : (k : ℕ) → 1 ≤ k → nat_le k 34 ≡ is_word k
+low : (k : ℕ) → code terminal.Policy ≤ k → nat_le k (code terminal.Name) ≡ is_word k
 low k h = grind (arith, nat_tests)
 
-high : (k : ℕ) → k < 1 → nat_le 1 k ≡ is_word k
+high : (k : ℕ) → k < code terminal.Policy → nat_le (code terminal.Policy) k ≡ is_word k
 high k h = grind (arith, nat_tests)
 
 pub returns-then-self : goal.returns-then-self
