@@ -7,6 +7,7 @@ use Rattle.policy_grammar.specs.declared.limits.Limits.{Limits}
 use Rattle.policy_grammar.specs.declared.fault.ParseFault.{ParseFault}
 use Rattle.policy_grammar.specs.declared.fault.ParseFault.TheVariants.{Unexpected, Deep, Many, Memory}
 use Rattle.policy_grammar.specs.declared.terminal.Terminal.TheVariants.{Core, Thread, Name, In, Start, On, When, Begin, Finish, Colon, Dot, Gets, Task, Place, Here, Min, Elect, Number, Count, Weight, Range, First, Comma, And, Or, Not, Always, Open, Close, Plus, Minus, Star}
+use Rattle.policy_grammar.specs.declared.terminal.Terminal.TheVariants as terminal
 use Rattle.policy_tree.specs.declared.trees.Cmp.{Cmp}
 use Rattle.policy_grammar.specs.Words.{sign_word, key_word, compare_word, attr_word, put_word, event_word}
 use Rattle.policy_tree.specs.declared.typed.Put.{Put}
@@ -102,7 +103,7 @@ module _ (limits : Limits) (ts : List Lexeme) (at : ℕ) where
       go limits ts at count (operand base depth before ∷ below)
       ≡ judged (first_of (many limits.operators at before) (deep limits at depth)) (go limits ts (at + 1) count (operand base (depth + 1) (before + 1) ∷ below))
   sign-move count base depth before below k =
-      go-move limits ts at 45 count count (operand base depth before ∷ below) _ (first_of (many limits.operators at before) (deep limits at depth)) k (lit< tt) refl
+      go-move limits ts at (code terminal.Minus) count count (operand base depth before ∷ below) _ (first_of (many limits.operators at before) (deep limits at depth)) k (lit< tt) refl
 
   sign-within : (depth before : ℕ) → before < limits.operators → depth < limits.nesting → first_of (many limits.operators at before) (deep limits at depth) ≡ None
   sign-within depth before few open_few = rw (within-many limits.operators at before few, within-deep limits at depth open_few) refl
@@ -127,7 +128,7 @@ module _ (limits : Limits) (ts : List Lexeme) (at : ℕ) where
       go limits ts at count (operators base before ∷ below)
       ≡ judged (many limits.operators at before) (go limits ts (at + 1) count (operand base base (before + 1) ∷ below))
   star-move count base before below k =
-      go-move limits ts at 46 count count (operators base before ∷ below) _ (many limits.operators at before) k (lit< tt) refl
+      go-move limits ts at (code terminal.Star) count count (operators base before ∷ below) _ (many limits.operators at before) k (lit< tt) refl
 
   pub star-goes : (count base before : ℕ) (below : List Symbol) → kind_at ts at ≡ code Star → before < limits.operators →
       go limits ts at count (operators base before ∷ below) ≡ go limits ts (at + 1) count (operand base base (before + 1) ∷ below)
@@ -141,9 +142,9 @@ module _ (limits : Limits) (ts : List Lexeme) (at : ℕ) where
       go limits ts at count (operators base before ∷ below)
       ≡ judged (many limits.operators at before) (go limits ts (at + 1) count (operand base base (before + 1) ∷ below))
   added-move count base before below true k =
-      go-move limits ts at 45 count count (operators base before ∷ below) _ (many limits.operators at before) k (lit< tt) refl
+      go-move limits ts at (code terminal.Minus) count count (operators base before ∷ below) _ (many limits.operators at before) k (lit< tt) refl
   added-move count base before below false k =
-      go-move limits ts at 44 count count (operators base before ∷ below) _ (many limits.operators at before) k (lit< tt) refl
+      go-move limits ts at (code terminal.Plus) count count (operators base before ∷ below) _ (many limits.operators at before) k (lit< tt) refl
 
   pub added-goes : (count base before : ℕ) (below : List Symbol) (minus : Bool) → kind_at ts at ≡ sign_word minus → before < limits.operators →
       go limits ts at count (operators base before ∷ below) ≡ go limits ts (at + 1) count (operand base base (before + 1) ∷ below)
@@ -161,8 +162,8 @@ module _ (limits : Limits) (ts : List Lexeme) (at : ℕ) where
   -- keys of an order
   key-move : (before : ℕ) (below : List Symbol) (greatest : Bool) → kind_at ts at ≡ key_word greatest →
       go limits ts at 0 (key before ∷ below) ≡ judged (many limits.keys at before) (go limits ts (at + 1) 0 (operand 0 0 0 ∷ keys (before + 1) ∷ below))
-  key-move before below true k = go-move limits ts at 12 0 0 (key before ∷ below) _ (many limits.keys at before) k (lit< tt) refl
-  key-move before below false k = go-move limits ts at 11 0 0 (key before ∷ below) _ (many limits.keys at before) k (lit< tt) refl
+  key-move before below true k = go-move limits ts at (code terminal.Max) 0 0 (key before ∷ below) _ (many limits.keys at before) k (lit< tt) refl
+  key-move before below false k = go-move limits ts at (code terminal.Min) 0 0 (key before ∷ below) _ (many limits.keys at before) k (lit< tt) refl
 
   pub key-goes : (before : ℕ) (below : List Symbol) (greatest : Bool) → kind_at ts at ≡ key_word greatest → before < limits.keys →
       go limits ts at 0 (key before ∷ below) ≡ go limits ts (at + 1) 0 (operand 0 0 0 ∷ keys (before + 1) ∷ below)
@@ -179,7 +180,7 @@ module _ (limits : Limits) (ts : List Lexeme) (at : ℕ) where
   order-key below isnt = go-same limits ts at 0 0 (order ∷ below) (key 0 ∷ below) refl (rw isnt refl)
 
   pub keys-goes : (before : ℕ) (below : List Symbol) → kind_at ts at ≡ code Comma → go limits ts at 0 (keys before ∷ below) ≡ go limits ts (at + 1) 0 (key before ∷ below)
-  keys-goes before below k = go-move limits ts at 38 0 0 (keys before ∷ below) (key before ∷ below) None k (lit< tt) refl
+  keys-goes before below k = go-move limits ts at (code terminal.Comma) 0 0 (keys before ∷ below) (key before ∷ below) None k (lit< tt) refl
 
   pub keys-over : (before : ℕ) (below : List Symbol) → (kind_at ts at == code Comma) ≡ false → go limits ts at 0 (keys before ∷ below) ≡ go limits ts at 0 below
   keys-over before below isnt = go-same limits ts at 0 0 (keys before ∷ below) below refl (rw isnt refl)
@@ -187,7 +188,7 @@ module _ (limits : Limits) (ts : List Lexeme) (at : ℕ) where
   -- units of a condition
   not-move : (count depth : ℕ) (below : List Symbol) → kind_at ts at ≡ code Not →
       go limits ts at count (unit depth ∷ below) ≡ judged (deep limits at depth) (go limits ts (at + 1) count (unit (depth + 1) ∷ below))
-  not-move count depth below k = go-move limits ts at 28 count count (unit depth ∷ below) _ (deep limits at depth) k (lit< tt) refl
+  not-move count depth below k = go-move limits ts at (code terminal.Not) count count (unit depth ∷ below) _ (deep limits at depth) k (lit< tt) refl
 
   pub not-goes : (count depth : ℕ) (below : List Symbol) → kind_at ts at ≡ code Not → depth < limits.nesting →
       go limits ts at count (unit depth ∷ below) ≡ go limits ts (at + 1) count (unit (depth + 1) ∷ below)
@@ -199,7 +200,7 @@ module _ (limits : Limits) (ts : List Lexeme) (at : ℕ) where
   open-move : (count depth : ℕ) (below : List Symbol) → kind_at ts at ≡ code Open →
       go limits ts at count (unit depth ∷ below)
       ≡ judged (deep limits at depth) (go limits ts (at + 1) count (unit (depth + 1) ∷ ands (depth + 1) ∷ ors (depth + 1) ∷ close ∷ below))
-  open-move count depth below k = go-move limits ts at 40 count count (unit depth ∷ below) _ (deep limits at depth) k (lit< tt) refl
+  open-move count depth below k = go-move limits ts at (code terminal.Open) count count (unit depth ∷ below) _ (deep limits at depth) k (lit< tt) refl
 
   pub open-goes : (count depth : ℕ) (below : List Symbol) → kind_at ts at ≡ code Open → depth < limits.nesting →
       go limits ts at count (unit depth ∷ below) ≡ go limits ts (at + 1) count (unit (depth + 1) ∷ ands (depth + 1) ∷ ors (depth + 1) ∷ close ∷ below)
@@ -209,10 +210,12 @@ module _ (limits : Limits) (ts : List Lexeme) (at : ℕ) where
   open-deep count depth below k most = broken _ (open-move count depth below k) (past-deep limits at depth most)
 
   pub always-goes : (count depth : ℕ) (below : List Symbol) → kind_at ts at ≡ code Always → go limits ts at count (unit depth ∷ below) ≡ go limits ts (at + 1) count below
-  always-goes count depth below k = go-move limits ts at 29 count count (unit depth ∷ below) below None k (lit< tt) refl
+  always-goes count depth below k =
+      go-move limits ts at (code terminal.Always) count count (unit depth ∷ below) below None k (lit< tt) refl
 
   pub close-goes : (count : ℕ) (below : List Symbol) → kind_at ts at ≡ code Close → go limits ts at count (close ∷ below) ≡ go limits ts (at + 1) count below
-  close-goes count below k = go-move limits ts at 41 count count (close ∷ below) below None k (lit< tt) refl
+  close-goes count below k =
+      go-move limits ts at (code terminal.Close) count count (close ∷ below) below None k (lit< tt) refl
 
   pub close-none : (count : ℕ) (below : List Symbol) → (kind_at ts at == code Close) ≡ false → go limits ts at count (close ∷ below) ≡ Some (Unexpected at)
   close-none count below isnt = go-stuck limits ts at count (close ∷ below) refl (rw isnt refl)
@@ -234,13 +237,15 @@ module _ (limits : Limits) (ts : List Lexeme) (at : ℕ) where
   compare-none count depth below isnt = go-stuck limits ts at count (compare depth ∷ below) refl (rw isnt refl)
 
   pub ands-goes : (count depth : ℕ) (below : List Symbol) → kind_at ts at ≡ code And → go limits ts at count (ands depth ∷ below) ≡ go limits ts (at + 1) count (unit depth ∷ ands depth ∷ below)
-  ands-goes count depth below k = go-move limits ts at 26 count count (ands depth ∷ below) _ None k (lit< tt) refl
+  ands-goes count depth below k =
+      go-move limits ts at (code terminal.And) count count (ands depth ∷ below) _ None k (lit< tt) refl
 
   pub ors-goes : (count depth : ℕ) (below : List Symbol) → kind_at ts at ≡ code Or → go limits ts at count (ors depth ∷ below) ≡ go limits ts (at + 1) count (unit depth ∷ ands depth ∷ ors depth ∷ below)
-  ors-goes count depth below k = go-move limits ts at 27 count count (ors depth ∷ below) _ None k (lit< tt) refl
+  ors-goes count depth below k =
+      go-move limits ts at (code terminal.Or) count count (ors depth ∷ below) _ None k (lit< tt) refl
 
   pub order-first : (below : List Symbol) → kind_at ts at ≡ code First → go limits ts at 0 (order ∷ below) ≡ go limits ts (at + 1) 0 below
-  order-first below k = go-move limits ts at 16 0 0 (order ∷ below) below None k (lit< tt) refl
+  order-first below k = go-move limits ts at (code terminal.First) 0 0 (order ∷ below) below None k (lit< tt) refl
 
   pub ands-over : (count depth : ℕ) (below : List Symbol) → (kind_at ts at == code And) ≡ false → go limits ts at count (ands depth ∷ below) ≡ go limits ts at count below
   ands-over count depth below isnt = go-same limits ts at count count (ands depth ∷ below) below refl (rw isnt refl)
@@ -253,14 +258,15 @@ module _ (limits : Limits) (ts : List Lexeme) (at : ℕ) where
   int-none below n m = go-stuck limits ts at 0 (int ∷ below) refl (rw (n, m) refl)
 
   pub minus-goes : (below : List Symbol) → kind_at ts at ≡ code Minus → go limits ts at 0 (int ∷ below) ≡ go limits ts (at + 1) 0 (the Number ∷ below)
-  minus-goes below k = go-move limits ts at 45 0 0 (int ∷ below) (the Number ∷ below) None k (lit< tt) refl
+  minus-goes below k =
+      go-move limits ts at (code terminal.Minus) 0 0 (int ∷ below) (the Number ∷ below) None k (lit< tt) refl
 
   -- what a thread adds to the load
   pub count-goes : (below : List Symbol) → kind_at ts at ≡ code Count → go limits ts at 0 (load_rule ∷ below) ≡ go limits ts (at + 1) 0 below
-  count-goes below k = go-move limits ts at 3 0 0 (load_rule ∷ below) below None k (lit< tt) refl
+  count-goes below k = go-move limits ts at (code terminal.Count) 0 0 (load_rule ∷ below) below None k (lit< tt) refl
 
   pub weight-goes : (below : List Symbol) → kind_at ts at ≡ code Weight → go limits ts at 0 (load_rule ∷ below) ≡ go limits ts (at + 1) 0 (int ∷ the Range ∷ int ∷ below)
-  weight-goes below k = go-move limits ts at 4 0 0 (load_rule ∷ below) _ None k (lit< tt) refl
+  weight-goes below k = go-move limits ts at (code terminal.Weight) 0 0 (load_rule ∷ below) _ None k (lit< tt) refl
 
   pub load-none : (below : List Symbol) → (kind_at ts at == code Count) ≡ false → (kind_at ts at == code Weight) ≡ false → go limits ts at 0 (load_rule ∷ below) ≡ Some (Unexpected at)
   load-none below n m = go-stuck limits ts at 0 (load_rule ∷ below) refl (rw (n, m) refl)
@@ -273,16 +279,18 @@ module _ (limits : Limits) (ts : List Lexeme) (at : ℕ) where
   place-over below isnt = go-same limits ts at 0 0 (place ∷ below) below refl (rw isnt refl)
 
   pub place-goes : (below : List Symbol) → kind_at ts at ≡ code Place → go limits ts at 0 (place ∷ below) ≡ go limits ts (at + 1) 0 (place_rule ∷ below)
-  place-goes below k = go-move limits ts at 9 0 0 (place ∷ below) (place_rule ∷ below) None k (lit< tt) refl
+  place-goes below k =
+      go-move limits ts at (code terminal.Place) 0 0 (place ∷ below) (place_rule ∷ below) None k (lit< tt) refl
 
   pub here-goes : (below : List Symbol) → kind_at ts at ≡ code Place → kind_at ts (at + 1) ≡ code Here → go limits ts at 0 (place ∷ below) ≡ go limits ts (at + 2) 0 below
   here-goes below k h =
-      place-goes below k ∙ go-move limits ts (at + 1) 10 0 0 (place_rule ∷ below) below None h (lit< tt) refl
+      place-goes below k ∙ go-move limits ts (at + 1) (code terminal.Here) 0 0 (place_rule ∷ below) below
+      None h (lit< tt) refl
       ∙ go-from limits ts 0 below (let e : at + 1 + 1 ≡ at + 2 = omega arith in e)
 
   pub least-goes : (below : List Symbol) → kind_at ts at ≡ code Place → kind_at ts (at + 1) ≡ code Min → go limits ts at 0 (place ∷ below) ≡ go limits ts (at + 2) 0 (operand 0 0 0 ∷ below)
   least-goes below k m =
-      place-goes below k ∙ go-move limits ts (at + 1) 11 0 0 (place_rule ∷ below) (operand 0 0 0 ∷ below) None m (lit< tt) refl
+      place-goes below k ∙ go-move limits ts (at + 1) (code terminal.Min) 0 0 (place_rule ∷ below) (operand 0 0 0 ∷ below) None m (lit< tt) refl
       ∙ go-from limits ts 0 (operand 0 0 0 ∷ below) (let e : at + 1 + 1 ≡ at + 2 = omega arith in e)
 
   pub place-stuck : (below : List Symbol) → kind_at ts at ≡ code Place → (kind_at ts (at + 1) == code Here) ≡ false → (kind_at ts (at + 1) == code Min) ≡ false →
@@ -293,15 +301,16 @@ module _ (limits : Limits) (ts : List Lexeme) (at : ℕ) where
   elect-over below isnt = go-same limits ts at 0 0 (elect ∷ below) below refl (rw isnt refl)
 
   pub elect-goes : (below : List Symbol) → kind_at ts at ≡ code Elect → go limits ts at 0 (elect ∷ below) ≡ go limits ts (at + 1) 0 (order ∷ below)
-  elect-goes below k = go-move limits ts at 13 0 0 (elect ∷ below) (order ∷ below) None k (lit< tt) refl
+  elect-goes below k =
+      go-move limits ts at (code terminal.Elect) 0 0 (elect ∷ below) (order ∷ below) None k (lit< tt) refl
 
   -- attributes
   attr-move : (cores threads : ℕ) (below : List Symbol) (of_cores : Bool) → kind_at ts at ≡ attr_word of_cores →
       go limits ts at 0 (attrs cores threads ∷ below)
       ≡ judged (many limits.attrs at (of_kind of_cores cores threads))
       (go limits ts (at + 1) 0 (the Name ∷ the In ∷ int ∷ the Range ∷ int ∷ the Start ∷ int ∷ attrs (of_cores_more of_cores cores) (of_threads_more of_cores threads) ∷ below))
-  attr-move cores threads below true k = go-move limits ts at 5 0 0 (attrs cores threads ∷ below) _ (many limits.attrs at cores) k (lit< tt) refl
-  attr-move cores threads below false k = go-move limits ts at 6 0 0 (attrs cores threads ∷ below) _ (many limits.attrs at threads) k (lit< tt) refl
+  attr-move cores threads below true k = go-move limits ts at (code terminal.Core) 0 0 (attrs cores threads ∷ below) _ (many limits.attrs at cores) k (lit< tt) refl
+  attr-move cores threads below false k = go-move limits ts at (code terminal.Thread) 0 0 (attrs cores threads ∷ below) _ (many limits.attrs at threads) k (lit< tt) refl
 
   pub attr-goes : (cores threads count : ℕ) (below : List Symbol) (of_cores : Bool) → kind_at ts at ≡ attr_word of_cores → count ≡ of_kind of_cores cores threads → count < limits.attrs →
       go limits ts at 0 (attrs cores threads ∷ below)
@@ -320,7 +329,7 @@ module _ (limits : Limits) (ts : List Lexeme) (at : ℕ) where
   set-move : (before : ℕ) (below : List Symbol) → kind_at ts at ≡ code Task →
       go limits ts at 0 (actions before ∷ below)
       ≡ judged (many limits.sets at before) (go limits ts (at + 1) 0 (the Dot ∷ field ∷ the Gets ∷ operand 0 0 0 ∷ the Comma ∷ actions (before + 1) ∷ below))
-  set-move before below k = go-move limits ts at 32 0 0 (actions before ∷ below) _ (many limits.sets at before) k (lit< tt) refl
+  set-move before below k = go-move limits ts at (code terminal.Task) 0 0 (actions before ∷ below) _ (many limits.sets at before) k (lit< tt) refl
 
   pub set-goes : (before : ℕ) (below : List Symbol) → kind_at ts at ≡ code Task → before < limits.sets →
       go limits ts at 0 (actions before ∷ below) ≡ go limits ts (at + 1) 0 (the Dot ∷ field ∷ the Gets ∷ operand 0 0 0 ∷ the Comma ∷ actions (before + 1) ∷ below)
@@ -330,9 +339,10 @@ module _ (limits : Limits) (ts : List Lexeme) (at : ℕ) where
   set-many before below k most = broken _ (set-move before below k) (past-many limits.sets at before most)
 
   pub put-goes : (before : ℕ) (below : List Symbol) (p : Put) → kind_at ts at ≡ put_word p → go limits ts at 0 (actions before ∷ below) ≡ go limits ts (at + 1) 0 below
-  put-goes before below put_is.Queue k = go-move limits ts at 23 0 0 (actions before ∷ below) below None k (lit< tt) refl
-  put-goes before below put_is.Keep k = go-move limits ts at 24 0 0 (actions before ∷ below) below None k (lit< tt) refl
-  put-goes before below put_is.Block k = go-move limits ts at 21 0 0 (actions before ∷ below) below None k (lit< tt) refl
+  put-goes before below put_is.Queue k = go-move limits ts at (code terminal.Queue) 0 0 (actions before ∷ below) below None k (lit< tt) refl
+  put-goes before below put_is.Keep k =
+      go-move limits ts at (code terminal.Keep) 0 0 (actions before ∷ below) below None k (lit< tt) refl
+  put-goes before below put_is.Block k = go-move limits ts at (code terminal.Block) 0 0 (actions before ∷ below) below None k (lit< tt) refl
 
   pub put-none : (before : ℕ) (below : List Symbol) → (kind_at ts at == code Task) ≡ false → is_put (kind_at ts at) ≡ false → go limits ts at 0 (actions before ∷ below) ≡ Some (Unexpected at)
   put-none before below t p = go-stuck limits ts at 0 (actions before ∷ below) refl (rw (t, p) refl)
@@ -340,7 +350,7 @@ module _ (limits : Limits) (ts : List Lexeme) (at : ℕ) where
   -- cases
   case-move : (before : ℕ) (below : List Symbol) → kind_at ts at ≡ code When →
       go limits ts at 0 (case before ∷ below) ≡ judged (many limits.cases at before) (go limits ts (at + 1) 0 (condition ∷ the Colon ∷ actions 0 ∷ cases (before + 1) ∷ below))
-  case-move before below k = go-move limits ts at 22 0 0 (case before ∷ below) _ (many limits.cases at before) k (lit< tt) refl
+  case-move before below k = go-move limits ts at (code terminal.When) 0 0 (case before ∷ below) _ (many limits.cases at before) k (lit< tt) refl
 
   pub case-goes : (before : ℕ) (below : List Symbol) → kind_at ts at ≡ code When → before < limits.cases →
       go limits ts at 0 (case before ∷ below) ≡ go limits ts (at + 1) 0 (unit 0 ∷ ands 0 ∷ ors 0 ∷ the Colon ∷ actions 0 ∷ cases (before + 1) ∷ below)
@@ -356,7 +366,7 @@ module _ (limits : Limits) (ts : List Lexeme) (at : ℕ) where
 
   pub cases-case : (before : ℕ) (below : List Symbol) → kind_at ts at ≡ code When → go limits ts at 0 (cases before ∷ below) ≡ go limits ts at 0 (case before ∷ below)
   cases-case before below k =
-      go-move limits ts at 22 0 0 (cases before ∷ below) (condition ∷ the Colon ∷ actions 0 ∷ cases (before + 1) ∷ below) (many limits.cases at before) k (lit< tt) refl ∙ sym (case-move before below k)
+      go-move limits ts at (code terminal.When) 0 0 (cases before ∷ below) (condition ∷ the Colon ∷ actions 0 ∷ cases (before + 1) ∷ below) (many limits.cases at before) k (lit< tt) refl ∙ sym (case-move before below k)
 
   pub cases-over : (before : ℕ) (below : List Symbol) → (kind_at ts at == code When) ≡ false → go limits ts at 0 (cases before ∷ below) ≡ go limits ts at 0 below
   cases-over before below isnt = go-same limits ts at 0 0 (cases before ∷ below) below refl (rw isnt refl)
@@ -364,16 +374,20 @@ module _ (limits : Limits) (ts : List Lexeme) (at : ℕ) where
   -- handlers
   pub handler-goes : (below : List Symbol) → kind_at ts at ≡ code On →
       go limits ts at 0 (handlers ∷ below) ≡ go limits ts (at + 1) 0 (event ∷ the Begin ∷ case 0 ∷ the Finish ∷ handlers ∷ below)
-  handler-goes below k = go-move limits ts at 17 0 0 (handlers ∷ below) _ None k (lit< tt) refl
+  handler-goes below k = go-move limits ts at (code terminal.On) 0 0 (handlers ∷ below) _ None k (lit< tt) refl
 
   pub handlers-over : (below : List Symbol) → (kind_at ts at == code On) ≡ false → go limits ts at 0 (handlers ∷ below) ≡ go limits ts at 0 below
   handlers-over below isnt = go-same limits ts at 0 0 (handlers ∷ below) below refl (rw isnt refl)
 
   pub event-goes : (below : List Symbol) (e : Event) → kind_at ts at ≡ event_word e → go limits ts at 0 (event ∷ below) ≡ go limits ts (at + 1) 0 below
-  event-goes below event_is.Enqueue k = go-move limits ts at 18 0 0 (event ∷ below) below None k (lit< tt) refl
-  event-goes below event_is.Tick k = go-move limits ts at 19 0 0 (event ∷ below) below None k (lit< tt) refl
-  event-goes below event_is.Yield k = go-move limits ts at 20 0 0 (event ∷ below) below None k (lit< tt) refl
-  event-goes below event_is.Block k = go-move limits ts at 21 0 0 (event ∷ below) below None k (lit< tt) refl
+  event-goes below event_is.Enqueue k =
+      go-move limits ts at (code terminal.Enqueue) 0 0 (event ∷ below) below None k (lit< tt) refl
+  event-goes below event_is.Tick k =
+      go-move limits ts at (code terminal.Tick) 0 0 (event ∷ below) below None k (lit< tt) refl
+  event-goes below event_is.Yield k =
+      go-move limits ts at (code terminal.Yield) 0 0 (event ∷ below) below None k (lit< tt) refl
+  event-goes below event_is.Block k =
+      go-move limits ts at (code terminal.Block) 0 0 (event ∷ below) below None k (lit< tt) refl
 
   pub event-none : (below : List Symbol) → is_event (kind_at ts at) ≡ false → go limits ts at 0 (event ∷ below) ≡ Some (Unexpected at)
   event-none below isnt = go-stuck limits ts at 0 (event ∷ below) refl (rw isnt refl)

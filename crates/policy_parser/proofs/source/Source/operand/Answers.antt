@@ -2,6 +2,8 @@ use Rattle.std.proofs.Common.{◌∷◌, ◌∙◌, ◌+◌, refl, sym, lit<}
 use Rattle.std.specs.Prelude.{None}
 use Rattle.std.proofs.lemmas.Result.{err_from_is_err_and}
 use Rattle.policy_grammar.specs.Expressions.{operand_number}
+use Rattle.policy_grammar.specs.declared.terminal.Terminal.TheVariants as terminal
+use Rattle.policy_grammar.specs.Terminals.{code}
 use Rattle.policy_grammar.specs.Machine.{operand, dot, word}
 use Rattle.policy_grammar.proofs.Steps.{go-stuck, go-move}
 use Rattle.policy_grammar.proofs.CompleteExpressions.{operand_read, owner-read}
@@ -35,7 +37,7 @@ returns-in_err-word-clause-reads c = λ count base depth before below plain.
     rw (p.1, p.2)
     (passes _
     (owner-read _ c.args.self.now.text.now _ c.args.at count base depth before below c.in-Some.owner c.in-Some.ensures.some
-    ∙ go-move _ _ (c.args.at + 1) 36 count count (dot base before ∷ below) (word base before ∷ below) None c.in_ok-dot.ensures.is (lit< tt) refl
+    ∙ go-move _ _ (c.args.at + 1) (code terminal.Dot) count count (dot base before ∷ below) (word base before ∷ below) None c.in_ok-dot.ensures.is (lit< tt) refl
     ∙ go-from _ _ count (word base before ∷ below) (sym c.in_ok-dot.ensures.next.0))
     (word-fails c.args.self.now.lexemes.now c.in_ok-dot.dot _ (word-stuck _ _ c.in_ok-dot.dot count base before below) _ c.in_err-word.ensures.fails))
 
