@@ -7,7 +7,8 @@ use Rattle.policy_tree.specs.declared.syntax.ElectSyntax.{ElectSyntax}
 use Rattle.policy_tree.specs.declared.syntax.SetSyntax.{SetSyntax}
 use Rattle.policy_tree.specs.SyntaxTrees.{ConditionTree, ConditionTrees, CaseSyntaxTree, HandlerSyntaxTree, SyntaxTree}
 use Rattle.policy_grammar.specs.declared.terminal.Lexeme.{Lexeme}
-use Rattle.policy_grammar.specs.Terminals.{kind_at, word_at}
+use Rattle.policy_grammar.specs.declared.terminal.Terminal.TheVariants as terminal
+use Rattle.policy_grammar.specs.Terminals.{code, kind_at, word_at}
 use Rattle.policy_grammar.specs.Expressions.{IsOrder}
 use Rattle.policy_grammar.specs.Conditions.{IsUnit, unit_always, unit_not, unit_group, unit_test, IsAnds, ands_none, ands_more, IsConjunction, conjunction_of, IsOrs, ors_none, ors_more, IsCondition, condition_of}
 use Rattle.policy_grammar.specs.Policies.{IsLoad, load_count, load_weight, IsAttr, attr_of, IsAttrs, attrs_none, attrs_more, IsPlace, place_none, place_here, place_least, IsElect, elect_none, elect_some, IsSets, sets_none, sets_more, IsCase, case_of, IsCases, cases_none, cases_more, IsHandler, handler_of, IsHandlers, handlers_none, handlers_more, IsPolicy, policy_of}
@@ -45,7 +46,7 @@ module _ (text : List ℕ) (ts : List Lexeme) (other : List ℕ) (us : List Lexe
   load-again {at = at} (load_weight k w d) = load_weight (kind at k) (kind (at + 1) w) (range-again text ts other us like d)
 
   -- a name is spelled by the same bytes
-  name-again : (at : ℕ) → kind_at ts at ≡ 34 → word_at other us at ≡ word_at text ts at
+  name-again : (at : ℕ) → kind_at ts at ≡ code terminal.Name → word_at other us at ≡ word_at text ts at
   name-again at k = like.word at (rw k refl)
 
   attr-again : {at to : ℕ} {v : AttrSyntax} → IsAttr text ts at v to → IsAttr other us at v to

@@ -16,7 +16,8 @@ use Rattle.policy_tree.specs.declared.syntax.OrderSyntax.{OrderSyntax}
 use Rattle.policy_lexer.specs.declared.token.Symbol.TheVariants as sign
 use Rattle.policy_lexer.specs.declared.token.Token.{Token}
 use Rattle.policy_grammar.specs.Lexemes.{reserved_words, lexemes_of}
-use Rattle.policy_grammar.specs.Terminals.{kind_at}
+use Rattle.policy_grammar.specs.declared.terminal.Terminal.TheVariants as terminal
+use Rattle.policy_grammar.specs.Terminals.{code, kind_at}
 use Rattle.policy_grammar.specs.Words.{key_word, sign_word, owner_word}
 use Rattle.policy_grammar.specs.Expressions.{IsInt, int_plain, int_signed, IsRange, range_of, IsOperand, operand_number, operand_reference, IsFactor, factor_plain, factor_signed, IsTimes, times_none, times_more, IsTerm, term_of, IsAdded, added_none, added_more, IsExpr, expr_of, IsKey, key_of, IsKeys, keys_none, keys_more, IsOrder, order_first, order_keys}
 use Rattle.policy_printer.specs.WordTexts.{key_text, sign_text, owner_text}
@@ -45,10 +46,10 @@ module _ (text : List ℕ) (tokens : List Token) where
 
   owner-spells : {at : ℕ} (o : Owner) → kind_at (lexemes_of text tokens) at ≡ owner_word o → Are at (owner_text o ∷ []) (at + 1)
   unfolding reserved_words
-  owner-spells owner.Itself k = reserved text tokens 30 refl k (lit< tt) (lit< tt)
-  owner-spells owner.Victim k = reserved text tokens 31 refl k (lit< tt) (lit< tt)
-  owner-spells owner.Core k = reserved text tokens 5 refl k (lit< tt) (lit< tt)
-  owner-spells owner.Thread k = reserved text tokens 32 refl k (lit< tt) (lit< tt)
+  owner-spells owner.Itself k = reserved text tokens (code terminal.Itself) refl k (lit< tt) (lit< tt)
+  owner-spells owner.Victim k = reserved text tokens (code terminal.Victim) refl k (lit< tt) (lit< tt)
+  owner-spells owner.Core k = reserved text tokens (code terminal.Core) refl k (lit< tt) (lit< tt)
+  owner-spells owner.Thread k = reserved text tokens (code terminal.Task) refl k (lit< tt) (lit< tt)
 
   operand-spells : {at to : ℕ} {v : OperandSyntax} → IsOperand text (lexemes_of text tokens) at v to → Are at (operand_texts v) to
   operand-spells (operand_number k) = number text tokens refl k
@@ -79,8 +80,8 @@ module _ (text : List ℕ) (tokens : List Token) where
 
   greatest-spells : {at : ℕ} (greatest : Bool) → kind_at (lexemes_of text tokens) at ≡ key_word greatest → Are at (key_text greatest ∷ []) (at + 1)
   unfolding reserved_words
-  greatest-spells true k = reserved text tokens 12 refl k (lit< tt) (lit< tt)
-  greatest-spells false k = reserved text tokens 11 refl k (lit< tt) (lit< tt)
+  greatest-spells true k = reserved text tokens (code terminal.Max) refl k (lit< tt) (lit< tt)
+  greatest-spells false k = reserved text tokens (code terminal.Min) refl k (lit< tt) (lit< tt)
 
   key-spells : {at to : ℕ} {v : KeySyntax} → IsKey text (lexemes_of text tokens) at v to → Are at (key_texts v) to
   key-spells (key_of greatest k d) = greatest-spells greatest k ▹ expr-spells d
@@ -91,5 +92,5 @@ module _ (text : List ℕ) (tokens : List Token) where
 
   pub order-spells : {at to : ℕ} {v : OrderSyntax} → IsOrder text (lexemes_of text tokens) at v to → Are at (order_texts v) to
   unfolding reserved_words
-  order-spells (order_first k) = reserved text tokens 16 refl k (lit< tt) (lit< tt)
+  order-spells (order_first k) = reserved text tokens (code terminal.First) refl k (lit< tt) (lit< tt)
   order-spells (order_keys d more) = key-spells d ▹ keys-spells more

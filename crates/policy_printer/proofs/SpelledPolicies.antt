@@ -16,7 +16,8 @@ use Rattle.policy_tree.specs.SyntaxTrees.{ConditionTree, ConditionTrees, no_more
 use Rattle.policy_lexer.specs.declared.token.Symbol.TheVariants as sign
 use Rattle.policy_lexer.specs.declared.token.Token.{Token}
 use Rattle.policy_grammar.specs.Lexemes.{reserved_words, lexemes_of}
-use Rattle.policy_grammar.specs.Terminals.{kind_at, word_at}
+use Rattle.policy_grammar.specs.declared.terminal.Terminal.TheVariants as terminal
+use Rattle.policy_grammar.specs.Terminals.{code, kind_at, word_at}
 use Rattle.policy_grammar.specs.Words.{attr_word, event_word, put_word, compare_word}
 use Rattle.policy_grammar.specs.Conditions.{conjunction, disjunction, IsUnit, unit_always, unit_not, unit_group, unit_test, IsAnds, ands_none, ands_more, IsConjunction, conjunction_of, IsOrs, ors_none, ors_more, IsCondition, condition_of}
 use Rattle.policy_grammar.specs.Policies.{IsLoad, load_count, load_weight, IsAttr, attr_of, IsAttrs, attrs_none, attrs_more, IsPlace, place_none, place_here, place_least, IsElect, elect_none, elect_some, IsSets, sets_none, sets_more, IsCase, case_of, IsCases, cases_none, cases_more, IsHandler, handler_of, IsHandlers, handlers_none, handlers_more, IsPolicy, policy_of}
@@ -47,7 +48,7 @@ module _ (text : List ℕ) (tokens : List Token) where
   four at = omega arith
 
   -- a name is a word
-  name : {at to : ℕ} → at + 1 ≡ to → kind_at (lexemes_of text tokens) at ≡ 34 → Are text tokens at (word_at text (lexemes_of text tokens) at ∷ []) to
+  name : {at to : ℕ} → at + 1 ≡ to → kind_at (lexemes_of text tokens) at ≡ code terminal.Name → Are text tokens at (word_at text (lexemes_of text tokens) at ∷ []) to
   name next k = word text tokens next (rw k refl)
 
   compare-spells : {at : ℕ} (c : Cmp) → kind_at (lexemes_of text tokens) at ≡ compare_word c → Are text tokens at (compare_text c ∷ []) (at + 1)
@@ -58,21 +59,24 @@ module _ (text : List ℕ) (tokens : List Token) where
   compare-spells cmp.Gt k = symbol text tokens sign.More refl k (lit< tt)
   compare-spells cmp.Ge k = symbol text tokens sign.AtLeast refl k (lit< tt)
 
-  always-spells : {at : ℕ} → kind_at (lexemes_of text tokens) at ≡ 29 → Are text tokens at (codes "always" ∷ []) (at + 1)
+  always-spells : {at : ℕ} → kind_at (lexemes_of text tokens) at ≡ code terminal.Always → Are text tokens at (codes "always" ∷ []) (at + 1)
   unfolding reserved_words
-  always-spells k = reserved text tokens 29 refl k (lit< tt) (lit< tt)
+  always-spells k = reserved text tokens (code terminal.Always) refl k (lit< tt) (lit< tt)
 
-  not-spells : {at : ℕ} → kind_at (lexemes_of text tokens) at ≡ 28 → Are text tokens at (codes "not" ∷ []) (at + 1)
+  not-spells : {at : ℕ} → kind_at (lexemes_of text tokens) at ≡ code terminal.Not →
+      Are text tokens at (codes "not" ∷ []) (at + 1)
   unfolding reserved_words
-  not-spells k = reserved text tokens 28 refl k (lit< tt) (lit< tt)
+  not-spells k = reserved text tokens (code terminal.Not) refl k (lit< tt) (lit< tt)
 
-  and-spells : {at : ℕ} → kind_at (lexemes_of text tokens) at ≡ 26 → Are text tokens at (codes "and" ∷ []) (at + 1)
+  and-spells : {at : ℕ} → kind_at (lexemes_of text tokens) at ≡ code terminal.And →
+      Are text tokens at (codes "and" ∷ []) (at + 1)
   unfolding reserved_words
-  and-spells k = reserved text tokens 26 refl k (lit< tt) (lit< tt)
+  and-spells k = reserved text tokens (code terminal.And) refl k (lit< tt) (lit< tt)
 
-  or-spells : {at : ℕ} → kind_at (lexemes_of text tokens) at ≡ 27 → Are text tokens at (codes "or" ∷ []) (at + 1)
+  or-spells : {at : ℕ} → kind_at (lexemes_of text tokens) at ≡ code terminal.Or →
+      Are text tokens at (codes "or" ∷ []) (at + 1)
   unfolding reserved_words
-  or-spells k = reserved text tokens 27 refl k (lit< tt) (lit< tt)
+  or-spells k = reserved text tokens (code terminal.Or) refl k (lit< tt) (lit< tt)
 
   mutual
     unit-spells : {at to : ℕ} {v : ConditionTree} → IsUnit text (lexemes_of text tokens) at v to → Are text tokens at (condition_texts v) to
@@ -98,20 +102,20 @@ module _ (text : List ℕ) (tokens : List Token) where
 
   load-spells : {at to : ℕ} {v : LoadSyntax} → IsLoad (lexemes_of text tokens) at v to → Are text tokens at (load_texts v) to
   unfolding reserved_words
-  load-spells {at = at} (load_count k c) = reserved text tokens 2 refl k (lit< tt) (lit< tt) ▹ reserved text tokens 3 (two at) c (lit< tt) (lit< tt)
+  load-spells {at = at} (load_count k c) = reserved text tokens (code terminal.Load) refl k (lit< tt) (lit< tt) ▹ reserved text tokens (code terminal.Count) (two at) c (lit< tt) (lit< tt)
   load-spells {at = at} (load_weight k w d) =
-      reserved text tokens 2 refl k (lit< tt) (lit< tt) ▹ reserved text tokens 4 (two at) w (lit< tt) (lit< tt) ▹ range-spells text tokens d
+      reserved text tokens (code terminal.Load) refl k (lit< tt) (lit< tt) ▹ reserved text tokens (code terminal.Weight) (two at) w (lit< tt) (lit< tt) ▹ range-spells text tokens d
 
   kind-spells : {at : ℕ} (of_cores : Bool) → kind_at (lexemes_of text tokens) at ≡ attr_word of_cores → Are text tokens at (kind_text of_cores ∷ []) (at + 1)
   unfolding reserved_words
-  kind-spells true k = reserved text tokens 5 refl k (lit< tt) (lit< tt)
-  kind-spells false k = reserved text tokens 6 refl k (lit< tt) (lit< tt)
+  kind-spells true k = reserved text tokens (code terminal.Core) refl k (lit< tt) (lit< tt)
+  kind-spells false k = reserved text tokens (code terminal.Thread) refl k (lit< tt) (lit< tt)
 
   attr-spells : {at to : ℕ} {v : AttrSyntax} → IsAttr text (lexemes_of text tokens) at v to → Are text tokens at (attr_texts v) to
   unfolding reserved_words
   attr-spells {at = at} (attr_of of_cores k n i r s d) =
-      kind-spells of_cores k ▹ name (two at) n ▹ reserved text tokens 7 (three at) i (lit< tt) (lit< tt) ▹ range-spells text tokens r
-      ▹ reserved text tokens 8 refl s (lit< tt) (lit< tt) ▹ int-spells text tokens d
+      kind-spells of_cores k ▹ name (two at) n ▹ reserved text tokens (code terminal.In) (three at) i (lit< tt) (lit< tt) ▹ range-spells text tokens r
+      ▹ reserved text tokens (code terminal.Start) refl s (lit< tt) (lit< tt) ▹ int-spells text tokens d
 
   attrs-spells : {at to : ℕ} {v : List AttrSyntax} → IsAttrs text (lexemes_of text tokens) at v to → Are text tokens at (flat_map attr_texts v) to
   attrs-spells attrs_none = nothing
@@ -120,33 +124,34 @@ module _ (text : List ℕ) (tokens : List Token) where
   place-spells : {at to : ℕ} {v : Option PlaceSyntax} → IsPlace text (lexemes_of text tokens) at v to → Are text tokens at (place_texts v) to
   unfolding reserved_words
   place-spells place_none = nothing
-  place-spells {at = at} (place_here k h) = reserved text tokens 9 refl k (lit< tt) (lit< tt) ▹ reserved text tokens 10 (two at) h (lit< tt) (lit< tt)
+  place-spells {at = at} (place_here k h) = reserved text tokens (code terminal.Place) refl k (lit< tt) (lit< tt) ▹ reserved text tokens (code terminal.Here) (two at) h (lit< tt) (lit< tt)
   place-spells {at = at} (place_least k m d) =
-      reserved text tokens 9 refl k (lit< tt) (lit< tt) ▹ reserved text tokens 11 (two at) m (lit< tt) (lit< tt) ▹ expr-spells text tokens d
+      reserved text tokens (code terminal.Place) refl k (lit< tt) (lit< tt) ▹ reserved text tokens (code terminal.Min) (two at) m (lit< tt) (lit< tt) ▹ expr-spells text tokens d
 
   elect-spells : {at to : ℕ} {v : Option ElectSyntax} → IsElect text (lexemes_of text tokens) at v to → Are text tokens at (elect_texts v) to
   unfolding reserved_words
   elect-spells elect_none = nothing
-  elect-spells (elect_some k d) = reserved text tokens 13 refl k (lit< tt) (lit< tt) ▹ order-spells text tokens d
+  elect-spells (elect_some k d) =
+      reserved text tokens (code terminal.Elect) refl k (lit< tt) (lit< tt) ▹ order-spells text tokens d
 
   sets-spells : {at to : ℕ} {v : List SetSyntax} → IsSets text (lexemes_of text tokens) at v to → Are text tokens at (flat_map set_texts v) to
   unfolding reserved_words
   sets-spells sets_none = nothing
   sets-spells {at = at} (sets_more k d w g e c rest) =
-      (reserved text tokens 32 refl k (lit< tt) (lit< tt) ▹ symbol text tokens sign.Dot (two at) d (lit< tt) ▹ word text tokens (three at) w
+      (reserved text tokens (code terminal.Task) refl k (lit< tt) (lit< tt) ▹ symbol text tokens sign.Dot (two at) d (lit< tt) ▹ word text tokens (three at) w
       ▹ symbol text tokens sign.Gets (four at) g (lit< tt) ▹ expr-spells text tokens e ▹ symbol text tokens sign.Comma refl c (lit< tt))
       ▹ sets-spells rest
 
   put-spells : {at : ℕ} (p : Put) → kind_at (lexemes_of text tokens) at ≡ put_word p → Are text tokens at (put_text p ∷ []) (at + 1)
   unfolding reserved_words
-  put-spells put.Queue k = reserved text tokens 23 refl k (lit< tt) (lit< tt)
-  put-spells put.Keep k = reserved text tokens 24 refl k (lit< tt) (lit< tt)
-  put-spells put.Block k = reserved text tokens 21 refl k (lit< tt) (lit< tt)
+  put-spells put.Queue k = reserved text tokens (code terminal.Queue) refl k (lit< tt) (lit< tt)
+  put-spells put.Keep k = reserved text tokens (code terminal.Keep) refl k (lit< tt) (lit< tt)
+  put-spells put.Block k = reserved text tokens (code terminal.Block) refl k (lit< tt) (lit< tt)
 
   case-spells : {at to : ℕ} {v : CaseSyntaxTree} → IsCase text (lexemes_of text tokens) at v to → Are text tokens at (case_texts v) to
   unfolding reserved_words
   case-spells (case_of p k g c s q) =
-      reserved text tokens 22 refl k (lit< tt) (lit< tt) ▹ condition-spells g ▹ symbol text tokens sign.Colon refl c (lit< tt) ▹ sets-spells s ▹ put-spells p q
+      reserved text tokens (code terminal.When) refl k (lit< tt) (lit< tt) ▹ condition-spells g ▹ symbol text tokens sign.Colon refl c (lit< tt) ▹ sets-spells s ▹ put-spells p q
 
   cases-spells : {at to : ℕ} {v : List CaseSyntaxTree} → IsCases text (lexemes_of text tokens) at v to → Are text tokens at (flat_map case_texts v) to
   cases-spells cases_none = nothing
@@ -154,15 +159,15 @@ module _ (text : List ℕ) (tokens : List Token) where
 
   event-spells : {at to : ℕ} (e : Event) → at + 1 ≡ to → kind_at (lexemes_of text tokens) at ≡ event_word e → Are text tokens at (event_text e ∷ []) to
   unfolding reserved_words
-  event-spells event.Enqueue next k = reserved text tokens 18 next k (lit< tt) (lit< tt)
-  event-spells event.Tick next k = reserved text tokens 19 next k (lit< tt) (lit< tt)
-  event-spells event.Yield next k = reserved text tokens 20 next k (lit< tt) (lit< tt)
-  event-spells event.Block next k = reserved text tokens 21 next k (lit< tt) (lit< tt)
+  event-spells event.Enqueue next k = reserved text tokens (code terminal.Enqueue) next k (lit< tt) (lit< tt)
+  event-spells event.Tick next k = reserved text tokens (code terminal.Tick) next k (lit< tt) (lit< tt)
+  event-spells event.Yield next k = reserved text tokens (code terminal.Yield) next k (lit< tt) (lit< tt)
+  event-spells event.Block next k = reserved text tokens (code terminal.Block) next k (lit< tt) (lit< tt)
 
   handler-spells : {at to : ℕ} {v : HandlerSyntaxTree} → IsHandler text (lexemes_of text tokens) at v to → Are text tokens at (handler_texts v) to
   unfolding reserved_words
   handler-spells {at = at} (handler_of e k v b d rest f) =
-      reserved text tokens 17 refl k (lit< tt) (lit< tt) ▹ event-spells e (two at) v ▹ symbol text tokens sign.Begin (three at) b (lit< tt)
+      reserved text tokens (code terminal.On) refl k (lit< tt) (lit< tt) ▹ event-spells e (two at) v ▹ symbol text tokens sign.Begin (three at) b (lit< tt)
       ▹ (case-spells d ▹ cases-spells rest) ▹ symbol text tokens sign.Finish refl f (lit< tt)
 
   handlers-spells : {at to : ℕ} {v : List HandlerSyntaxTree} → IsHandlers text (lexemes_of text tokens) at v to → Are text tokens at (flat_map handler_texts v) to
@@ -172,7 +177,8 @@ module _ (text : List ℕ) (tokens : List Token) where
   pub policy-spells : {s : SyntaxTree} → IsPolicy text (lexemes_of text tokens) s → Are text tokens 0 (policy_texts s) (length (lexemes_of text tokens))
   unfolding reserved_words
   policy-spells (policy_of k0 k1 dl da dp de dh kf df kc dc ks ds) =
-      reserved text tokens 1 refl k0 (lit< tt) (lit< tt) ▹ name refl k1
+      reserved text tokens (code terminal.Policy) refl k0 (lit< tt) (lit< tt) ▹ name refl k1
       ▹ (load-spells dl ▹ attrs-spells da ▹ place-spells dp ▹ elect-spells de ▹ handlers-spells dh)
-      ▹ reserved text tokens 25 refl kf (lit< tt) (lit< tt) ▹ condition-spells df ▹ reserved text tokens 14 refl kc (lit< tt) (lit< tt)
-      ▹ order-spells text tokens dc ▹ reserved text tokens 15 refl ks (lit< tt) (lit< tt) ▹ order-spells text tokens ds
+      ▹ reserved text tokens (code terminal.Filter) refl kf (lit< tt) (lit< tt) ▹ condition-spells df ▹ reserved text tokens (code terminal.Choose) refl kc (lit< tt) (lit< tt)
+      ▹ order-spells text tokens dc ▹ reserved text tokens (code terminal.Steal) refl ks (lit< tt) (lit< tt)
+      ▹ order-spells text tokens ds

@@ -6,6 +6,7 @@ use Rattle.policy_lexer.specs.declared.token.Symbol.{Symbol as Sign}
 use Rattle.policy_lexer.specs.declared.token.Token.{Token}
 use Rattle.policy_lexer.specs.declared.token.TokenKind.{TokenKind}
 use Rattle.policy_grammar.specs.Lexemes.{symbol_terminal, kind_terminal, kind_value, lexeme_of, lexemes_of}
+use Rattle.policy_grammar.specs.declared.terminal.Terminal.TheVariants as terminal
 use Rattle.policy_grammar.specs.Terminals.{code, is_word, kind_at, value_at, word_at, lexeme_at}
 use Rattle.policy_printer.proofs.Alike.{normal-word}
 use Rattle.policy_printer.proofs.Laid.{texts}
@@ -58,7 +59,8 @@ module _ (text : List ℕ) where
     }
 
     -- a reserved word
-    pub reserved : (c : ℕ) {at to : ℕ} → at + 1 ≡ to → kind_at (lexemes_of text tokens) at ≡ c → 0 < c → c < 33 →
+    pub reserved : (c : ℕ) {at to : ℕ} → at + 1 ≡ to → kind_at (lexemes_of text tokens) at ≡ c → 0 < c →
+        c < code terminal.Reserved →
         Spells (texts (map (normal text) tokens)) at (word_text c ∷ []) to
     reserved c {at = at} next k some less =
         let f = find tokens at (omega (arith, k, some)) in
@@ -84,12 +86,12 @@ module _ (text : List ℕ) where
         (normal-word f.token.kind (slice_range text f.token.start f.token.end) (ap (λ l. is_word (code l.terminal)) (sym f.same) ∙ w)
         ∙ ap (λ l. slice_range text l.start l.end) (sym f.same))
 
-    number-text : (k : TokenKind) (bytes : List ℕ) → code (kind_terminal k bytes) ≡ 35 → normal_bytes k bytes ≡ decimal (kind_value k)
+    number-text : (k : TokenKind) (bytes : List ℕ) → code (kind_terminal k bytes) ≡ code terminal.Number → normal_bytes k bytes ≡ decimal (kind_value k)
     number-text k bytes e =
         let v = number-spelled k bytes e in
         subst (λ j. normal_bytes j bytes ≡ decimal (kind_value j)) (sym v.1) refl
 
-    pub number : {at to : ℕ} → at + 1 ≡ to → kind_at (lexemes_of text tokens) at ≡ 35 →
+    pub number : {at to : ℕ} → at + 1 ≡ to → kind_at (lexemes_of text tokens) at ≡ code terminal.Number →
         Spells (texts (map (normal text) tokens)) at (decimal (value_at (lexemes_of text tokens) at) ∷ []) to
     number {at = at} next k =
         let f = find tokens at (omega (arith, k)) in
