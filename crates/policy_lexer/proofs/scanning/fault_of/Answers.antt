@@ -1,5 +1,5 @@
 -- A step goes on to more tokens, or finds the fault.
-use Rattle.std.proofs.Common.{◌≡◌, ◌≢◌, ◌+◌, ◌<◌, ◌≤◌, ℕ, List, [], length, length-drop, drop, arith, subst, sym, refl, ap}
+use Rattle.std.proofs.Common.{◌≢◌, ◌+◌, ◌<◌, ◌≤◌, ℕ, List, [], length, length-drop, drop, arith, subst}
 use Rattle.policy_lexer.specs.declared.fault.LexFault.{LexFault}
 use Rattle.policy_lexer.specs.declared.fault.LexFault.TheVariants.{NotAscii, BadByte, LongName, WideNumber, Memory}
 use Rattle.policy_lexer.specs.declared.piece.Step.{Step}
