@@ -18,16 +18,21 @@ use Rattle.round_model.proofs.Turning.{none_entering, none_waking}
 use Rattle.run_queue.proofs.Scanning.{find-here, without_first-here}
 use Rattle.core_state.proofs.Placing.{same_rest}
 use Rattle.core_worker.specs.declared.run.Run.{Run}
-use Rattle.core_worker.specs.Runs.{Enters, HasLetIn, IsLate, IsMoment, Wakes}
+use Rattle.core_worker.specs.Runs.{Enters, IsLate, IsMoment, Wakes}
+use Rattle.core_worker.proofs.Asks.{asks_entering, asks_late, asks_waking}
 use Rattle.core_worker.proofs.Stepping.{next_arrival, round_is}
+
+-- no thread is left that the core is to let in
+abbrev pub HasLetIn : Plan → ℕ → SerialState → Type 0
+HasLetIn plan a s = entering_next plan (round_of s.history) a (own_entries s.history a) ≡ None
 
 module _ (p : Meaning) (plan : Plan) (fits : Fits p plan) (handlers : MeetsHandlerObligations p) (run : Run) (s : SerialState) (a : ℕ) (m : IsMoment p plan run s) (there : a < plan.cores) where
   module _ (arrivals : List Arrival) (found : Option ℕ) (same : arrivals ≡ run.arrivals.items) (first : found ≡ option_map (λ (x : Arrival). x.id) (find (arrives_at a) arrivals)) where
     found_is : found ≡ option_map (λ (t : Planned). t.id) (entering_next plan (round_of s.history) a (own_entries s.history a))
     found_is = first ∙ (ap (λ (list : List Arrival). option_map (λ (x : Arrival). x.id) (find (arrives_at a) list)) same ∙ next_arrival p plan fits handlers run s a m there)
 
-    pub enters_of : (thread : ℕ) → found ≡ Some thread → Enters plan a thread s
-    enters_of thread is = sym is ∙ found_is
+    pub enters_of : (thread : ℕ) → found ≡ Some thread → Enters p plan a thread s
+    enters_of thread is = asks_entering p plan s a thread (sym is ∙ found_is)
 
     pub let_in_of : found ≡ None → HasLetIn plan a s
     let_in_of none = none_entering (entering_next plan (round_of s.history) a (own_entries s.history a)) (sym none ∙ found_is)
@@ -37,10 +42,10 @@ module _ (p : Meaning) (plan : Plan) (fits : Fits p plan) (handlers : MeetsHandl
     due_is = is_due ∙ ap (λ (round : ℕ). option_map (λ (b : Blocked). b.task.id) (waking_next round (after p plan s.history a))) (round_is p plan fits handlers run s a m there)
 
     pub wakes_of : (thread : ℕ) → HasLetIn plan a s → due ≡ Some thread → Wakes p plan a thread s
-    wakes_of thread entered is = record { entered = entered; next = sym is ∙ due_is }
+    wakes_of thread entered is = asks_waking p plan s a thread (record { entered = entered; next = sym is ∙ due_is })
 
     pub late_of : HasLetIn plan a s → due ≡ None → IsLate p plan a s
-    late_of entered none = record { entered = entered; woken = none_waking (waking_next (round_of s.history) (after p plan s.history a)) (sym none ∙ due_is) }
+    late_of entered none = asks_late p plan s a (record { entered = entered; woken = none_waking (waking_next (round_of s.history) (after p plan s.history a)) (sym none ∙ due_is) })
 
 -- the place of the first arrival that comes by a core
 pub first_arrives : (core at : ℕ) (arrivals : List Arrival) (x : Arrival) → slice_get arrivals at ≡ Some x → x.core ≡ core

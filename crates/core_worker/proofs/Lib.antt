@@ -1,4 +1,5 @@
 pub mod Asking
+pub mod Asks
 pub mod Attempting
 pub mod Beginning
 pub mod Noting

@@ -42,6 +42,7 @@ use Rattle.core_worker.specs.declared.run.Run.{Run}
 use Rattle.core_worker.specs.declared.turn.Look.{Look}
 use Rattle.core_worker.specs.Runs.{Enters, HasLooked, IsLate, IsLookOf, IsMoment, IsRunOf, KeepsLook, OwesLook, OwesUnit, Wakes}
 use Rattle.core_worker.specs.Turns.{look_of}
+use Rattle.core_worker.proofs.Asks.{asks_late, of_attempt, of_entering, of_late, of_look, of_unit, of_waking}
 use Rattle.core_worker.proofs.Noting.{within_of}
 
 same_entry : (h : List Entry) (e x : Entry) → h ++ e ∷ [] ≡ h ++ x ∷ [] → x ≡ e
@@ -84,18 +85,22 @@ module _ (p : Meaning) (plan : Plan) (fits : Fits p plan) (handlers : MeetsHandl
     core_there = omega (arith, there, shown_count p plan s.history (after p plan s.history) run.cores m.at.cores)
 
     -- a thread enters
-    pub enter_step : (thread at : ℕ) (reads : List ℕ) → Enters plan a thread s → reads ≡ placement_by p.place (reads_now p plan s.history a)
+    pub enter_step : (thread at : ℕ) (reads : List ℕ) → Enters p plan a thread s → reads ≡ placement_by p.place (reads_now p plan s.history a)
         → target_of p plan.cores (values_at p plan s.history reads) a ≡ Some at → step_of p plan s a ≡ with_entry s (entry.Enter thread a at reads)
-    enter_step thread at reads is is_read target = enters p plan s.history a s.looks (reads_now p plan s.history a) reads thread at refl is_read is target
+    enter_step thread at reads is is_read target = enters p plan s.history a s.looks (reads_now p plan s.history a) reads thread at refl is_read (of_entering p plan s a thread is) target
 
     -- a thread wakes
     pub wake_step : (thread at : ℕ) (reads : List ℕ) → Wakes p plan a thread s → reads ≡ placement_by p.place (reads_now p plan s.history a)
         → target_of p plan.cores (values_at p plan s.history reads) a ≡ Some at → step_of p plan s a ≡ with_entry s (entry.Wake thread a at reads)
-    wake_step thread at reads is is_read target = wakes p plan s.history a s.looks (reads_now p plan s.history a) reads thread at refl is_read is.entered is.next target
+    wake_step thread at reads is is_read target =
+        let waking = of_waking p plan s a thread is in
+        wakes p plan s.history a s.looks (reads_now p plan s.history a) reads thread at refl is_read waking.entered waking.next target
 
     late : (look : Option (List ℕ)) (step : NextStep) → IsLate p plan a s → s.looks a ≡ look → IsLateStepOf p plan s.history a look step
         → step_of p plan s a ≡ with_step s a (reads_now p plan s.history a) step
-    late look step is kept by = is_late p plan s.history a (reads_now p plan s.history a) look step is.entered is.woken by s.looks refl kept
+    late look step is kept by =
+        let behind = of_late p plan s a is in
+        is_late p plan s.history a (reads_now p plan s.history a) look step behind.entered behind.woken by s.looks refl kept
 
     -- the turn is over
     pub over_step : IsLate p plan a s → has_attempted (own_entries s.history a) ≡ true → step_of p plan s a ≡ s
@@ -109,8 +114,9 @@ module _ (p : Meaning) (plan : Plan) (fits : Fits p plan) (handlers : MeetsHandl
         let word = one_word p plan fits handlers (round_of h) (after p plan h a) (bounds_hold p (after p plan h a) (bounds.bounds.each a there)) (have_bursts p plan h a fits) in
         let said = subst (λ (dids : List Did). Contains dids d) word.1 (subst (λ (round : ℕ). IsOutcomeOfWork p plan round (after p plan h a) d) (m.at.round ∙ sym (open_round p plan h m.at.legal)) outcome) in
         let dids = word.1 ∙ ap (λ (x : Did). x ∷ []) (only word.0 said) in
-        late (s.looks a) (next.Adds (entry.Work a d)) owes.late refl
-        (subst (λ (list : List Did). IsLateStepOf p plan h a (s.looks a) (step_of_dids a list)) dids (late_work p plan h a (s.looks a) owes.first owes.none))
+        let unit = of_unit p plan s a owes in
+        late (s.looks a) (next.Adds (entry.Work a d)) (asks_late p plan s a unit.late) refl
+        (subst (λ (list : List Did). IsLateStepOf p plan h a (s.looks a) (step_of_dids a list)) dids (late_work p plan h a (s.looks a) unit.first unit.none))
       where
         only : (x : Did) → Contains (x ∷ []) d → x ≡ d
         only x (zero, inside, is) = is
@@ -137,15 +143,18 @@ module _ (p : Meaning) (plan : Plan) (fits : Fits p plan) (handlers : MeetsHandl
     unfolding attempt_of
     attempt_step look e has is =
         let h = s.history in
-        late (Some look.reads) (next.Adds e) has.owes.late has.is.kept
-        (late_entry p plan h a look.reads e has.owes.first has.owes.worked (is ∙ ap (attempt_with p plan (after p plan h) a look.reads) has.is.choice))
+        let owes = of_attempt p plan s a look.reads has.asked in
+        late (Some look.reads) (next.Adds e) (asks_late p plan s a owes.late) has.is.kept
+        (late_entry p plan h a look.reads e owes.first owes.worked (is ∙ ap (attempt_with p plan (after p plan h) a look.reads) has.is.choice))
 
     -- a look
     abbrev pub looked : SerialState
     looked = record s { looks = λ c. cond (c == a) (Some (reads_now p plan s.history a)) (s.looks c) }
 
     look_step : OwesLook p plan a s → step_of p plan s a ≡ looked
-    look_step owes = late None next.Looks owes.owes.late owes.none (late_look p plan s.history a owes.owes.first owes.owes.worked)
+    look_step asked =
+        let owes = of_look p plan s a asked in
+        late None next.Looks (asks_late p plan s a owes.0.late) owes.1 (late_look p plan s.history a owes.0.first owes.0.worked)
 
     -- what is read just now lies in the round, and is what the choice was made by
     look_made : (look : Look) → look.reads ≡ reads_now p plan s.history a → look.choice ≡ choice_of p plan.cores (values_now p plan s.history a) a → IfSome look.choice (λ v. v < plan.cores) → IsLookOf p plan looked a look

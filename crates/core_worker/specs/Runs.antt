@@ -1,5 +1,5 @@
 -- How far serial play over running cores has come.
-use Rattle.std.specs.Prelude.{◌≡◌, ℕ, ◌+◌, ◌<◌, ◌≤◌, List, [], ◌∷◌, ◌++◌, true, false, length, fold, All, IfSome, Option, Some, None, option_map, vec_capacity}
+use Rattle.std.specs.Prelude.{◌≡◌, ℕ, ◌+◌, ◌<◌, ◌≤◌, List, [], ◌∷◌, ◌++◌, length, fold, All, IfSome, Option, Some, None, vec_capacity}
 use Rattle.sched_base.specs.declared.limits.TheConstants.{MAX_THREADS}
 use Rattle.policy_tree.specs.Meaning.{Meaning}
 use Rattle.round_model.specs.declared.entry.Entry.{Entry}
@@ -7,14 +7,14 @@ use Rattle.round_model.specs.declared.entry.Entry.TheVariants as entry
 use Rattle.round_model.specs.declared.plan.Plan.{Plan}
 use Rattle.round_model.specs.declared.plan.Planned.{Planned}
 use Rattle.round_model.specs.declared.state.Blocked.{Blocked}
-use Rattle.round_model.specs.After.{after, round_of}
+use Rattle.round_model.specs.Asked.{Asked, asked_late, asked_of, attempting, entering, looking, waking, working}
 use Rattle.round_model.specs.Choices.{choice_of}
 use Rattle.round_model.specs.Code.Outcomes.{values_at}
 use Rattle.round_model.specs.Code.Past.{Awaits, is_flagged}
 use Rattle.round_model.specs.Legal.{Legal, LegalNext, has_ended, rounds_begun}
 use Rattle.round_model.specs.Owed.{owed_total}
 use Rattle.round_model.specs.Reads.{ReadsFit, round_start}
-use Rattle.round_model.specs.Scenes.{entering_next, has_attempted, has_worked, own_entries, waking_next}
+use Rattle.round_model.specs.Scenes.{has_attempted, has_worked, own_entries, scene_of}
 use Rattle.round_model.specs.Serial.{SerialState, step_of}
 use Rattle.round_model.specs.SerialEnds.{RoundFits}
 use Rattle.core_moves.specs.Cores.{AreCoresOf}
@@ -82,45 +82,35 @@ abbrev pub Moves : Meaning → Plan → List ℕ → (old new : Run) → Type 0
 Moves p plan cores old new =
     (s : SerialState) → IsMoment p plan old s → IsMoment p plan new (fold (step_of p plan) s cores)
 
--- the thread is the next that the core lets in
-abbrev pub Enters : Plan → (a thread : ℕ) → SerialState → Type 0
-Enters plan a thread s =
-    Some thread ≡ option_map (λ (t : Planned). t.id)
-    (entering_next plan (round_of s.history) a (own_entries s.history a))
+-- what the core's turn asks next
+abbrev pub asked_at : Meaning → Plan → ℕ → SerialState → Asked
+asked_at p plan a s = asked_of plan (scene_of p plan s.history a) a (s.looks a)
 
--- no thread is left that the core is to let in
-abbrev pub HasLetIn : Plan → ℕ → SerialState → Type 0
-HasLetIn plan a s = entering_next plan (round_of s.history) a (own_entries s.history a) ≡ None
+-- it asks to let the thread in
+pub record Enters (p : Meaning) (plan : Plan) (a thread : ℕ) (s : SerialState) : Type 0 where
+  pub planned : Planned
+  pub named : planned.id ≡ thread
+  pub asked : asked_at p plan a s ≡ entering planned
 
--- none is, and this one is the next to wake
+-- to wake it
 pub record Wakes (p : Meaning) (plan : Plan) (a thread : ℕ) (s : SerialState) : Type 0 where
-  pub entered : HasLetIn plan a s
-  pub next : Some thread
-      ≡ option_map (λ (b : Blocked). b.task.id) (waking_next (round_of s.history) (after p plan s.history a))
+  pub blocked : Blocked
+  pub named : blocked.task.id ≡ thread
+  pub asked : asked_at p plan a s ≡ waking blocked
 
--- none is left to enter or to wake
-pub record IsLate (p : Meaning) (plan : Plan) (a : ℕ) (s : SerialState) : Type 0 where
-  pub entered : HasLetIn plan a s
-  pub woken : waking_next (round_of s.history) (after p plan s.history a) ≡ None
+-- for what comes where no thread is left to enter or to wake
+abbrev pub IsLate : Meaning → Plan → ℕ → SerialState → Type 0
+IsLate p plan a s = asked_at p plan a s ≡ asked_late (own_entries s.history a) (s.looks a)
 
--- so it is, and the unit is to come
-pub record OwesUnit (p : Meaning) (plan : Plan) (a : ℕ) (s : SerialState) : Type 0 where
-  pub late : IsLate p plan a s
-  pub first : has_attempted (own_entries s.history a) ≡ false
-  pub none : has_worked (own_entries s.history a) ≡ false
+-- for the unit
+abbrev pub OwesUnit : Meaning → Plan → ℕ → SerialState → Type 0
+OwesUnit p plan a s = asked_at p plan a s ≡ working
 
--- so it is, and the unit has come, but not the attempt
-pub record OwesAttempt (p : Meaning) (plan : Plan) (a : ℕ) (s : SerialState) : Type 0 where
-  pub late : IsLate p plan a s
-  pub first : has_attempted (own_entries s.history a) ≡ false
-  pub worked : has_worked (own_entries s.history a) ≡ true
+-- for the look
+abbrev pub OwesLook : Meaning → Plan → ℕ → SerialState → Type 0
+OwesLook p plan a s = asked_at p plan a s ≡ looking
 
--- and the core hasn't looked
-pub record OwesLook (p : Meaning) (plan : Plan) (a : ℕ) (s : SerialState) : Type 0 where
-  pub owes : OwesAttempt p plan a s
-  pub none : s.looks a ≡ None
-
--- and this is its look
+-- for the attempt by this look
 pub record HasLooked (p : Meaning) (plan : Plan) (a : ℕ) (look : Look) (s : SerialState) : Type 0 where
-  pub owes : OwesAttempt p plan a s
   pub is : IsLookOf p plan s a look
+  pub asked : asked_at p plan a s ≡ attempting look.reads

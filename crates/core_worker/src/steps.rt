@@ -70,9 +70,11 @@ impl Run {
     fn let_in(&mut self, policy: &Policy, plan: &Plan, core: CoreId, thread: ThreadId)
         requires fits { Fits (meaning_of policy.now) plan.now }
         requires handlers { MeetsHandlerObligations (meaning_of policy.now) }
-        requires at { IsAt (meaning_of policy.now) plan.now (Enters plan.now core thread) self.old }
+        requires at { IsAt (meaning_of policy.now) plan.now
+            (Enters (meaning_of policy.now) plan.now core thread) self.old }
         requires core { core < plan.now.cores }
-        ensures { Steps (meaning_of policy.now) plan.now core (Enters plan.now core thread) self.old self.new }
+        ensures { Steps (meaning_of policy.now) plan.now core (Enters (meaning_of policy.now) plan.now core thread)
+            self.old self.new }
     {
         let (at, reads) = self.placement(policy, plan, core);
         self.cores.enter(policy, plan, thread, core, at, reads);
