@@ -1,0 +1,11 @@
+pub mod Logs
+pub mod Words
+pub mod Views
+pub mod Told
+pub mod Rule
+pub mod Plays
+pub mod Opened
+pub mod Seats
+pub mod Above
+pub mod Ends
+pub mod Public
