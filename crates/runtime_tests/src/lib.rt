@@ -10,4 +10,6 @@ mod pools;
 #[cfg(test)]
 mod queues;
 #[cfg(test)]
+mod tables;
+#[cfg(test)]
 mod words;

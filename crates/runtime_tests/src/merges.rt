@@ -130,7 +130,7 @@ fn digit(number: u32) -> u8 {
 }
 
 /// The signs of the entries.
-fn signs(alloc: Global, entries: &[Entry]) -> Result<Vec<u8>, AllocError> {
+pub(crate) fn signs(alloc: Global, entries: &[Entry]) -> Result<Vec<u8>, AllocError> {
     let mut text = Vec::new(alloc);
     for entry in entries {
         let [kind, number] = sign(entry);
