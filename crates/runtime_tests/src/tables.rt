@@ -125,20 +125,25 @@ fn touched_apart<R: Threads + Wait + Sync>(rt: &R, table: &Table, seat: Seat) ->
     )
 }
 
-/// Closes the table in a thread of its own.
-fn closed_apart<R: Threads>(rt: &R, table: Table, seat: Seat) -> Closed
-    requires { IsFree table seat }
-    ensures { HasLogsOf result }
+/// The table and its seat go to another thread, which takes a core, and come back.
+fn sent<R: Threads + Wait + Sync>(rt: &R, table: Table, seat: Seat) -> (Table, Seat)
+    requires table { IsOfTwo table }
+    requires seat { IsFree table seat }
+    ensures table { IsOfTwo result.0 }
+    ensures seat { IsFree result.0 result.1 }
 {
-    let (logs, _nothing) = join(
+    let (back, _nothing) = join(
         rt,
-        || -> Closed
-            requires { IsFree table seat }
-            ensures { HasLogsOf result }
-        { closed(table, seat) },
+        || -> (Table, Seat)
+            requires { IsSync R.row × IsOfTwo table × IsFree table seat }
+            ensures { IsOfTwo result.0 × IsFree result.0 result.1 }
+        {
+            let seat = touched(rt, &table, seat, 0);
+            (table, seat)
+        },
         || -> u32 { 0 },
     );
-    logs
+    back
 }
 
 #[test]
@@ -200,7 +205,12 @@ fn a_seat_and_a_table_go_to_threads(rt: HostRuntime) -> Result<(), Fail> {
         },
         "as the thread left it"
     );
-    let text = merged(rt.alloc(), &closed_apart(&rt, table, seat))?;
+    let (table, mut seat) = sent(&rt, table, seat);
+    assert!(rt;
+        look(&table, &mut seat, 0) == seen,
+        "nothing touched either core"
+    );
+    let text = merged(rt.alloc(), &closed(table, seat))?;
     assert_eq!(rt; text.as_slice(), b"r1".as_slice());
     Ok(())
 }
