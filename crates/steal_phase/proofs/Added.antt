@@ -1,0 +1,68 @@
+-- What the steps of an attempt leave to its seat.
+use Rattle.std.proofs.Common.{◌≡◌, ℕ, ◌<◌, ◌||◌, Bool, true, List, [], ◌∷◌, ◌++◌, map, sym, ap, ◌∙◌, subst}
+use Rattle.std.specs.List.{list_any}
+use Rattle.round_model.specs.declared.entry.Entry.{Entry}
+use Rattle.round_model.specs.After.{after}
+use Rattle.core_state.specs.Logs.{logged}
+use Rattle.core_state.specs.Views.{CoreView}
+use Rattle.core_table.specs.declared.views.HeldCore.{HeldCore}
+use Rattle.core_table.specs.declared.views.Note.{Note}
+use Rattle.core_table.specs.declared.views.Role.{Role}
+use Rattle.core_table.specs.declared.views.Role.TheVariants as role
+use Rattle.core_table.specs.declared.views.View.{View}
+use Rattle.core_table.specs.Plays.{Draws}
+use Rattle.core_table.specs.Public.{publishing}
+use Rattle.core_table.specs.Told.{IsSeatOf}
+use Rattle.core_table.specs.Views.{drawing, giving, held_grown, holding, is_without_due, meaning_in, note_of_core, published, remembering}
+use Rattle.select_phase.proofs.Viewed.{notes_held}
+use Rattle.steal_phase.specs.Attempts.{HasAdded}
+
+module _ (v : View) (a at : ℕ) (e : Entry) (of_core : IsSeatOf v a) where
+  -- the role stays that of the core's seat, and a mark stays
+  record StaysOf (r : Role) : Type 0 where
+    pub none_due : Bool
+    pub is : r ≡ role.Core a none_due
+    pub marked : v.role ≡ role.Core a true → r ≡ role.Core a true
+
+  as_before : StaysOf v.role
+  as_before = record { none_due = of_core.none_due; is = of_core.role; marked = λ marked. marked }
+
+  given_back : (round : ℕ) (held : List HeldCore) (r : Role) → StaysOf r → StaysOf (remembering round held r)
+  given_back round held r stays = record {
+    none_due = stays.none_due || list_any (is_without_due round a) held;
+    is = ap (remembering round held) stays.is;
+    marked = λ marked. ap (remembering round held) (stays.marked marked);
+  }
+
+  settled : (now : View) (r : Role) (notes more : List Note) (held : List HeldCore) → now ≡ record v { role = r; own = v.own ++ logged at e ∷ []; notes = notes; held = held } → StaysOf r
+      → notes ≡ more ++ v.notes → now.held ≡ [] → HasAdded a at e v now
+  settled now r notes more held is stays more_is free = record {
+    own = ap (λ (u : View). u.own) is;
+    free = free;
+    of_core = record { none_due = stays.none_due; role = ap (λ (u : View). u.role) is ∙ stays.is };
+    marked = λ marked. ap (λ (u : View). u.role) is ∙ stays.marked marked;
+    more = more;
+    notes = ap (λ (u : View). u.notes) is ∙ more_is;
+    rest = is ∙ (λ i. record v { role = (sym is i).role; own = (sym is i).own; notes = (sym is i).notes; held = (sym is i).held });
+  }
+
+  -- one core was held, changed, shown and given back
+  pub added_one : (y : CoreView) (c : ℕ) (z : CoreView) → v.held ≡ [] → a < v.plan.cores → (w u x now : View) → w ≡ holding a y v → Draws e w at u → x ≡ publishing c z u → now ≡ giving x → HasAdded a at e v now
+  added_one y c z free low w u x now is drawn shown given =
+      let d = subst (λ (t : View). Draws e t at u) is drawn in let m = after (meaning_in v) v.plan d.history in
+      let last : View = publishing c z (drawing at e m (holding a y v)) in let whole : now ≡ giving last = given ∙ ap giving (shown ∙ ap (publishing c z) d.view) in
+      settled now (giving last).role last.notes (note_of_core v.start c z ∷ note_of_core v.start a y ∷ []) (giving last).held whole (given_back v.round last.held v.role as_before)
+      (ap (λ (l : List Note). note_of_core v.start c z ∷ l) (notes_held a y v low))
+      (ap (λ (t : View). t.held) whole ∙ ap (λ (held : List HeldCore). map (published v.plan.cores c) (map (held_grown v.round at e m (holding a y v)) held)) free)
+
+  -- so were two
+  pub added_two : (low high : ℕ) (y z : CoreView) (b c : ℕ) (y_now z_now : CoreView) → low < v.plan.cores → high < v.plan.cores → (w u x now : View) → w ≡ holding high z (holding low y v) → Draws e w at u
+      → x ≡ publishing c z_now (publishing b y_now u) → now ≡ giving (giving x) → now.held ≡ [] → HasAdded a at e v now
+  added_two low high y z b c y_now z_now inside above w u x now is drawn shown given free =
+      let d = subst (λ (t : View). Draws e t at u) is drawn in let m = after (meaning_in v) v.plan d.history in
+      let last : View = publishing c z_now (publishing b y_now (drawing at e m (holding high z (holding low y v)))) in
+      let whole : now ≡ giving (giving last) = given ∙ ap (λ (t : View). giving (giving t)) (shown ∙ ap (λ (t : View). publishing c z_now (publishing b y_now t)) d.view) in
+      settled now (giving (giving last)).role last.notes (note_of_core v.start c z_now ∷ note_of_core v.start b y_now ∷ note_of_core v.start high z ∷ note_of_core v.start low y ∷ []) (giving (giving last)).held whole
+      (given_back v.round (giving last).held (giving last).role (given_back v.round last.held v.role as_before))
+      (ap (λ (l : List Note). note_of_core v.start c z_now ∷ note_of_core v.start b y_now ∷ l) (notes_held high z (holding low y v) above ∙ ap (λ (l : List Note). note_of_core v.start high z ∷ l) (notes_held low y v inside)))
+      free
