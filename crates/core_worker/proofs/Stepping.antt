@@ -143,7 +143,7 @@ module _ (p : Meaning) (plan : Plan) (fits : Fits p plan) (handlers : MeetsHandl
     unfolding attempt_of
     attempt_step look e has is =
         let h = s.history in
-        let owes = of_attempt p plan s a look.reads has.asked in
+        let owes = of_attempt p plan s a look.reads has.step in
         late (Some look.reads) (next.Adds e) (asks_late p plan s a owes.late) has.is.kept
         (late_entry p plan h a look.reads e owes.first owes.worked (is ∙ ap (attempt_with p plan (after p plan h) a look.reads) has.is.choice))
 
@@ -152,8 +152,8 @@ module _ (p : Meaning) (plan : Plan) (fits : Fits p plan) (handlers : MeetsHandl
     looked = record s { looks = λ c. cond (c == a) (Some (reads_now p plan s.history a)) (s.looks c) }
 
     look_step : OwesLook p plan a s → step_of p plan s a ≡ looked
-    look_step asked =
-        let owes = of_look p plan s a asked in
+    look_step step =
+        let owes = of_look p plan s a step in
         late None next.Looks (asks_late p plan s a owes.0.late) owes.1 (late_look p plan s.history a owes.0.first owes.0.worked)
 
     -- what is read just now lies in the round, and is what the choice was made by

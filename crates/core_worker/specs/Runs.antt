@@ -7,7 +7,7 @@ use Rattle.round_model.specs.declared.entry.Entry.TheVariants as entry
 use Rattle.round_model.specs.declared.plan.Plan.{Plan}
 use Rattle.round_model.specs.declared.plan.Planned.{Planned}
 use Rattle.round_model.specs.declared.state.Blocked.{Blocked}
-use Rattle.round_model.specs.Asked.{Asked, asked_late, asked_of, attempting, entering, looking, waking, working}
+use Rattle.round_model.specs.TurnSteps.{TurnStep, attempting, entering, late_step, looking, turn_step_of, waking, working}
 use Rattle.round_model.specs.Choices.{choice_of}
 use Rattle.round_model.specs.Code.Outcomes.{values_at}
 use Rattle.round_model.specs.Code.Past.{Awaits, is_flagged}
@@ -83,34 +83,34 @@ Moves p plan cores old new =
     (s : SerialState) → IsMoment p plan old s → IsMoment p plan new (fold (step_of p plan) s cores)
 
 -- what the core's turn asks next
-abbrev pub asked_at : Meaning → Plan → ℕ → SerialState → Asked
-asked_at p plan a s = asked_of plan (scene_of p plan s.history a) a (s.looks a)
+abbrev pub turn_step_at : Meaning → Plan → ℕ → SerialState → TurnStep
+turn_step_at p plan a s = turn_step_of plan (scene_of p plan s.history a) a (s.looks a)
 
 -- it asks to let the thread in
 pub record Enters (p : Meaning) (plan : Plan) (a thread : ℕ) (s : SerialState) : Type 0 where
   pub planned : Planned
   pub named : planned.id ≡ thread
-  pub asked : asked_at p plan a s ≡ entering planned
+  pub step : turn_step_at p plan a s ≡ entering planned
 
 -- to wake it
 pub record Wakes (p : Meaning) (plan : Plan) (a thread : ℕ) (s : SerialState) : Type 0 where
   pub blocked : Blocked
   pub named : blocked.task.id ≡ thread
-  pub asked : asked_at p plan a s ≡ waking blocked
+  pub step : turn_step_at p plan a s ≡ waking blocked
 
 -- for what comes where no thread is left to enter or to wake
 abbrev pub IsLate : Meaning → Plan → ℕ → SerialState → Type 0
-IsLate p plan a s = asked_at p plan a s ≡ asked_late (own_entries s.history a) (s.looks a)
+IsLate p plan a s = turn_step_at p plan a s ≡ late_step (own_entries s.history a) (s.looks a)
 
 -- for the unit
 abbrev pub OwesUnit : Meaning → Plan → ℕ → SerialState → Type 0
-OwesUnit p plan a s = asked_at p plan a s ≡ working
+OwesUnit p plan a s = turn_step_at p plan a s ≡ working
 
 -- for the look
 abbrev pub OwesLook : Meaning → Plan → ℕ → SerialState → Type 0
-OwesLook p plan a s = asked_at p plan a s ≡ looking
+OwesLook p plan a s = turn_step_at p plan a s ≡ looking
 
 -- for the attempt by this look
 pub record HasLooked (p : Meaning) (plan : Plan) (a : ℕ) (look : Look) (s : SerialState) : Type 0 where
   pub is : IsLookOf p plan s a look
-  pub asked : asked_at p plan a s ≡ attempting look.reads
+  pub step : turn_step_at p plan a s ≡ attempting look.reads

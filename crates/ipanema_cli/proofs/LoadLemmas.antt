@@ -1,6 +1,6 @@
 -- Where no file is loaded.
 use Rattle.std.proofs.Common.{◌≡◌, ℕ, List, Option, Some, None, subst, sym, arith}
-use Rattle.sched_io.specs.Loads.{Asks, Request}
+use Rattle.sched_io.specs.Loads.{AreRequested, LoadRequest}
 use Rattle.sched_io.specs.Told.{Told}
 use Rattle.sched_io.proofs.WrittenLemmas.{Grows-nil}
 use Rattle.command_words.specs.Command.{Asked, bench, check, explain, make, play, replay, report}
@@ -17,9 +17,9 @@ goes_nowhere (Some (report policy trace history)) told = record { policy_read = 
 goes_nowhere (Some (make seed size)) told = tt
 goes_nowhere (Some (bench seed size)) told = tt
 
-pub none_loaded : (asked : Option Asked) (told : List ℕ → Told) (loads : Option (List Request)) → FirstAreLoaded asked told loads loads
+pub none_loaded : (asked : Option Asked) (told : List ℕ → Told) (loads : Option (List LoadRequest)) → FirstAreLoaded asked told loads loads
 none_loaded asked told loads = record { count = 0; loaded = Grows-nil loads; goes_on = goes_nowhere asked told }
 
 -- and where there is no command, these are all
-pub all_loaded : (asked : Option Asked) (loads : Option (List Request)) → asked ≡ None → Asks (files_of asked) loads loads
-all_loaded asked loads none = subst (λ (x : Option Asked). Asks (files_of x) loads loads) (sym none) (Grows-nil loads)
+pub all_loaded : (asked : Option Asked) (loads : Option (List LoadRequest)) → asked ≡ None → AreRequested (files_of asked) loads loads
+all_loaded asked loads none = subst (λ (x : Option Asked). AreRequested (files_of x) loads loads) (sym none) (Grows-nil loads)

@@ -1,6 +1,6 @@
 -- Which files a command loads.
 use Rattle.std.specs.Prelude.{◌≡◌, ℕ, ◌<◌, List, [], ◌∷◌, Option, Some, None, take}
-use Rattle.sched_io.specs.Loads.{Asks, Request, request}
+use Rattle.sched_io.specs.Loads.{AreRequested, LoadRequest, load_request}
 use Rattle.sched_io.specs.Told.{Told}
 use Rattle.command_words.specs.Command.{Asked, bench, check, explain, make, play, replay, report}
 use Rattle.ipanema_cli.specs.Texts.{MayRead, room_of}
@@ -31,16 +31,17 @@ IsFileOf (Some (make seed size)) which name = ⊥
 IsFileOf (Some (bench seed size)) which name = ⊥
 
 -- the files of a command that judges a history
-abbrev pub three_files : (policy trace history : List ℕ) → List Request
-three_files policy trace history = request policy (room_of kind.Policy) ∷ request trace (room_of kind.Trace)
-    ∷ request history (room_of kind.History) ∷ []
+abbrev pub three_files : (policy trace history : List ℕ) → List LoadRequest
+three_files policy trace history = load_request policy (room_of kind.Policy) ∷ load_request trace (room_of kind.Trace)
+    ∷ load_request history (room_of kind.History) ∷ []
 
 -- the files of a command, each with the most bytes that it may have
-abbrev pub files_of : Option Asked → List Request
+abbrev pub files_of : Option Asked → List LoadRequest
 files_of None = []
-files_of (Some (check policy)) = request policy (room_of kind.Policy) ∷ []
-files_of (Some (explain policy name)) = request policy (room_of kind.Policy) ∷ []
-files_of (Some (play policy trace)) = request policy (room_of kind.Policy) ∷ request trace (room_of kind.Trace) ∷ []
+files_of (Some (check policy)) = load_request policy (room_of kind.Policy) ∷ []
+files_of (Some (explain policy name)) = load_request policy (room_of kind.Policy) ∷ []
+files_of (Some (play policy trace)) =
+    load_request policy (room_of kind.Policy) ∷ load_request trace (room_of kind.Trace) ∷ []
 files_of (Some (replay policy trace history)) = three_files policy trace history
 files_of (Some (report policy trace history)) = three_files policy trace history
 files_of (Some (make seed size)) = []
@@ -53,9 +54,9 @@ pub record GoesOnOfThree (policy trace history : Told) (count : ℕ) : Type 0 wh
 
 -- Just the first of the three files are loaded, each once and with its limit, where the source tells of its loads.
 pub record LoadsOfThree (policy trace history : List ℕ) (told : List ℕ → Told)
-    (before after : Option (List Request)) : Type 0 where
+    (before after : Option (List LoadRequest)) : Type 0 where
   pub count : ℕ
-  pub loaded : Asks (take count (three_files policy trace history)) before after
+  pub loaded : AreRequested (take count (three_files policy trace history)) before after
   pub goes_on : GoesOnOfThree (told policy) (told trace) (told history) count
 
 -- Of so many loads each but the last is of a text that may be read: behind one that is told to be missing or too long
@@ -74,7 +75,7 @@ MayGoOn (Some (play policy trace)) told count = 1 < count → (text : List ℕ) 
 
 -- Just the first of the command's files are loaded, each once and with its limit, where the source tells of its loads.
 pub record FirstAreLoaded (asked : Option Asked) (told : List ℕ → Told)
-    (before after : Option (List Request)) : Type 0 where
+    (before after : Option (List LoadRequest)) : Type 0 where
   pub count : ℕ
-  pub loaded : Asks (take count (files_of asked)) before after
+  pub loaded : AreRequested (take count (files_of asked)) before after
   pub goes_on : MayGoOn asked told count

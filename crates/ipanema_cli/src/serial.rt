@@ -2,7 +2,7 @@
 
 ghost use Rattle.std.specs.Prelude.{◌≡◌, ◌≢◌, ◌⊎◌, ℕ, [], ◌∷◌, Some, IfErr, IfOk, IsErrOf, IsTrue, OnOk, codes, slice_get};
 ghost use Rattle.sched_io.specs.Faults.{Rose};
-ghost use Rattle.sched_io.specs.Loads.{Asks};
+ghost use Rattle.sched_io.specs.Loads.{AreRequested};
 ghost use Rattle.ipanema_cli.specs.Answers.{AnswersCheck, AnswersExplain, AnswersJudging, AnswersPlay, CanBePut, IsAnswer, judging_of};
 ghost use Rattle.command_words.specs.Asks.{asked};
 ghost use Rattle.command_words.specs.Numbers.{is_size};
@@ -40,9 +40,9 @@ pub fn serial_command<F: Files, S: Sink>(
     ensures truthful { IsTruthful (asked_by (words_of words.now.items)) (F.told files.old)
         (S.shown out.old).written (S.shown out.new).written result }
     ensures loads { FirstAreLoaded (asked_by (words_of words.now.items)) (F.told files.old)
-        (F.asked files.old) (F.asked files.new) }
+        (F.requested files.old) (F.requested files.new) }
     ensures loaded { OneOf (0 ∷ 1 ∷ 2 ∷ 3 ∷ 7 ∷ 8 ∷ 9 ∷ []) result →
-        Asks (files_of (asked_by (words_of words.now.items))) (F.asked files.old) (F.asked files.new) }
+        AreRequested (files_of (asked_by (words_of words.now.items))) (F.requested files.old) (F.requested files.new) }
     ensures calm { (result ≡ 4) ⊎ (F.faults files.new ≡ F.faults files.old) }
     ensures quiet { (result ≡ 5) ⊎ ((S.shown out.new).faults ≡ (S.shown out.old).faults) }
 {
@@ -54,9 +54,9 @@ fn carry_out<F: Files, S: Sink>(alloc: Global, words: &[String], files: &mut F, 
     ensures ends { Ends (asked_by (words_of words.now)) (F.told files.old)
         (Rose (F.faults files.old) (F.faults files.new)) (S.shown out.old) (S.shown out.new) result }
     ensures loads { FirstAreLoaded (asked_by (words_of words.now)) (F.told files.old)
-        (F.asked files.old) (F.asked files.new) }
+        (F.requested files.old) (F.requested files.new) }
     ensures loaded { OneOf (0 ∷ 1 ∷ 2 ∷ 3 ∷ 7 ∷ 8 ∷ 9 ∷ []) result →
-        Asks (files_of (asked_by (words_of words.now))) (F.asked files.old) (F.asked files.new) }
+        AreRequested (files_of (asked_by (words_of words.now))) (F.requested files.old) (F.requested files.new) }
     ensures calm { (result ≡ 4) ⊎ (F.faults files.new ≡ F.faults files.old) }
     ensures quiet { (result ≡ 5) ⊎ ((S.shown out.new).faults ≡ (S.shown out.old).faults) }
 {
@@ -75,9 +75,9 @@ fn answer_to<F: Files>(alloc: Global, words: &[String], files: &mut F) -> Result
     ensures stop { IfErr result (IsStop (asked_by (words_of words.now)) (F.told files.old)
         (Rose (F.faults files.old) (F.faults files.new))) }
     ensures loads { FirstAreLoaded (asked_by (words_of words.now)) (F.told files.old)
-        (F.asked files.old) (F.asked files.new) }
-    ensures loaded { OnOk result (Asks (files_of (asked_by (words_of words.now)))
-        (F.asked files.old) (F.asked files.new)) }
+        (F.requested files.old) (F.requested files.new) }
+    ensures loaded { OnOk result (AreRequested (files_of (asked_by (words_of words.now)))
+        (F.requested files.old) (F.requested files.new)) }
     ensures calm { IsErrOf result Stop.Unread ⊎ (F.faults files.new ≡ F.faults files.old) }
 {
     let request = request_of(alloc, words)?;
@@ -92,8 +92,10 @@ fn answer_of<F: Files>(alloc: Global, request: Request, files: &mut F) -> Result
     ensures shown { IfOk result CanBePut }
     ensures stop { IfErr result (IsStop (asked request.entry) (F.told files.old)
         (Rose (F.faults files.old) (F.faults files.new))) }
-    ensures loads { FirstAreLoaded (asked request.entry) (F.told files.old) (F.asked files.old) (F.asked files.new) }
-    ensures loaded { OnOk result (Asks (files_of (asked request.entry)) (F.asked files.old) (F.asked files.new)) }
+    ensures loads { FirstAreLoaded (asked request.entry) (F.told files.old)
+        (F.requested files.old) (F.requested files.new) }
+    ensures loaded { OnOk result (AreRequested (files_of (asked request.entry))
+        (F.requested files.old) (F.requested files.new)) }
     ensures calm { IsErrOf result Stop.Unread ⊎ (F.faults files.new ≡ F.faults files.old) }
 {
     match request {
@@ -122,8 +124,8 @@ fn check<F: Files>(alloc: Global, policy: &str, files: &mut F) -> Result<Answer,
     ensures shown { IfOk result CanBePut }
     ensures stop { IfErr result (IsStop (Some (check policy.now)) (F.told files.old)
         (Rose (F.faults files.old) (F.faults files.new))) }
-    ensures loads { Asks (files_of (Some (check policy.now)))
-        (F.asked files.old) (F.asked files.new) }
+    ensures loads { AreRequested (files_of (Some (check policy.now)))
+        (F.requested files.old) (F.requested files.new) }
     ensures calm { IsErrOf result Stop.Unread ⊎ (F.faults files.new ≡ F.faults files.old) }
 {
     let text = load(alloc, files, policy, TextKind::Policy)?;
@@ -141,8 +143,8 @@ fn explain<F: Files>(
     ensures shown { IfOk result CanBePut }
     ensures stop { IfErr result (IsStop (Some (explain policy.now name)) (F.told files.old)
         (Rose (F.faults files.old) (F.faults files.new))) }
-    ensures loads { Asks (files_of (Some (explain policy.now name)))
-        (F.asked files.old) (F.asked files.new) }
+    ensures loads { AreRequested (files_of (Some (explain policy.now name)))
+        (F.requested files.old) (F.requested files.new) }
     ensures calm { IsErrOf result Stop.Unread ⊎ (F.faults files.new ≡ F.faults files.old) }
 {
     let policy_text = load(alloc, files, policy, TextKind::Policy)?;
@@ -156,9 +158,9 @@ fn play<F: Files>(alloc: Global, policy: &str, trace: &str, files: &mut F) -> Re
     ensures stop { IfErr result (IsStop (Some (play policy.now trace.now)) (F.told files.old)
         (Rose (F.faults files.old) (F.faults files.new))) }
     ensures loads { FirstAreLoaded (Some (play policy.now trace.now)) (F.told files.old)
-        (F.asked files.old) (F.asked files.new) }
-    ensures loaded { OnOk result (Asks (files_of (Some (play policy.now trace.now)))
-        (F.asked files.old) (F.asked files.new)) }
+        (F.requested files.old) (F.requested files.new) }
+    ensures loaded { OnOk result (AreRequested (files_of (Some (play policy.now trace.now)))
+        (F.requested files.old) (F.requested files.new)) }
     ensures calm { IsErrOf result Stop.Unread ⊎ (F.faults files.new ≡ F.faults files.old) }
 {
     let policy_text = load(alloc, files, policy, TextKind::Policy)?;
@@ -181,9 +183,9 @@ fn judge_files<F: Files>(
     ensures stop { IfErr result (IsStopOfThree (F.told files.old policy.now) (F.told files.old trace.now)
         (F.told files.old history.now) (Rose (F.faults files.old) (F.faults files.new))) }
     ensures loads { LoadsOfThree policy.now trace.now history.now (F.told files.old)
-        (F.asked files.old) (F.asked files.new) }
-    ensures loaded { OnOk result (Asks (three_files policy.now trace.now history.now)
-        (F.asked files.old) (F.asked files.new)) }
+        (F.requested files.old) (F.requested files.new) }
+    ensures loaded { OnOk result (AreRequested (three_files policy.now trace.now history.now)
+        (F.requested files.old) (F.requested files.new)) }
     ensures calm { IsErrOf result Stop.Unread ⊎ (F.faults files.new ≡ F.faults files.old) }
 {
     let texts = load_three(alloc, files, policy, trace, history)?;

@@ -209,7 +209,7 @@ fn loads_and_pieces_are_kept(rt: HostRuntime) -> Result<(), Fail> {
     let alloc = rt.alloc();
     let mut files = MemoryFiles::new(alloc, Vec::new(alloc), Vec::new(alloc));
     assert!(rt; files.load(alloc, "p", 9).is_err());
-    match files.asked() {
+    match files.requested() {
         Some([(name, limit)]) => {
             assert_eq!(rt; name.as_str(), "p");
             assert_eq!(rt; *limit, 9);

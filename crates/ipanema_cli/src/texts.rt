@@ -2,7 +2,7 @@
 
 ghost use Rattle.std.specs.Prelude.{◌≡◌, ◌⊎◌, ℕ, List, [], ◌∷◌, IfErr, IfOk, IsErrOf, OnOk};
 ghost use Rattle.sched_io.specs.Faults.{Rose};
-ghost use Rattle.sched_io.specs.Loads.{Asks, request};
+ghost use Rattle.sched_io.specs.Loads.{AreRequested, load_request};
 ghost use Rattle.ipanema_cli.specs.Texts.{MayRead, room_of, too_long_line};
 ghost use Rattle.ipanema_cli.specs.Loads.{LoadsOfThree, three_files};
 ghost use Rattle.ipanema_cli.specs.Stops.{AreRead, IsStopOfThree, IsUnloaded};
@@ -67,7 +67,8 @@ pub fn load<F: Files>(
         (Rose (F.faults files.old) (F.faults files.new))) }
     ensures same { (other : List ℕ) → F.told files.new other ≡ F.told files.old other }
     ensures steady { IsErrOf result Stop.Unread ⊎ (F.faults files.new ≡ F.faults files.old) }
-    ensures asks { Asks (request name.now (room_of kind) ∷ []) (F.asked files.old) (F.asked files.new) }
+    ensures requests { AreRequested (load_request name.now (room_of kind) ∷ [])
+        (F.requested files.old) (F.requested files.new) }
 {
     match files.load(alloc, name, kind.room()) {
         Ok(text) => Ok(text),
@@ -90,9 +91,9 @@ pub fn load_three<F: Files>(
     ensures stop { IfErr result (IsStopOfThree (F.told files.old policy.now) (F.told files.old trace.now)
         (F.told files.old history.now) (Rose (F.faults files.old) (F.faults files.new))) }
     ensures loads { LoadsOfThree policy.now trace.now history.now (F.told files.old)
-        (F.asked files.old) (F.asked files.new) }
-    ensures loaded { OnOk result (Asks (three_files policy.now trace.now history.now)
-        (F.asked files.old) (F.asked files.new)) }
+        (F.requested files.old) (F.requested files.new) }
+    ensures loaded { OnOk result (AreRequested (three_files policy.now trace.now history.now)
+        (F.requested files.old) (F.requested files.new)) }
     ensures steady { IsErrOf result Stop.Unread ⊎ (F.faults files.new ≡ F.faults files.old) }
 {
     let policy = load(alloc, files, policy, TextKind::Policy)?;

@@ -2,7 +2,7 @@
 
 ghost use Rattle.std.specs.Prelude.{◌≡◌, ◌⊎◌, [], ◌∷◌};
 ghost use Rattle.sched_io.specs.Faults.{Rose};
-ghost use Rattle.sched_io.specs.Loads.{Asks};
+ghost use Rattle.sched_io.specs.Loads.{AreRequested};
 ghost use Rattle.command_words.specs.Command.{asked_by, words_of};
 ghost use Rattle.ipanema_cli.specs.Ends.{Ends};
 ghost use Rattle.ipanema_cli.specs.Causes.{HasCause, OneOf};
@@ -40,10 +40,10 @@ pub fn ipanema<R: Threads + Wait + Sync, F: Files, S: Sink, G: Gate>(
     // Just the first of the command's files are loaded, each once and with its limit, and none
     // behind one that is told to be missing or too long.
     ensures loads { FirstAreLoaded (asked_by (words_of words.now.items)) (F.told files.old)
-        (F.asked files.old) (F.asked files.new) }
+        (F.requested files.old) (F.requested files.new) }
     // And where a text was answered, or no command was, all of them are.
     ensures loaded { OneOf (0 ∷ 1 ∷ 2 ∷ 3 ∷ 7 ∷ 8 ∷ 9 ∷ []) result →
-        Asks (files_of (asked_by (words_of words.now.items))) (F.asked files.old) (F.asked files.new) }
+        AreRequested (files_of (asked_by (words_of words.now.items))) (F.requested files.old) (F.requested files.new) }
     // Where the files' count of faults moves, the call ends with 4, and where the sink's does, with 5.
     ensures calm { (result ≡ 4) ⊎ (F.faults files.new ≡ F.faults files.old) }
     ensures quiet { (result ≡ 5) ⊎ ((S.shown out.new).faults ≡ (S.shown out.old).faults) }

@@ -25,7 +25,7 @@ const MOST_DIVISIONS: u32 = 93;
 
 /// The values of a variable that an equation with the one below it leaves, once the later ones are set. There is none
 /// where that equation has no whole solution.
-pub fn stride_of(lists: &[Vec<Derived>], values: &[i64], variable: usize) -> Option<Stride> {
+pub(crate) fn stride_of(lists: &[Vec<Derived>], values: &[i64], variable: usize) -> Option<Stride> {
     if variable == 0 {
         return Some(ALL);
     }

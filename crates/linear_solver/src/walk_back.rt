@@ -94,7 +94,7 @@ pub fn coefficient_at(coefs: &[i64], variable: usize) -> i64
 }
 
 /// The sum of a row's terms of the variables past this one.
-pub fn value_past(coefs: &[i64], values: &[i64], variable: usize) -> i128 {
+pub(crate) fn value_past(coefs: &[i64], values: &[i64], variable: usize) -> i128 {
     let mut sum: i128 = 0;
     for (place, coef) in coefs.iter().enumerate() {
         if place > variable && place < values.len() {

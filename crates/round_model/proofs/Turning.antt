@@ -18,7 +18,7 @@ use Rattle.round_model.specs.declared.unit.Unit.TheVariants as unit
 use Rattle.round_model.specs.declared.turns.NextStep.{NextStep}
 use Rattle.round_model.specs.declared.turns.NextStep.TheVariants as next
 use Rattle.round_model.specs.After.{after, round_of}
-use Rattle.round_model.specs.Asked.{Asked, asked_behind_unit, asked_late, asked_of, asked_to_enter, asked_to_wake, over, working}
+use Rattle.round_model.specs.TurnSteps.{TurnStep, late_step, over, step_behind_unit, step_to_enter, step_to_wake, turn_step_of, working}
 use Rattle.round_model.specs.Attempts.{attempt_of}
 use Rattle.round_model.specs.Choices.{target_of}
 use Rattle.round_model.specs.FreshReads.{fresh_reads, placement_reads}
@@ -63,21 +63,21 @@ placement_same (least e) plan h s fresh is = sym is
 
 module _ (p : Meaning) (plan : Plan) (h : List Entry) (a : ℕ) where
   -- what the core's turn comes to by what it asks, after these looks
-  abbrev pub done : (ℕ → Option (List ℕ)) → Asked → SerialState
-  done looks asked =
-      answered p plan (record { history = h; looks = looks }) (scene_of p plan h a) a (placement_reads p.place plan h (scene_of p plan h a)) asked
+  abbrev pub done : (ℕ → Option (List ℕ)) → TurnStep → SerialState
+  done looks step =
+      answered p plan (record { history = h; looks = looks }) (scene_of p plan h a) a (placement_reads p.place plan h (scene_of p plan h a)) step
 
   -- a thread enters
   pub enters : (looks : ℕ → Option (List ℕ)) (fresh reads : List ℕ) (thread at : ℕ) → fresh ≡ fresh_reads plan h (scene_of p plan h a) → reads ≡ placement_by p.place fresh
       → Some thread ≡ option_map (λ (t : Planned). t.id) (entering_next plan (round_of h) a (own_entries h a))
       → target_of p plan.cores (values_at p plan h reads) a ≡ Some at
       → step_of p plan (record { history = h; looks = looks }) a ≡ with_entry (record { history = h; looks = looks }) (entry.Enter thread a at reads)
-  unfolding step_of scene_of asked_of
+  unfolding step_of scene_of turn_step_of
   enters looks fresh reads thread at is_fresh is_read is target =
       by_found (entering_next plan (round_of h) a (own_entries h a)) (some_named thread (entering_next plan (round_of h) a (own_entries h a)) is)
     where
       by_found : (found : Option Planned) → IsSomeAnd found (λ t. t.id ≡ thread)
-          → done looks (asked_to_enter (scene_of p plan h a) a (looks a) found)
+          → done looks (step_to_enter (scene_of p plan h a) a (looks a) found)
           ≡ with_entry (record { history = h; looks = looks }) (entry.Enter thread a at reads)
       by_found None none = absurd none
       by_found (Some t) same =
@@ -88,10 +88,10 @@ module _ (p : Meaning) (plan : Plan) (h : List Entry) (a : ℕ) where
   -- no thread is left to enter: the next one wakes, or the core's unit or attempt is to come
   past_entering : (looks : ℕ → Option (List ℕ)) → entering_next plan (round_of h) a (own_entries h a) ≡ None
       → step_of p plan (record { history = h; looks = looks }) a
-      ≡ done looks (asked_to_wake (own_entries h a) (looks a) (waking_next (round_of h) (after p plan h a)))
-  unfolding step_of scene_of asked_of
+      ≡ done looks (step_to_wake (own_entries h a) (looks a) (waking_next (round_of h) (after p plan h a)))
+  unfolding step_of scene_of turn_step_of
   past_entering looks is =
-      ap (λ (found : Option Planned). done looks (asked_to_enter (scene_of p plan h a) a (looks a) found)) is
+      ap (λ (found : Option Planned). done looks (step_to_enter (scene_of p plan h a) a (looks a) found)) is
 
   -- a thread wakes
   pub wakes : (looks : ℕ → Option (List ℕ)) (fresh reads : List ℕ) (thread at : ℕ) → fresh ≡ fresh_reads plan h (scene_of p plan h a) → reads ≡ placement_by p.place fresh
@@ -105,7 +105,7 @@ module _ (p : Meaning) (plan : Plan) (h : List Entry) (a : ℕ) where
       ∙ by_found (waking_next (round_of h) (after p plan h a)) (some_blocked thread (waking_next (round_of h) (after p plan h a)) is)
     where
       by_found : (found : Option Blocked) → IsSomeAnd found (λ b. b.task.id ≡ thread)
-          → done looks (asked_to_wake (own_entries h a) (looks a) found)
+          → done looks (step_to_wake (own_entries h a) (looks a) found)
           ≡ with_entry (record { history = h; looks = looks }) (entry.Wake thread a at reads)
       by_found None none = absurd none
       by_found (Some b) same =
@@ -118,18 +118,18 @@ module _ (p : Meaning) (plan : Plan) (h : List Entry) (a : ℕ) where
       → waking_next (round_of h) (after p plan h a) ≡ None → IsLateStepOf p plan h a look step → IsStepOf p plan h a fresh look step
   is_late fresh look step entered woken late looks is_fresh is_look =
       past_entering looks entered
-      ∙ (ap (λ (found : Option Blocked). done looks (asked_to_wake (own_entries h a) (looks a) found)) woken
+      ∙ (ap (λ (found : Option Blocked). done looks (step_to_wake (own_entries h a) (looks a) found)) woken
       ∙ (late looks is_look ∙ ap (λ (reads : List ℕ). with_step (record { history = h; looks = looks }) a reads step) (sym is_fresh)))
 
   pub late_over : (look : Option (List ℕ)) → has_attempted (own_entries h a) ≡ true → IsLateStepOf p plan h a look next.Over
   late_over look attempted looks is_look =
-      ap (λ b. done looks (cond b over (cond (has_worked (own_entries h a)) (asked_behind_unit (looks a)) working))) attempted
+      ap (λ b. done looks (cond b over (cond (has_worked (own_entries h a)) (step_behind_unit (looks a)) working))) attempted
 
   pub late_work : (look : Option (List ℕ)) → has_attempted (own_entries h a) ≡ false → has_worked (own_entries h a) ≡ false
       → IsLateStepOf p plan h a look (step_of_dids a (worked p plan (round_of h) (after p plan h a)).dids)
   unfolding scene_of
   late_work look attempted first looks is_look =
-      ap₂ (λ b c. done looks (cond b over (cond c (asked_behind_unit (looks a)) working))) attempted first
+      ap₂ (λ b c. done looks (cond b over (cond c (step_behind_unit (looks a)) working))) attempted first
       ∙ same (worked p plan (round_of h) (after p plan h a)).dids
     where
       same : (dids : List Did) → with_work (record { history = h; looks = looks }) a dids
@@ -138,10 +138,10 @@ module _ (p : Meaning) (plan : Plan) (h : List Entry) (a : ℕ) where
       same (d ∷ ds) = refl
 
   late_attempt : (looks : ℕ → Option (List ℕ)) (look : Option (List ℕ)) → has_attempted (own_entries h a) ≡ false → has_worked (own_entries h a) ≡ true → looks a ≡ look
-      → done looks (asked_late (own_entries h a) (looks a)) ≡ done looks (asked_behind_unit look)
+      → done looks (late_step (own_entries h a) (looks a)) ≡ done looks (step_behind_unit look)
   late_attempt looks look attempted has is_look =
-      ap₂ (λ b c. done looks (cond b over (cond c (asked_behind_unit (looks a)) working))) attempted has
-      ∙ ap (λ (l : Option (List ℕ)). done looks (asked_behind_unit l)) is_look
+      ap₂ (λ b c. done looks (cond b over (cond c (step_behind_unit (looks a)) working))) attempted has
+      ∙ ap (λ (l : Option (List ℕ)). done looks (step_behind_unit l)) is_look
 
   pub late_look : has_attempted (own_entries h a) ≡ false → has_worked (own_entries h a) ≡ true → IsLateStepOf p plan h a None next.Looks
   late_look attempted has looks is_look = late_attempt looks None attempted has is_look

@@ -1,5 +1,4 @@
 pub mod After
-pub mod Asked
 pub mod Attempts
 pub mod Between
 pub mod Bounds
@@ -36,4 +35,5 @@ pub mod SerialRounds
 pub mod Spread
 pub mod StillRounds
 pub mod Stretches
+pub mod TurnSteps
 pub mod Work

@@ -5,7 +5,7 @@ use Rattle.round_model.specs.declared.entry.Did.{Did}
 use Rattle.round_model.specs.declared.entry.Entry.{Entry}
 use Rattle.round_model.specs.declared.entry.Entry.TheVariants as entry
 use Rattle.round_model.specs.declared.plan.Plan.{Plan}
-use Rattle.round_model.specs.Asked.{Asked, asked_of, attempting, entering, looking, over, waking, working}
+use Rattle.round_model.specs.TurnSteps.{TurnStep, attempting, entering, looking, over, turn_step_of, waking, working}
 use Rattle.round_model.specs.Attempts.{attempt_of}
 use Rattle.round_model.specs.Choices.{target_of}
 use Rattle.round_model.specs.FreshReads.{fresh_reads, placement_reads}
@@ -31,9 +31,9 @@ abbrev pub with_work : SerialState → ℕ → List Did → SerialState
 with_work play a [] = play
 with_work play a (d ∷ ds) = with_entry play (entry.Work a d)
 
--- the play after the core a did what was asked of it, where placing a thread reads these positions
+-- the play after the core a made this step of its turn, where placing a thread reads these positions
 module _ (p : Meaning) (plan : Plan) (play : SerialState) (s : Scene) (a : ℕ) (reads : List ℕ) where
-  abbrev pub answered : Asked → SerialState
+  abbrev pub answered : TurnStep → SerialState
   answered (entering t) =
       with_placed play (λ at. entry.Enter t.id a at reads)
       (target_of p plan.cores (read_values plan s.seen reads) a)
@@ -51,4 +51,4 @@ module _ (p : Meaning) (plan : Plan) (play : SerialState) (s : Scene) (a : ℕ) 
 unfoldable pub step_of : Meaning → Plan → SerialState → ℕ → SerialState
 step_of p plan play a =
     let s : Scene = scene_of p plan play.history a in
-    answered p plan play s a (placement_reads p.place plan play.history s) (asked_of plan s a (play.looks a))
+    answered p plan play s a (placement_reads p.place plan play.history s) (turn_step_of plan s a (play.looks a))

@@ -14,7 +14,7 @@ pub record IsBeginning (p : Meaning) (plan : Plan) (history : List Entry) : Type
   pub rest : List Entry
   pub whole : serial_history p plan ≡ history ++ rest
 
--- so many rounds of serial play: a legal beginning of the serial history, in complete rounds of `most_entries` each at most
+-- so many rounds of serial play: a legal beginning of the serial history, in complete rounds of `most_entries` at most
 pub record AreRounds (p : Meaning) (plan : Plan) (k : ℕ) : Type 0 where
   pub legal : Legal p plan (serial_rounds p plan k)
   pub complete : IsComplete plan (serial_rounds p plan k)

@@ -75,7 +75,7 @@ impl<R: SystemFiles> Files for DiskFiles<'_, R> {
 
     ghost faults = { λ files. files.faults };
 
-    ghost asked = { λ _. None };
+    ghost requested = { λ _. None };
 
     fn load(&mut self, alloc: Global, name: &str, limit: u64) -> Result<Vec<u8>, LoadFault> {
         let loaded = load_file(self.rt, alloc, name, limit);

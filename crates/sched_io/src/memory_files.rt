@@ -3,8 +3,8 @@
 ghost use Rattle.std.specs.Prelude.{◌≡◌, ℕ, ◌<◌, ◌≤◌, ◌⊎◌, List, [], ◌∷◌, Contains, IfOk, IsErrOf, MatchOption, None, Some, length, map, min, ◌+◌, string_bytes, vec_len};
 ghost use Rattle.sched_io.specs.Faults.{Rose};
 ghost use Rattle.sched_io.specs.InMemory.{told_among};
-ghost use Rattle.sched_io.specs.Loads.{Asks, request};
-ghost use Rattle.sched_io.specs.MemoryFiles.{told_by, faults_of, failing_of, loads_of, asked_of, request_in, requests_in};
+ghost use Rattle.sched_io.specs.Loads.{AreRequested, load_request};
+ghost use Rattle.sched_io.specs.MemoryFiles.{told_by, faults_of, failing_of, loads_of, requested_of, request_in, requests_in};
 ghost use Rattle.sched_io.specs.Told.{IfHolds, missing, holds};
 
 use crate::faults::LoadFault;
@@ -12,14 +12,14 @@ use crate::sources::Files;
 use std::alloc::Global;
 use std::mem;
 
-/// Files in memory, each a name and its bytes, of which chosen loads fail. It tells all of them, and for which it was
-/// asked as long as there is memory to keep that.
+/// Files in memory, each a name and its bytes, of which chosen loads fail. It tells all of them, and which
+/// loads were requested as long as there is memory to keep that.
 #[derive(Drop)]
 pub struct MemoryFiles {
     files: Vec<(String, Vec<u8>)>,
     failing: Vec<u64>,
     loads: u64,
-    asked: Option<Vec<(String, u64)>>,
+    requested: Option<Vec<(String, u64)>>,
     faults: u64,
 }
 
@@ -31,24 +31,24 @@ impl MemoryFiles {
             told_by result name ≡ told_among (λ f. string_bytes f.0) (λ f. f.1.items) files.items name }
         ensures failing { failing_of result ≡ failing.items }
         ensures loads { loads_of result ≡ 0 }
-        ensures asked { asked_of result ≡ Some [] }
+        ensures requested { requested_of result ≡ Some [] }
         ensures faults { faults_of result ≡ 0 }
     {
         MemoryFiles {
             files,
             failing,
             loads: 0,
-            asked: Some(Vec::new(alloc)),
+            requested: Some(Vec::new(alloc)),
             faults: 0,
         }
     }
 
     /// The loads so far, each a name and its limit in bytes, as long as there was memory to keep them.
-    pub fn asked(&self) -> Option<&[(String, u64)]>
-        ensures { MatchOption result (asked_of self.now ≡ None)
-            (λ kept. asked_of self.now ≡ Some (map request_in kept.now)) }
+    pub fn requested(&self) -> Option<&[(String, u64)]>
+        ensures { MatchOption result (requested_of self.now ≡ None)
+            (λ kept. requested_of self.now ≡ Some (map request_in kept.now)) }
     {
-        match &self.asked {
+        match &self.requested {
             Some(kept) => Some(kept.as_slice()),
             None => None,
         }
@@ -75,7 +75,7 @@ fn with_request(
     name: &str,
     limit: u64,
 ) -> Option<Vec<(String, u64)>>
-    ensures { Asks (request name.now limit ∷ []) (requests_in kept) (requests_in result) }
+    ensures { AreRequested (load_request name.now limit ∷ []) (requests_in kept) (requests_in result) }
 {
     let mut kept = kept?;
     let name = String::from_str(alloc, name).ok()?;
@@ -88,7 +88,7 @@ impl Files for MemoryFiles {
 
     ghost faults = { faults_of };
 
-    ghost asked = { asked_of };
+    ghost requested = { requested_of };
 
     fn load(&mut self, alloc: Global, name: &str, limit: u64) -> Result<Vec<u8>, LoadFault>
         ensures bytes { IfOk result (λ bytes. IfHolds (told_by self.old name.now) (λ held. bytes.items ≡ held)) }
@@ -103,7 +103,8 @@ impl Files for MemoryFiles {
         ensures same { (other : List ℕ) → told_by self.new other ≡ told_by self.old other }
         ensures later { faults_of self.old ≤ faults_of self.new }
         ensures steady { IsErrOf result LoadFault.Failed ⊎ (faults_of self.new ≡ faults_of self.old) }
-        ensures asks { Asks (request name.now limit ∷ []) (asked_of self.old) (asked_of self.new) }
+        ensures requests { AreRequested (load_request name.now limit ∷ [])
+            (requested_of self.old) (requested_of self.new) }
 
         // Just the chosen loads fail, and those of a missing name.
         ensures chosen { Contains (failing_of self.old) (loads_of self.old) → IsErrOf result LoadFault.Failed }
@@ -114,7 +115,7 @@ impl Files for MemoryFiles {
     {
         let fails = self.failing.contains(&self.loads);
         self.loads = self.loads.saturating_add(1);
-        self.asked = with_request(alloc, mem::take(&mut self.asked), name, limit);
+        self.requested = with_request(alloc, mem::take(&mut self.requested), name, limit);
         let Some(bytes) = bytes_under(self.files.as_slice(), name) else {
             return Err(LoadFault::Failed);
         };

@@ -2,14 +2,14 @@
 
 ghost use Rattle.std.specs.Prelude.{◌≡◌, ℕ, ◌<◌, ◌≤◌, ◌⊎◌, List, [], ◌∷◌, IfOk, IsErrOf, Option, length, vec_len};
 ghost use Rattle.sched_io.specs.Faults.{Rose};
-ghost use Rattle.sched_io.specs.Loads.{Asks, Request, request};
+ghost use Rattle.sched_io.specs.Loads.{AreRequested, LoadRequest, load_request};
 ghost use Rattle.sched_io.specs.Told.{Told, IfHolds, missing};
 
 use crate::faults::LoadFault;
 use std::alloc::Global;
 
-/// A source of files. It may tell of a name whether a file has it, of a file its bytes, and for
-/// which files it was asked; it counts its faults.
+/// A source of files. It may tell of a name whether a file has it, of a file its bytes, and which
+/// loads were requested; it counts its faults.
 pub trait Files {
     /// What it tells of a name.
     ghost told: { Self → List ℕ → Told };
@@ -17,8 +17,8 @@ pub trait Files {
     /// How often the outside has failed.
     ghost faults: { Self → ℕ };
 
-    /// For which files it was asked so far, in order and each with its limit, where it tells that.
-    ghost asked: { Self → Option (List Request) };
+    /// Which loads were requested of it so far, in order and each with its limit, where it tells that.
+    ghost requested: { Self → Option (List LoadRequest) };
 
     /// The bytes of that file, at most `limit`.
     fn load(&mut self, alloc: Global, name: &str, limit: u64) -> Result<Vec<u8>, LoadFault>
@@ -38,6 +38,6 @@ pub trait Files {
         ensures same { (other : List ℕ) → told self.new other ≡ told self.old other }
         ensures later { faults self.old ≤ faults self.new }
 
-        // Where it tells for which files it was asked, this is one more, however it ends.
-        ensures asks { Asks (request name.now limit ∷ []) (asked self.old) (asked self.new) };
+        // Where it tells which loads were requested, this is one more, however it ends.
+        ensures requests { AreRequested (load_request name.now limit ∷ []) (requested self.old) (requested self.new) };
 }

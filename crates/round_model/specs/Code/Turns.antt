@@ -9,7 +9,7 @@ use Rattle.round_model.specs.declared.turns.NextStep.{NextStep}
 use Rattle.round_model.specs.declared.turns.NextStep.TheVariants as next
 use Rattle.round_model.specs.After.{after, round_of}
 use Rattle.round_model.specs.Entries.{acting_core}
-use Rattle.round_model.specs.Asked.{asked_late}
+use Rattle.round_model.specs.TurnSteps.{late_step}
 use Rattle.round_model.specs.FreshReads.{fresh_reads, placement_reads}
 use Rattle.round_model.specs.Legal.{LegalNext}
 use Rattle.round_model.specs.Scenes.{own_entries, scene_of, waking_next}
@@ -46,7 +46,7 @@ IsStepOf p plan history a fresh look step = (looks : ℕ → Option (List ℕ)) 
 abbrev pub IsLateStepOf : Meaning → Plan → List Entry → ℕ → Option (List ℕ) → NextStep → Type 0
 IsLateStepOf p plan history a look step = (looks : ℕ → Option (List ℕ)) → looks a ≡ look →
     answered p plan (record { history = history; looks = looks }) (scene_of p plan history a) a
-    (placement_reads p.place plan history (scene_of p plan history a)) (asked_late (own_entries history a) (looks a))
+    (placement_reads p.place plan history (scene_of p plan history a)) (late_step (own_entries history a) (looks a))
     ≡ with_step (record { history = history; looks = looks }) a
     (fresh_reads plan history (scene_of p plan history a)) step
 

@@ -12,10 +12,10 @@ bench-requires g c = c.requires.benched c.in-Bench.seed c.in-Bench.size (ap aske
 
 pub returns-in-Check-clause-loads : goal.returns-in-Check-clause-loads
 returns-in-Check-clause-loads g c =
-    subst (λ request. FirstAreLoaded (asked request) (g.F.Files.told c.args.files.now) (g.F.Files.asked c.args.files.now) (g.F.Files.asked c.check.new.files))
+    subst (λ request. FirstAreLoaded (asked request) (g.F.Files.told c.args.files.now) (g.F.Files.requested c.args.files.now) (g.F.Files.requested c.check.new.files))
     (sym c.in-Check.is) (record { count = 1; loaded = c.check.ensures.loads; goes_on = tt })
 
 pub returns-in-Explain-clause-loads : goal.returns-in-Explain-clause-loads
 returns-in-Explain-clause-loads g c =
-    subst (λ request. FirstAreLoaded (asked request) (g.F.Files.told c.args.files.now) (g.F.Files.asked c.args.files.now) (g.F.Files.asked c.explain.new.files))
+    subst (λ request. FirstAreLoaded (asked request) (g.F.Files.told c.args.files.now) (g.F.Files.requested c.args.files.now) (g.F.Files.requested c.explain.new.files))
     (sym c.in-Explain.is) (record { count = 1; loaded = c.explain.ensures.loads; goes_on = tt })
