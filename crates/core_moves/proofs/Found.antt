@@ -50,14 +50,14 @@ some_of P None is = absurd is
 some_of P (Some x) is = (x, refl, is)
 
 -- the thread that enters is one of the plan
-enters_planned : (plan : Plan) (round a thread : ℕ) (own : List Entry) → IsSomeAnd (entering_next plan round a own) (λ (t : Planned). t.id ≡ thread) → IsSome (planned_of plan thread)
+pub enters_planned : (plan : Plan) (round a thread : ℕ) (own : List Entry) → IsSomeAnd (entering_next plan round a own) (λ (t : Planned). t.id ≡ thread) → IsSome (planned_of plan thread)
 unfolding entering_next
 enters_planned plan round a thread own next =
     let found = some_of (λ (t : Planned). t.id ≡ thread) (entering_next plan round a own) next in let named = found.2 in
     also_found (is_entering round a own) (λ (t : Planned). t.id == thread) plan.threads found.0 found.1 (grind (arith, nat_tests))
 
 -- the thread that wakes is blocked
-wakes_blocked : (round thread : ℕ) (core : ModelCore) → IsSomeAnd (waking_next round core) (λ (b : Blocked). b.task.id ≡ thread) → IsSome (blocked_of thread core)
+pub wakes_blocked : (round thread : ℕ) (core : ModelCore) → IsSomeAnd (waking_next round core) (λ (b : Blocked). b.task.id ≡ thread) → IsSome (blocked_of thread core)
 unfolding waking_next
 wakes_blocked round thread core next =
     let found = some_of (λ (b : Blocked). b.task.id ≡ thread) (waking_next round core) next in let named = found.2 in

@@ -50,7 +50,7 @@ row_with p plan s a b reads None legal = legal
 row_with p plan s a b reads (Some thread) legal = legal
 
 -- a seat that held no core knew less of the history
-agrees_before : (v : View) (h : List Entry) (notes more : List Note) (held : List HeldCore) → v.held ≡ [] → notes ≡ more ++ v.notes → Agrees (record v { notes = notes; held = held }) h → Agrees v h
+pub agrees_before : (v : View) (h : List Entry) (notes more : List Note) (held : List HeldCore) → v.held ≡ [] → notes ≡ more ++ v.notes → Agrees (record v { notes = notes; held = held }) h → Agrees v h
 agrees_before v h notes more held free is ag = record {
   fits = ag.fits;
   handlers = ag.handlers;
