@@ -47,13 +47,13 @@ module _ (v : View) (a at : ℕ) (e : Entry) (of_core : IsSeatOf v a) where
   }
 
   -- one core was held, changed, shown and given back
-  pub added_one : (y : CoreView) (c : ℕ) (z : CoreView) → v.held ≡ [] → a < v.plan.cores → (w u x now : View) → w ≡ holding a y v → Draws e w at u → x ≡ publishing c z u → now ≡ giving x → HasAdded a at e v now
-  added_one y c z free low w u x now is drawn shown given =
+  pub added_one : (b : ℕ) (y : CoreView) (c : ℕ) (z : CoreView) → v.held ≡ [] → b < v.plan.cores → (w u x now : View) → w ≡ holding b y v → Draws e w at u → x ≡ publishing c z u → now ≡ giving x → HasAdded a at e v now
+  added_one b y c z free low w u x now is drawn shown given =
       let d = subst (λ (t : View). Draws e t at u) is drawn in let m = after (meaning_in v) v.plan d.history in
-      let last : View = publishing c z (drawing at e m (holding a y v)) in let whole : now ≡ giving last = given ∙ ap giving (shown ∙ ap (publishing c z) d.view) in
-      settled now (giving last).role last.notes (note_of_core v.start c z ∷ note_of_core v.start a y ∷ []) (giving last).held whole (given_back v.round last.held v.role as_before)
-      (ap (λ (l : List Note). note_of_core v.start c z ∷ l) (notes_held a y v low))
-      (ap (λ (t : View). t.held) whole ∙ ap (λ (held : List HeldCore). map (published v.plan.cores c) (map (held_grown v.round at e m (holding a y v)) held)) free)
+      let last : View = publishing c z (drawing at e m (holding b y v)) in let whole : now ≡ giving last = given ∙ ap giving (shown ∙ ap (publishing c z) d.view) in
+      settled now (giving last).role last.notes (note_of_core v.start c z ∷ note_of_core v.start b y ∷ []) (giving last).held whole (given_back v.round last.held v.role as_before)
+      (ap (λ (l : List Note). note_of_core v.start c z ∷ l) (notes_held b y v low))
+      (ap (λ (t : View). t.held) whole ∙ ap (λ (held : List HeldCore). map (published v.plan.cores c) (map (held_grown v.round at e m (holding b y v)) held)) free)
 
   -- so were two
   pub added_two : (low high : ℕ) (y z : CoreView) (b c : ℕ) (y_now z_now : CoreView) → low < v.plan.cores → high < v.plan.cores → (w u x now : View) → w ≡ holding high z (holding low y v) → Draws e w at u

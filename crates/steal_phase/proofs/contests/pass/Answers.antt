@@ -31,6 +31,6 @@ returns-clause-drawn g c =
 pub returns-clause-added : goal.returns-clause-added
 returns-clause-added g c =
     let v = view_of c.args.seat.now in let look = c.args.look in let held = c.draw_one-at.new.held in
-    added_one v look.by c.draw_one-at.result (entry.Pass look.by look.reads) c.requires.may.of_core c.hold-held.result.state held.core held.state c.requires.may.free c.requires.may.looked.core
+    added_one v look.by c.draw_one-at.result (entry.Pass look.by look.reads) c.requires.may.of_core look.by c.hold-held.result.state held.core held.state c.requires.may.free c.requires.may.looked.core
     (view_of c.hold-held.new.seat) (view_of c.draw_one-at.new.seat) (view_of c.publish.new.seat) (view_of c.release.new.seat)
     c.hold-held.ensures.held.view c.draw_one-at.ensures.drawn c.publish.ensures.seen.view c.release.ensures.home.view
