@@ -1,0 +1,116 @@
+"""Reads the texts of histories and reports, for the scripts beside this file. Their forms are in docs/FORMATS.md."""
+
+import re
+from collections import namedtuple
+
+RANGES = {
+    "round": (1, 4096), "last": (1, 4096), "thread": (1, 1023), "core": (0, 31), "target": (0, 31), "victim": (0, 31),
+}
+MAX_LINES = {"history": 65536, "report": 200000}
+
+HISTORY_FORMS = {
+    "round": "round <round>",
+    "enter": "enter <thread> <core> <target> :<reads>",
+    "wake": "wake <thread> <core> <target> :<reads>",
+    "nothing": "work <core> -",
+    "work": "work <core> <thread> <outcome>",
+    "steal": "steal <core> <victim> <thread> :<reads>",
+    "fail": "fail <core> <victim> :<reads>",
+    "pass": "pass <core> :<reads>",
+}
+
+REPORT_FORMS = {
+    "round": "round <round> spread <spread> idle <idle>",
+    "still": "still <round> <last> spread <spread> bad <bad>",
+    "fail": "fail <position> by <by>",
+    "rounds": "rounds <count>",
+    "entries": "entries <count>",
+    "steals": "steals <count>",
+    "fails": "fails <count>",
+    "bad": "bad <count>",
+    "wasted": "wasted <count>",
+}
+TOTALS = ["rounds", "entries", "steals", "fails", "bad", "wasted"]
+
+# A line has the values of the words in angle brackets by their names.
+Line = namedtuple("Line", "kind text values")
+Report = namedtuple("Report", "rounds stills fails totals")
+
+
+class Refused(Exception):
+    """The text isn't of the form. The argument says where."""
+
+
+def pattern(form):
+    """The regular expression of a form, with a group for each word in angle brackets."""
+    number = r"0|[1-9][0-9]{0,18}"
+    words = {"outcome": "keep|queue|block|end", "reads": rf"(?: (?:{number}))*"}
+    return re.compile(re.sub(r"<(\w+)>", lambda name: f"(?P<{name[1]}>{words.get(name[1], number)})", form))
+
+
+def read_line(text, patterns):
+    """The line as its kind and its values, or None where it is of no form."""
+    for kind, form in patterns.items():
+        found = form.fullmatch(text)
+        if found:
+            values = {name: value_of(name, word) for name, word in found.groupdict().items()}
+            return Line(kind, text, values) if all(is_in_range(*pair) for pair in values.items()) else None
+    return None
+
+
+def value_of(name, word):
+    if name == "outcome":
+        return word
+    return [int(read) for read in word.split()] if name == "reads" else int(word)
+
+
+def is_in_range(name, value):
+    if name == "reads":
+        return len(value) <= 32 and all(read <= 65536 for read in value)
+    return name not in RANGES or RANGES[name][0] <= value <= RANGES[name][1]
+
+
+def read_lines(data, what, forms):
+    """The lines of the text, each of one of the forms and ended by a line feed."""
+    patterns = {kind: pattern(form) for kind, form in forms.items()}
+    parts = data.decode("ascii", "replace").split("\n")
+    lines = []
+    for number, text in enumerate(parts[:-1], 1):
+        line = read_line(text, patterns)
+        if line is None or number > MAX_LINES[what]:
+            raise Refused(f"line {number} is no line of a {what}")
+        lines.append(line)
+    if parts[-1]:
+        raise Refused(f"line {len(parts)} is no line of a {what}: no line feed ends it")
+    return lines
+
+
+def read_history(data):
+    return read_lines(data, "history", HISTORY_FORMS)
+
+
+def read_report(data):
+    """The rounds, the still stretches, the fails and the totals of a report."""
+    lines = read_lines(data, "report", REPORT_FORMS)
+    kinds = [line.kind for line in lines]
+    order = ["round", "still", "fail"]
+    body = kinds[:-len(TOTALS)]
+    if kinds[-len(TOTALS):] != TOTALS or any(kind not in order for kind in body):
+        raise Refused("a report ends with its six totals, in their order")
+    if body != sorted(body, key=order.index):
+        raise Refused("a report has its rounds first, then its still stretches, then its fails")
+    rounds = [line for line in lines if line.kind == "round" and "spread" in line.values]
+    totals = {line.kind: line.values["count"] for line in lines if "count" in line.values}
+    if [line.values["round"] for line in rounds] != list(range(1, totals["rounds"] + 1)):
+        raise Refused("a report has one line for each of its rounds, from 1")
+    stills = [line for line in lines if line.kind == "still"]
+    if any(not line.values["round"] <= line.values["last"] <= totals["rounds"] for line in stills):
+        raise Refused("a stretch of still rounds goes from one of its rounds to the same or a later one")
+    return Report(rounds, stills, [line for line in lines if line.kind == "fail"], totals)
+
+
+def cores_of(history):
+    """How many cores the entries name. An entry with reads has one for each core."""
+    named = [line.values[name] + 1 for line in history for name in ("core", "target", "victim") if name in line.values]
+    reads = [len(line.values["reads"]) for line in history if "reads" in line.values]
+    return max(named + reads, default=0)
