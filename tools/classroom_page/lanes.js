@@ -1,0 +1,206 @@
+"use strict";
+
+// Draws time: a row for each core, a column for each entry, and the reads of the entry at hand as arcs back to what they saw.
+// Position p, the state behind p entries, is the left edge of column p.
+
+const SVG = "http://www.w3.org/2000/svg";
+const HEAD = 54;
+const FOOT = 26;
+const SIDE = 40;
+const LABEL_ROOM = 330;
+
+function shape(parent, name, settings, words) {
+  const made = parent.appendChild(document.createElementNS(SVG, name));
+  for (const [key, value] of Object.entries(settings)) made.setAttribute(key, value);
+  if (words !== undefined) made.textContent = words;
+  return made;
+}
+
+// Few cores get high rows, where the window has room for them beside all else.
+function rowHeight(cores) {
+  const least = cores <= 4 ? 44 : cores <= 8 ? 32 : 20;
+  return Math.max(least, Math.min(72, (window.innerHeight - 540) / cores));
+}
+
+class Lanes {
+  constructor(parent, names, entries, cores) {
+    this.entries = entries;
+    this.cores = cores;
+    this.row = rowHeight(cores);
+    const least = cores <= 8 ? 46 : 34;
+    this.column = Math.max(least, Math.min(72, (parent.clientWidth - LABEL_ROOM) / Math.max(entries.length, 1)));
+    this.half = Math.min(this.row * 0.38, this.column * 0.26);
+    this.end = this.x(entries.length);
+    this.bottom = HEAD + cores * this.row;
+    this.svg = this.canvas(parent, this.end + LABEL_ROOM);
+    [this.under, this.grid, this.marks, this.over] = ["under", "grid", "marks", "over"]
+      .map((name) => shape(this.svg, "g", { class: name }));
+    this.drawGrid(this.canvas(names, 92));
+    entries.forEach((entry, position) => this.drawMark(entry, position));
+  }
+
+  canvas(parent, width) {
+    const made = shape(parent, "svg", { width, height: this.bottom + FOOT, class: "lanes" });
+    made.style.fontSize = `${Math.max(12, this.half * 1.2)}px`;
+    return made;
+  }
+
+  x(position) {
+    return SIDE + position * this.column;
+  }
+
+  middle(position) {
+    return this.x(position) + this.column / 2;
+  }
+
+  y(core) {
+    return HEAD + (core + 0.5) * this.row;
+  }
+
+  drawGrid(names) {
+    for (let core = 0; core < this.cores; core++) {
+      shape(this.grid, "line", { x1: SIDE, x2: this.end, y1: this.y(core), y2: this.y(core), class: "lane" });
+      shape(names, "text", { x: 84, y: this.y(core) + 5, class: "name" }, `core ${core}`);
+    }
+    this.entries.forEach((entry, position) => {
+      const x = this.middle(position);
+      shape(this.grid, "text", { x, y: this.bottom + 18, class: "number" }, position);
+      const column = shape(this.under, "rect", this.box(position));
+      column.setAttribute("class", "column");
+      column.dataset.at = position;
+    });
+  }
+
+  box(position) {
+    return { x: this.x(position), y: HEAD - 22, width: this.column, height: this.bottom - HEAD + FOOT + 18 };
+  }
+
+  drawMark(entry, position) {
+    const mark = shape(this.marks, "g", { class: `mark ${entry.kind}` });
+    mark.dataset.at = position;
+    shape(mark, "title", {}, `${position}: ${entry.text}`);
+    MARKS[entry.kind](this, mark, this.middle(position), entry);
+  }
+
+  // What the entry at hand adds: its column, its reads, and the entry that explains it.
+  show(at) {
+    const entry = this.entries[at];
+    this.over.replaceChildren();
+    for (const column of this.under.children) column.setAttribute("class", this.columnClass(column, at, entry));
+    this.fade(at);
+    (entry.reads || []).forEach((read) => this.drawRead(at, entry.core, read));
+    if (Number.isInteger(entry.cause)) this.drawCause(at, entry.cause);
+  }
+
+  columnClass(column, at, entry) {
+    const position = Number(column.dataset.at);
+    if (position === at) return "column now";
+    return position === entry.cause ? "column why" : "column";
+  }
+
+  fade(at) {
+    const x = this.x(at + 1);
+    shape(this.over, "rect", { x, y: HEAD, width: Math.max(this.end - x, 0), height: this.bottom - HEAD, class: "later" });
+  }
+
+  drawRead(at, reader, read) {
+    const stale = read.by !== null;
+    const group = shape(this.over, "g", { class: stale ? "read stale" : "read fresh" });
+    const [x, y] = [this.x(read.position), this.y(read.core)];
+    shape(group, "path", { d: this.arc(this.middle(at), this.y(reader), x, y) });
+    const sight = this.half * (stale ? 1 : 0.8);
+    shape(group, stale ? "rect" : "circle", stale
+      ? { x: x - sight, y: y - sight, width: 2 * sight, height: 2 * sight, class: "sight" }
+      : { cx: x, cy: y, r: sight, class: "sight" });
+    shape(group, "text", { x, y: y + this.half * 0.45, class: "saw" }, read.saw);
+    if (stale) this.drawLabel(group, this.x(at + 1) + 8, y, `stale: saw ${read.saw}, now ${read.now}`);
+  }
+
+  // From the reader's mark back to the moment that it saw. In its own row the arc goes over the marks.
+  arc(fromX, fromY, toX, toY) {
+    const lift = fromY === toY ? this.row * 0.6 : 0;
+    const bend = (fromX - toX) / 2;
+    return `M ${fromX} ${fromY} C ${fromX - bend / 2} ${fromY - lift} ${toX + bend} ${toY - lift} ${toX} ${toY}`;
+  }
+
+  drawLabel(group, x, y, words) {
+    const high = Math.min(this.row - 1, Math.max(22, this.half * 1.9));
+    const back = shape(group, "rect", { x, y: y - high / 2, height: high, rx: 5, class: "label" });
+    const text = shape(group, "text", { x: x + 8, y: y + high * 0.22, class: "label" }, words);
+    back.setAttribute("width", text.getComputedTextLength() + 16);
+  }
+
+  drawCause(at, cause) {
+    const y = HEAD - 30;
+    const group = shape(this.over, "g", { class: "cause" });
+    const [from, to] = [this.middle(cause), this.middle(at)];
+    shape(group, "path", { d: `M ${from} ${HEAD - 22} V ${y} H ${to} V ${HEAD - 26}` });
+    shape(group, "path", { d: `M ${to - 6} ${HEAD - 31} L ${to} ${HEAD - 22} L ${to + 6} ${HEAD - 31} Z`, class: "tip" });
+    shape(group, "text", { x: to + 12, y: y + 8 }, "this is why it failed");
+  }
+
+  follow(parent, at) {
+    const room = parent.clientWidth;
+    parent.scrollLeft = Math.max(0, this.middle(at) - room * 0.6);
+  }
+}
+
+// ---- the marks: each draws an entry into a group, at its column's middle
+
+function named(lanes, group, x, y, thread) {
+  const kind = thread > 99 ? "thread long" : "thread";
+  shape(group, "text", { x, y: y + lanes.half * 0.45, class: kind }, thread);
+}
+
+function drawRound(lanes, group, x, entry) {
+  shape(group, "line", { x1: x, x2: x, y1: HEAD - 20, y2: lanes.bottom });
+  shape(group, "text", { x, y: 16 }, `round ${entry.round}`);
+}
+
+function drawComing(lanes, group, x, entry) {
+  const [y, half] = [lanes.y(entry.target), lanes.half * 1.25];
+  if (entry.core !== entry.target) shape(group, "line", { x1: x, x2: x, y1: lanes.y(entry.core), y2: y, class: "way" });
+  shape(group, "path", { d: `M ${x - half} ${y - half} H ${x + half} V ${y + half * 0.3} L ${x} ${y + half} L ${x - half} ${y + half * 0.3} Z` });
+  named(lanes, group, x, y - half * 0.15, entry.thread);
+}
+
+function drawWork(lanes, group, x, entry) {
+  const [y, half] = [lanes.y(entry.core), lanes.half];
+  shape(group, "rect", { x: x - half, y: y - half, width: 2 * half, height: 2 * half, class: entry.outcome });
+  named(lanes, group, x, y, entry.thread);
+}
+
+function drawNothing(lanes, group, x, entry) {
+  const [y, half] = [lanes.y(entry.core), lanes.half];
+  shape(group, "rect", { x: x - half, y: y - half, width: 2 * half, height: 2 * half });
+}
+
+function drawSteal(lanes, group, x, entry) {
+  const [from, to, half] = [lanes.y(entry.victim), lanes.y(entry.core), lanes.half];
+  const back = Math.sign(from - to) * half * 2;
+  shape(group, "line", { x1: x, x2: x, y1: from, y2: to + back });
+  shape(group, "path", { d: `M ${x - half} ${to + back} H ${x + half} L ${x} ${to + back / 4} Z` });
+  shape(group, "circle", { cx: x, cy: from, r: half * 1.1 });
+  named(lanes, group, x, from, entry.thread);
+}
+
+function drawFail(lanes, group, x, entry) {
+  const [from, to, half] = [lanes.y(entry.victim), lanes.y(entry.core), lanes.half * 0.8];
+  shape(group, "line", { x1: x, x2: x, y1: from, y2: to, class: "way" });
+  shape(group, "path", { d: `M ${x - half} ${to - half} L ${x + half} ${to + half} M ${x - half} ${to + half} L ${x + half} ${to - half}` });
+}
+
+function drawPass(lanes, group, x, entry) {
+  shape(group, "circle", { cx: x, cy: lanes.y(entry.core), r: lanes.half * 0.7 });
+}
+
+function drawIllegal(lanes, group, x) {
+  const [top, half] = [HEAD, lanes.half];
+  shape(group, "rect", { x: x - half, y: top, width: 2 * half, height: lanes.bottom - top });
+  shape(group, "text", { x, y: 16 }, "illegal");
+}
+
+const MARKS = {
+  round: drawRound, enter: drawComing, wake: drawComing, work: drawWork, nothing: drawNothing, steal: drawSteal,
+  fail: drawFail, pass: drawPass, illegal: drawIllegal,
+};
