@@ -139,9 +139,12 @@ class Lanes {
     shape(group, "text", { x: to + 12, y: y + 8 }, "this is why it failed");
   }
 
+  // Scrolls to the entry at hand, and as far back as it read, while its labels stay in sight.
   follow(parent, at) {
     const room = parent.clientWidth;
-    parent.scrollLeft = Math.max(0, this.middle(at) - room * 0.6);
+    const first = Math.min(...(this.entries[at].reads || []).map((read) => this.x(read.position)), this.middle(at));
+    const wanted = Math.min(this.middle(at) - room * 0.6, first - SIDE);
+    parent.scrollLeft = Math.max(0, wanted, this.middle(at) + LABEL_ROOM * 0.75 - room);
   }
 }
 
