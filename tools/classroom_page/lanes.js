@@ -136,7 +136,7 @@ class Lanes {
     const [from, to] = [this.middle(cause), this.middle(at)];
     shape(group, "path", { d: `M ${from} ${HEAD - 22} V ${y} H ${to} V ${HEAD - 26}` });
     shape(group, "path", { d: `M ${to - 6} ${HEAD - 31} L ${to} ${HEAD - 22} L ${to + 6} ${HEAD - 31} Z`, class: "tip" });
-    shape(group, "text", { x: to + 12, y: y + 8 }, "this is why it failed");
+    shape(group, "text", { x: to + 12, y: y + 8 }, `explained by entry ${cause}`);
   }
 
   // Scrolls to the entry at hand, and as far back as it read, while its labels stay in sight.

@@ -119,8 +119,9 @@ function openingWords(round) {
 }
 
 function tellCause(parent, cause) {
-  add(parent, "strong", "", `Entry ${cause} is why`);
+  add(parent, "strong", "", `Entry ${cause} explains it`);
   add(parent, "span", "", entries[cause].words);
+  add(parent, "small", "", "The first change of thief or victim since the look.");
 }
 
 // ---- the list
@@ -211,6 +212,7 @@ function listen() {
 }
 
 const lanes = new Lanes(part("lanes"), part("names"), entries, facts.cores);
+part("cores").style.setProperty("--cores", facts.cores);
 document.body.classList.add(facts.cores <= 4 ? "few" : facts.cores <= 8 ? "some" : "many");
 part("verdict").textContent = facts.verdict;
 part("verdict").className = facts.word;
