@@ -163,7 +163,8 @@ function drawRound(lanes, group, x, entry) {
 function drawComing(lanes, group, x, entry) {
   const [y, half] = [lanes.y(entry.target), lanes.half * 1.25];
   if (entry.core !== entry.target) shape(group, "line", { x1: x, x2: x, y1: lanes.y(entry.core), y2: y, class: "way" });
-  shape(group, "path", { d: `M ${x - half} ${y - half} H ${x + half} V ${y + half * 0.3} L ${x} ${y + half} L ${x - half} ${y + half * 0.3} Z` });
+  const tip = y + half * 0.3;
+  shape(group, "path", { d: `M ${x - half} ${y - half} H ${x + half} V ${tip} L ${x} ${y + half} L ${x - half} ${tip} Z` });
   named(lanes, group, x, y - half * 0.15, entry.thread);
 }
 
@@ -190,7 +191,8 @@ function drawSteal(lanes, group, x, entry) {
 function drawFail(lanes, group, x, entry) {
   const [from, to, half] = [lanes.y(entry.victim), lanes.y(entry.core), lanes.half * 0.8];
   shape(group, "line", { x1: x, x2: x, y1: from, y2: to, class: "way" });
-  shape(group, "path", { d: `M ${x - half} ${to - half} L ${x + half} ${to + half} M ${x - half} ${to + half} L ${x + half} ${to - half}` });
+  const [left, right, up, down] = [x - half, x + half, to - half, to + half];
+  shape(group, "path", { d: `M ${left} ${up} L ${right} ${down} M ${left} ${down} L ${right} ${up}` });
 }
 
 function drawPass(lanes, group, x, entry) {

@@ -173,7 +173,9 @@ function drawLegend() {
 
 // ---- the steps
 
+const ADDRESS_DELAY = 250;
 let current = 0;
+let addressTimer = 0;
 
 function show(wanted) {
   current = Math.max(0, Math.min(wanted, entries.length - 1));
@@ -184,7 +186,14 @@ function show(wanted) {
     lanes.show(current);
     lanes.follow(part("lanes"), current);
   }
-  window.history.replaceState(null, "", `#at=${current}`);
+  document.body.dataset.at = current;
+  writeAddress();
+}
+
+// The address follows once the steps pause: browsers allow few changes of it in a short time.
+function writeAddress() {
+  clearTimeout(addressTimer);
+  addressTimer = setTimeout(() => window.history.replaceState(null, "", `#at=${current}`), ADDRESS_DELAY);
 }
 
 const STEPS = {
