@@ -1,0 +1,146 @@
+-- What a step leaves to its seat, and what its draw tells.
+use Rattle.std.proofs.Common.{◌≡◌, ℕ, ◌+◌, ◌<◌, true, List, [], ◌∷◌, ◌++◌, length, MatchOption, Option, Some, None, refl, sym, ap, ◌∙◌, subst}
+use Rattle.std.proofs.lemmas.List.{append_assoc}
+use Rattle.policy_tree.specs.Meaning.{Meaning}
+use Rattle.round_model.specs.declared.entry.Entry.{Entry}
+use Rattle.round_model.specs.declared.entry.Entry.TheVariants as entry
+use Rattle.round_model.specs.declared.plan.Plan.{Plan}
+use Rattle.round_model.specs.Legal.{Legal}
+use Rattle.core_state.specs.Logs.{logged}
+use Rattle.core_state.specs.Views.{CoreView}
+use Rattle.core_table.specs.declared.views.Note.{Note}
+use Rattle.core_table.specs.declared.views.Role.TheVariants as role
+use Rattle.core_table.specs.declared.views.View.{View}
+use Rattle.core_table.specs.Plays.{Draws}
+use Rattle.core_table.specs.Public.{publishing}
+use Rattle.core_table.specs.Told.{Agrees, IsSeatOf, IsTrueRole}
+use Rattle.core_table.specs.Views.{giving, holding, meaning_in, note_of_core}
+use Rattle.core_table.proofs.Positions.{above}
+use Rattle.select_phase.specs.Seen.{HasMoreNotes}
+use Rattle.select_phase.proofs.Reading.{behind}
+use Rattle.select_phase.proofs.Viewed.{notes_held}
+use Rattle.steal_phase.specs.Attempts.{HasAdded}
+use Rattle.steal_phase.proofs.Added.{added_one, added_two}
+use Rattle.steal_phase.proofs.Drawn.{agrees_before}
+use Rattle.core_calls.specs.Code.Finishes.{Finished, Glimpsed}
+use Rattle.core_calls.specs.Steps.{Adds, HasLetAllIn, HasNoneDue, IsNext, MayWake, Woken}
+
+-- what a seat knew before it held a core
+module _ (v : View) (free : v.held ≡ []) where
+  pub agrees_one : (c : ℕ) (y : CoreView) → c < v.plan.cores → (h : List Entry) → Agrees (holding c y v) h → Agrees v h
+  agrees_one c y low h ag = agrees_before v h (holding c y v).notes (note_of_core v.start c y ∷ []) (holding c y v).held free (notes_held c y v low) ag
+
+  pub agrees_two : (b c : ℕ) (y z : CoreView) → b < v.plan.cores → c < v.plan.cores → (h : List Entry) → Agrees (holding c z (holding b y v)) h → Agrees v h
+  agrees_two b c y z low high h ag =
+      agrees_before v h (holding c z (holding b y v)).notes (note_of_core v.start c z ∷ note_of_core v.start b y ∷ []) (holding c z (holding b y v)).held free
+      (notes_held c z (holding b y v) high ∙ ap (λ (l : List Note). note_of_core v.start c z ∷ l) (notes_held b y v low)) ag
+
+-- what was drawn is next, by a history with which the view agreed
+next_by : (v w u : View) (at : ℕ) (e : Entry) (d : Draws e w at u) → (let A : Type 0 = Meaning × Plan in let x : A = (meaning_in w, w.plan) in let y : A = (meaning_in v, v.plan) in x ≡ y) → Agrees v d.history
+    → IsNext at e v
+next_by v w u at e d same ag =
+    let plan : w.plan ≡ v.plan = ap (λ (x : Meaning × Plan). x.1) same in
+    record {
+      history = d.history;
+      agrees = ag;
+      position = d.at;
+      legal = subst (λ (x : Meaning × Plan). Legal x.0 x.1 (d.history ++ e ∷ [])) (ap (λ (x : View). (meaning_in x, x.plan)) d.view ∙ same) d.now.legal;
+      above = above v d.history at ag d.at (subst (λ (x : Plan). at < x.limit) plan d.below);
+    }
+
+-- one core was held
+pub adds_one : (v : View) (a at : ℕ) (e : Entry) → IsSeatOf v a → v.held ≡ [] → (c : ℕ) (y : CoreView) → c < v.plan.cores → (w now : View) → w ≡ holding c y v → (b : ℕ) → Finished e b at w now → Adds a at e v now
+adds_one v a at e of_core free c y low w now is b f =
+    let d = subst (λ (x : View). Draws e x at f.drawn) is f.draws in
+    record {
+      added = added_one v a at e of_core c y b f.state free low w f.drawn (publishing b f.state f.drawn) now is f.draws refl f.given;
+      next = next_by v (holding c y v) f.drawn at e d refl (agrees_one v free c y low d.history d.before);
+    }
+
+-- two were
+pub adds_two : (v : View) (a at : ℕ) (e : Entry) → IsSeatOf v a → v.held ≡ [] → (low high : ℕ) (y z : CoreView) → low < v.plan.cores → high < v.plan.cores → (b c : ℕ) (y_now z_now : CoreView) → (w u x now : View) → w ≡ holding high z (holding low y v)
+    → Draws e w at u → x ≡ publishing c z_now (publishing b y_now u) → now ≡ giving (giving x) → now.held ≡ [] → Adds a at e v now
+adds_two v a at e of_core free low high y z inside above b c y_now z_now w u x now is drawn shown given empty =
+    let d = subst (λ (x : View). Draws e x at u) is drawn in
+    record {
+      added = added_two v a at e of_core low high y z b c y_now z_now inside above w u x now is drawn shown given empty;
+      next = next_by v (holding high z (holding low y v)) u at e d refl (agrees_two v free low high y z inside above d.history d.before);
+    }
+
+-- the seat only read before, or held cores and let them go
+module _ (a : ℕ) (v w : View) (g : Glimpsed a v w) (of_core : IsSeatOf v a) where
+  agrees_glimpsed : (h : List Entry) → Agrees w h → Agrees v h
+  agrees_glimpsed h agreed =
+      let ag = subst (λ (x : View). Agrees x h) g.rest agreed in
+      let t = subst (IsTrueRole (meaning_in v) v.plan h v.own) g.of_core.role ag.role in
+      record {
+        fits = ag.fits;
+        handlers = ag.handlers;
+        legal = ag.legal;
+        reserve = ag.reserve;
+        dated = record { round = ag.dated.round; start = ag.dated.start };
+        role = subst (IsTrueRole (meaning_in v) v.plan h v.own) (sym of_core.role) (record {
+          there = t.there;
+          begun = t.begun;
+          is_own = t.is_own;
+          due = λ yes. let both : role.Core a g.of_core.none_due ≡ role.Core a true = sym g.of_core.role ∙ g.marked (of_core.role ∙ ap (role.Core a) yes) in let marked : g.of_core.none_due ≡ true = cc in t.due marked;
+        });
+        notes = λ i x there. ag.notes (length g.more + i) x (behind g.more v.notes i ∙ there);
+        held = ag.held;
+      }
+
+  pub adds_behind : (at : ℕ) (e : Entry) (now : View) → Adds a at e w now → Adds a at e v now
+  adds_behind at e now adds =
+      let s = adds.added in let n = adds.next in let ag = agrees_glimpsed n.history n.agrees in
+      record {
+        added = record {
+          own = s.own ∙ ap (λ (x : View). x.own ++ logged at e ∷ []) g.rest;
+          free = s.free;
+          of_core = s.of_core;
+          marked = λ marked. s.marked (g.marked marked);
+          more = s.more ++ g.more;
+          notes = s.notes ∙ (ap (λ (x : View). s.more ++ x.notes) g.rest ∙ sym (append_assoc s.more g.more v.notes));
+          rest = s.rest ∙ ap (λ (x : View). record x { role = now.role; own = now.own; notes = now.notes; held = now.held }) g.rest;
+        };
+        next = record {
+          history = n.history;
+          agrees = ag;
+          position = n.position;
+          legal = subst (λ (x : View). Legal (meaning_in x) x.plan (n.history ++ e ∷ [])) g.rest n.legal;
+          above = above v n.history at ag n.position (subst (λ (x : View). at < x.plan.limit) g.rest n.above.limit);
+        };
+      }
+
+  pub none_behind : (now : View) → HasNoneDue a w now → HasNoneDue a v now
+  none_behind now none = record {
+    marked = none.marked;
+    more = none.more ++ g.more;
+    rest = none.rest ∙ (ap (λ (x : View). record x { role = now.role; notes = none.more ++ x.notes }) g.rest
+        ∙ (λ i. record v { role = now.role; notes = sym (append_assoc none.more g.more v.notes) i }));
+  }
+
+  pub may_still : HasLetAllIn v a → MayWake w a
+  may_still entered = record { of_core = g.of_core; entered = subst (λ (x : View). HasLetAllIn x a) (sym g.rest) entered; free = g.free }
+
+-- reads alone
+pub noted_only : (a : ℕ) (v w : View) → IsSeatOf v a → v.held ≡ [] → HasMoreNotes v w → Glimpsed a v w
+noted_only a v w of_core free more =
+    let same : w.role ≡ v.role = ap (λ (x : View). x.role) more.is in
+    record {
+      of_core = record { none_due = of_core.none_due; role = same ∙ of_core.role };
+      marked = λ marked. same ∙ marked;
+      free = ap (λ (x : View). x.held) more.is ∙ free;
+      more = more.more;
+      rest = more.is ∙ (λ i. record v { role = sym same i; notes = more.more ++ v.notes });
+    }
+
+-- so a thread woke, or none was due, seen from before
+pub woken_behind : (a : ℕ) (v w : View) → Glimpsed a v w → IsSeatOf v a → (result : Option ℕ) (now : View) → MatchOption result (HasNoneDue a w now) (λ at. Woken a at w now)
+    → MatchOption result (HasNoneDue a v now) (λ at. Woken a at v now)
+woken_behind a v w g of_core None now none = none_behind a v w g of_core now none
+woken_behind a v w g of_core (Some at) now woke = record {
+  thread = woke.thread;
+  to = woke.to;
+  reads = woke.reads;
+  adds = adds_behind a v w g of_core at (entry.Wake woke.thread a woke.to woke.reads) now woke.adds;
+}

@@ -1,0 +1,10 @@
+-- What a contract sees of a core that acts.
+use Rattle.std.specs.Prelude.{ℕ}
+use Rattle.core_table.specs.declared.seat.Table.{Table}
+use Rattle.core_calls.specs.declared.actor.Actor.{Actor}
+
+abbrev pub table_of : Actor → Table
+table_of a = a.table.now
+
+abbrev pub core_of : Actor → ℕ
+core_of a = a.core

@@ -1,0 +1,85 @@
+//! A blocked thread wakes on another core.
+
+ghost use Rattle.std.specs.Prelude.{◌≡◌, ◌≢◌, ◌⊎◌, MatchOption};
+ghost use Rattle.policy_tree.specs.Meaning.{meaning_of};
+ghost use Rattle.core_table.specs.Public.{IsOf, plan_of, policy_of, view_of};
+ghost use Rattle.select_phase.specs.Seen.{Placed};
+ghost use Rattle.steal_phase.specs.Taking.{AreTwo};
+ghost use Rattle.core_calls.specs.Actors.{core_of, table_of};
+ghost use Rattle.core_calls.specs.Code.Sends.{Sends};
+ghost use Rattle.core_calls.specs.Steps.{HasNoneDue, MayWake, Woken};
+
+use crate::actor::Actor;
+use core_table::{Held, HeldTwo, Seat};
+use round_model::Entry;
+use sched_base::{CoreId, Pos, Reads, ThreadId};
+use std::sync::Wait;
+
+impl Actor<'_> {
+    /// Wakes the next thread that is due, and puts it on another core.
+    pub(crate) fn wake_away<R: Wait>(
+        &self,
+        rt: &R,
+        seat: &mut Seat,
+        round: u32,
+        at: CoreId,
+        reads: Reads,
+    ) -> Option<Pos>
+        requires seat { IsOf (table_of self.now) seat.old }
+        requires may { MayWake (view_of seat.old) (core_of self.now) }
+        requires round { round ≡ (view_of seat.old).round }
+        requires away { at ≢ core_of self.now }
+        requires placed { Placed (view_of seat.old) (core_of self.now) at reads }
+        ensures seat { IsOf (table_of self.now) seat.new }
+        ensures woken { MatchOption result (HasNoneDue (core_of self.now) (view_of seat.old) (view_of seat.new))
+            (λ at. Woken (core_of self.now) at (view_of seat.old) (view_of seat.new)) }
+    {
+        let mut held = self.table.hold_two(rt, seat, self.core, at);
+        let Some(thread) = self.send_between(&mut held, round) else {
+            self.table.release_two(seat, held);
+            return None;
+        };
+        let entry = Entry::Wake {
+            thread,
+            by: self.core,
+            at,
+            reads,
+        };
+        let position = self.table.draw_two(seat, &mut held, entry);
+        self.table.publish_two(seat, &held);
+        self.table.release_two(seat, held);
+        Some(position)
+    }
+
+    /// The due thread goes over, from the core's own state to the other that is held.
+    fn send_between(&self, held: &mut HeldTwo, round: u32) -> Option<ThreadId>
+        requires two { AreTwo (meaning_of (policy_of (table_of self.now))) (plan_of (table_of self.now))
+            held.old.low.core held.old.low.state held.old.high.core held.old.high.state }
+        requires own { (core_of self.now ≡ held.old.low.core) ⊎ (core_of self.now ≡ held.old.high.core) }
+        ensures cores { (held.new.low.core ≡ held.old.low.core) × (held.new.high.core ≡ held.old.high.core) }
+        ensures up { core_of self.now ≡ held.old.low.core → Sends (meaning_of (policy_of (table_of self.now)))
+            round result held.old.low.state held.old.high.state held.new.low.state held.new.high.state }
+        ensures down { core_of self.now ≡ held.old.high.core → Sends (meaning_of (policy_of (table_of self.now)))
+            round result held.old.high.state held.old.low.state held.new.high.state held.new.low.state }
+    {
+        if self.core == held.low.core {
+            self.send_due(&mut held.low, &mut held.high, round)
+        } else {
+            self.send_due(&mut held.high, &mut held.low, round)
+        }
+    }
+
+    /// The next thread that is due leaves the one core and comes to the other.
+    fn send_due(&self, from: &mut Held, to: &mut Held, round: u32) -> Option<ThreadId>
+        requires { AreTwo (meaning_of (policy_of (table_of self.now))) (plan_of (table_of self.now))
+            from.old.core from.old.state to.old.core to.old.state }
+        ensures cores { (from.new.core ≡ from.old.core) × (to.new.core ≡ to.old.core) }
+        ensures sent { Sends (meaning_of (policy_of (table_of self.now)))
+            round result from.old.state to.old.state from.new.state to.new.state }
+    {
+        let thread = from.state.due(round)?;
+        let task = from.state.release_blocked(thread);
+        to.state.admit(self.policy, task, false);
+        Some(thread)
+    }
+}
