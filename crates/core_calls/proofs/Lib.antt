@@ -5,3 +5,6 @@ pub mod Standing
 pub mod Drawn
 pub mod Held
 pub mod Sending
+pub mod Turning
+pub mod Arrivals
+pub mod TurnEnds

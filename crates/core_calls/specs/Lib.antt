@@ -1,3 +1,4 @@
 pub mod Actors
 pub mod Code
 pub mod Steps
+pub mod Turns

@@ -1,17 +1,21 @@
-//! What a core does with its own threads in its turn, at the shared table: it lets them in, wakes them, and runs one
-//! unit of work.
+//! What a core does in its turn at the shared table: it lets threads in, wakes those that are due, runs one unit of
+//! work, looks at all cores, and makes its attempt.
 //!
-//! Each call waits for the cores that its entry touches, moves the thread, draws the entry, shows the cores and lets
-//! them go. The entry is legal behind all that was drawn before it, whatever other cores did meanwhile. No call takes
-//! memory. The other two steps of a turn are `look` of `select_phase` and `attempt` of `steal_phase`.
+//! Each step with an entry waits for the cores that this touches, moves the thread, draws the entry, shows the cores
+//! and lets them go. The entry is legal behind all that was drawn before it, whatever other cores did meanwhile. No
+//! call takes memory. The last two steps are `look` of `select_phase` and `attempt` of `steal_phase`.
 #![tactic(auto)]
 
 mod acting;
 pub mod actor;
+mod arriving;
 mod away;
 mod entering;
 mod finishing;
+pub mod turned;
+mod turns;
 mod waking;
 mod working;
 
 pub use crate::actor::Actor;
+pub use crate::turned::Turned;
