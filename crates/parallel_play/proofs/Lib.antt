@@ -1,0 +1,4 @@
+pub mod Counting
+pub mod Rounding
+pub mod Seating
+pub mod Summing

@@ -1,0 +1,6 @@
+use Rattle.std.proofs.Common.{ℕ, ◌≡◌, false, List, [], ◌∷◌, get_or, refl}
+use Rattle.parallel_play.proofs.Counting.{all_false}
+use Rattle.parallel_play.proofs.sums.Tally.new.Goals as goal
+
+pub returns : goal.returns
+returns c = record { entries = refl; ended = λ id. all_false 1024 id }

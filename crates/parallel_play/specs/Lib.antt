@@ -1,0 +1,4 @@
+pub mod Playing
+pub mod Runs
+pub mod Stages
+pub mod Tallies

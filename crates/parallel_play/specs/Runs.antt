@@ -1,0 +1,39 @@
+-- What a run of all cores side by side comes to.
+use Rattle.std.specs.Prelude.{◌≡◌, ℕ, ◌≤◌, List, length, slice_get, IsFalse, Some}
+use Rattle.sched_base.specs.declared.limits.TheConstants.{MAX_ENTRIES}
+use Rattle.policy_tree.specs.Meaning.{Meaning}
+use Rattle.round_laws.specs.MainTheorem.{KeepsLaws}
+use Rattle.round_model.specs.declared.entry.Entry.{Entry}
+use Rattle.round_model.specs.declared.plan.Plan.{Plan}
+use Rattle.round_model.specs.After.{after}
+use Rattle.round_model.specs.Legal.{IsComplete, Legal, Whole}
+use Rattle.round_model.specs.SerialEnds.{IsFull}
+use Rattle.core_state.specs.Logs.{LogsOf}
+use Rattle.core_state.specs.Views.{ClosedView, CoreView}
+use Rattle.parallel_play.specs.declared.fault.RunFault.{RunFault}
+use Rattle.parallel_play.specs.declared.fault.RunFault.TheVariants as fault
+
+-- cores and logs are those of the history, which is legal and keeps the laws of every interleaving
+pub record AreLeftBy (p : Meaning) (plan : Plan) (history : List Entry) (closed : ClosedView) : Type 0 where
+  pub cores : (c : ℕ) (y : CoreView) → slice_get closed.cores c ≡ Some y → y.core ≡ after p plan history c
+  pub logs : LogsOf history closed
+  pub legal : Legal p plan history
+  pub few : length history ≤ MAX_ENTRIES
+  pub keeps : KeepsLaws p plan history
+
+-- so it is of a whole history
+pub record RunsWhole (p : Meaning) (plan : Plan) (closed : ClosedView) : Type 0 where
+  pub history : List Entry
+  pub left : AreLeftBy p plan history closed
+  pub whole : Whole p plan history
+
+-- so it is of a history of complete rounds, behind which a round is due that might not fit the plan's limit
+pub record RunsFull (p : Meaning) (plan : Plan) (closed : ClosedView) : Type 0 where
+  pub history : List Entry
+  pub left : AreLeftBy p plan history closed
+  pub complete : IsComplete plan history
+  pub full : IsFull plan history
+
+-- the cause of the fault
+abbrev pub IsFaultOf : Meaning → Plan → RunFault → Type 0
+IsFaultOf p plan (fault.HistoryFull closed) = RunsFull p plan closed
