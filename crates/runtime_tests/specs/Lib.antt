@@ -1,3 +1,5 @@
+pub mod Crowds
+pub mod Games
 pub mod Merged
 pub mod Stages
 pub mod Tables

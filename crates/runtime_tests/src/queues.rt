@@ -192,6 +192,12 @@ fn step_both(queue: &mut Queue, seats: &mut Items<Seat>, dice: u64) -> Result<bo
     }
 }
 
+/// The dice once they are rolled again. Their upper digits are the best.
+pub(crate) fn rolled(dice: u64) -> u64 {
+    dice.wrapping_mul(6_364_136_223_846_793_005)
+        .wrapping_add(1_442_695_040_888_963_407)
+}
+
 #[test]
 fn a_queue_against_a_plain_list(rt: HostRuntime) -> Result<(), Fail> {
     let elect = order_of(rt.alloc(), false, THREAD_ATTRIBUTES)?;
@@ -200,9 +206,7 @@ fn a_queue_against_a_plain_list(rt: HostRuntime) -> Result<(), Fail> {
     let mut seats = Items::from_vec(Vec::new(rt.alloc()));
     let mut dice: u64 = 2026;
     for turn in 0..2000 {
-        dice = dice
-            .wrapping_mul(6_364_136_223_846_793_005)
-            .wrapping_add(1_442_695_040_888_963_407);
+        dice = rolled(dice);
         assert!(rt; step_both(&mut queue, &mut seats, dice >> 33)?, "at {turn}");
         assert_eq!(rt; queue.len(), seats.len(), "at {turn}");
         let heaviest = number_at(&seats, best_place(&seats, Asked::Steal));

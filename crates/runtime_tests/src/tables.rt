@@ -8,6 +8,7 @@ ghost use Rattle.model_tests.specs.Plans.{two_cores as two_cores_plan};
 ghost use Rattle.model_tests.specs.Policies.{basic};
 ghost use Rattle.runtime_tests.specs.Tables.{HasLogsOf, IsFree, IsOfTwo, IsUnbegun};
 
+use crate::games::closed;
 use crate::merges::signs;
 use core_state::Closed;
 use core_table::{Read, Seat, Table, TableFault};
@@ -91,14 +92,6 @@ fn touched<R: Wait>(rt: &R, table: &Table, mut seat: Seat, core: CoreId) -> Seat
 {
     touch(rt, table, &mut seat, core);
     seat
-}
-
-/// The cores and the logs at the end.
-fn closed(table: Table, seat: Seat) -> Closed
-    requires { IsFree table seat }
-    ensures { HasLogsOf result }
-{
-    table.close(seat)
 }
 
 /// The signs of the entries, back from their logs.

@@ -1,0 +1,10 @@
+use Rattle.std.proofs.Common.{◌≡◌, ◌+◌, ℕ, ap, sym, subst}
+use Rattle.runtime_tests.specs.Games.{IsTaking}
+use Rattle.runtime_tests.proofs.Dealing.{dealt}
+use Rattle.runtime_tests.proofs.seat_threads.play_four.Goals as goal
+
+pub take_back-requires-clause-seat : goal.take_back-requires-clause-seat
+take_back-requires-clause-seat g c =
+    let t = c.args.game.now.table.now in let s = c.deal-fourth.new.seat in
+    let last : c.over.result.core + 1 ≡ 4 = ap (λ n. n + 1) c.over.ensures.core in
+    subst (IsTaking t s) (sym last) (dealt t s 4 c.deal-fourth.ensures.seat (sym c.requires.four))
