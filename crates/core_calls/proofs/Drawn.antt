@@ -19,7 +19,6 @@ use Rattle.core_table.proofs.Positions.{above}
 use Rattle.select_phase.specs.Seen.{HasMoreNotes}
 use Rattle.select_phase.proofs.Reading.{behind}
 use Rattle.select_phase.proofs.Viewed.{notes_held}
-use Rattle.steal_phase.specs.Attempts.{HasAdded}
 use Rattle.steal_phase.proofs.Added.{added_one, added_two}
 use Rattle.steal_phase.proofs.Drawn.{agrees_before}
 use Rattle.core_calls.specs.Code.Finishes.{Finished, Glimpsed}

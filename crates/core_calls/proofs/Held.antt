@@ -1,5 +1,5 @@
 -- A core that the seat of another or its own holds: what its calls ask, by what the seat knows.
-use Rattle.std.proofs.Common.{◌≡◌, ℕ, ◌<◌, ◌≤◌, List, IsSome, Some, option_map, refl, sym, ap, ◌∙◌, subst, arith}
+use Rattle.std.proofs.Common.{◌≡◌, ℕ, ◌<◌, ◌≤◌, List, IsSome, Some, option_map, refl, sym, subst, arith}
 use Rattle.std.specs.Prelude.{IsSomeAnd}
 use Rattle.sched_base.specs.declared.limits.TheConstants.{MAX_ROUNDS}
 use Rattle.sched_base.specs.declared.task.Task.{Task}
@@ -12,9 +12,7 @@ use Rattle.round_model.specs.declared.plan.Plan.{Plan}
 use Rattle.round_model.specs.declared.plan.Planned.{Planned}
 use Rattle.round_model.specs.declared.state.Blocked.{Blocked}
 use Rattle.round_model.specs.declared.state.ModelCore.{ModelCore}
-use Rattle.round_model.specs.Entries.{acting_core}
 use Rattle.round_model.specs.Fits.{Fits}
-use Rattle.round_model.specs.Legal.{LegalNext}
 use Rattle.round_model.specs.Moves.{blocked_of, released}
 use Rattle.round_model.specs.Programs.{entering_task, planned_of}
 use Rattle.round_model.specs.Scenes.{entering_next, waking_next}

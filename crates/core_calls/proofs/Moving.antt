@@ -1,5 +1,5 @@
 -- What each entry makes of the cores that a seat holds.
-use Rattle.std.proofs.Common.{◌≡◌, ◌≢◌, ℕ, ◌<◌, ◌⊎◌, inl, inr, ◌||◌, eqb, Bool, true, false, cond, List, [], ◌∷◌, Option, Some, None, option_map, refl, sym, ap, ◌∙◌, arith, eq-eqb, ne_eqb}
+use Rattle.std.proofs.Common.{◌≡◌, ◌≢◌, ℕ, ◌<◌, ◌⊎◌, inl, inr, ◌||◌, eqb, Bool, true, false, cond, List, [], ◌∷◌, Option, Some, refl, sym, ap, ◌∙◌, arith, eq-eqb, ne_eqb}
 use Rattle.std.proofs.lemmas.Bool.Decides.{nat_tests}
 use mathlib.Core.Logic.{dite}
 use native.Mathlib.Decide.{ℕ_discrete}
@@ -21,7 +21,6 @@ use Rattle.round_model.specs.Moves.{admitted, blocked_of, is_blocked_task, relea
 use Rattle.round_model.specs.Programs.{entering_task, planned_of}
 use Rattle.round_model.specs.Work.{core_after_work}
 use Rattle.round_model.proofs.Finding.{find-passes}
-use Rattle.round_model.proofs.Moved.{blocked_found}
 use Rattle.core_state.specs.Views.{CoreView}
 use Rattle.core_table.specs.declared.views.View.{View}
 use Rattle.core_table.specs.Public.{HasMoved, HasMovedTwo, IsMoved}

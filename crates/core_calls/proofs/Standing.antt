@@ -1,5 +1,5 @@
 -- What the calls of a held core ask, where a legal history left it so.
-use Rattle.std.proofs.Common.{◌≡◌, ◌≢◌, ℕ, ◌+◌, ◌<◌, ◌≤◌, eqb, cond, List, length, IsSome, Option, Some, option_map, refl, sym, ap, ◌∙◌, subst, arith, eq-eqb, ne_eqb}
+use Rattle.std.proofs.Common.{◌≡◌, ◌≢◌, ℕ, ◌<◌, cond, List, length, IsSome, Some, option_map, refl, sym, ap, ◌∙◌, subst, arith, eq-eqb, ne_eqb}
 use Rattle.sched_base.specs.declared.task.Task.{Task}
 use Rattle.policy_tree.specs.Meaning.{Meaning}
 use Rattle.policy_eval.specs.Fitting.{IsTask}
@@ -20,7 +20,7 @@ use Rattle.round_model.specs.Legal.{Legal, LegalNext}
 use Rattle.round_model.specs.Moves.{blocked_of, released}
 use Rattle.round_model.proofs.Keeping.{holds_released, standing_released}
 use Rattle.round_model.proofs.Moved.{blocked_task_fits}
-use Rattle.core_state.specs.Views.{CoreView, HasRoom}
+use Rattle.core_state.specs.Views.{CoreView}
 use Rattle.core_moves.specs.Code.Changes.{CanAdmit, CanRun}
 use Rattle.core_moves.specs.Cores.{shown}
 use Rattle.core_moves.proofs.Reached.{can_admit, can_enter, can_run, core_holds}

@@ -1,11 +1,8 @@
 -- What a turn's seat knows of its own entries, step by step.
-use Rattle.std.proofs.Common.{◌≡◌, ℕ, zero, suc, ◌+◌, ◌<◌, ◌≤◌, eqb, ◌||◌, ◌&&◌, not, Bool, true, false, cond, List, [], ◌∷◌, ◌++◌, drop, map, find, length, is_none, MatchOption, IsNone, Option, Some, None, refl, sym, ap, ◌∙◌, subst, arith}
+use Rattle.std.proofs.Common.{◌≡◌, ℕ, ◌+◌, ◌<◌, eqb, ◌||◌, ◌&&◌, not, Bool, true, false, cond, List, [], ◌∷◌, ◌++◌, drop, map, find, length, IsNone, Option, Some, None, refl, sym, ap, ◌∙◌, subst, arith}
 use Rattle.std.specs.List.{list_any}
-use Rattle.std.specs.Prelude.{IsFalse, IsTrue}
 use Rattle.std.proofs.lemmas.List.{length-drop, length_push, map-append}
 use Rattle.std.proofs.lemmas.List.Folds.{list_any-append}
-use mathlib.Core.Option.{some, some-injective, some-ne-none}
-use lib.ListN.{get_elem?}
 use Rattle.sched_base.specs.declared.limits.TheConstants.{MAX_ENTRIES}
 use Rattle.round_model.specs.declared.entry.Entry.{Entry}
 use Rattle.round_model.specs.declared.plan.Plan.{Plan}
@@ -20,12 +17,12 @@ use Rattle.core_state.specs.declared.logged.Logged.{Logged}
 use Rattle.core_state.specs.Logs.{logged}
 use Rattle.core_table.specs.declared.views.Role.TheVariants as role
 use Rattle.core_table.specs.declared.views.View.{View}
-use Rattle.core_table.specs.Told.{Agrees, IsSeatOf, IsTrueRole}
+use Rattle.core_table.specs.Told.{IsSeatOf, IsTrueRole}
 use Rattle.core_table.specs.Views.{meaning_in}
 use Rattle.core_table.proofs.Histories.{log_short, own_is}
 use Rattle.steal_phase.specs.Attempts.{HasAdded, own_entries_in}
 use Rattle.core_calls.specs.Code.Arrivals.{HasDrawn}
-use Rattle.core_calls.specs.Steps.{Adds, HasLetAllIn, HasNoneDue, Woken}
+use Rattle.core_calls.specs.Steps.{Adds, HasLetAllIn, HasNoneDue}
 use Rattle.core_calls.specs.Turns.{IsFresh, IsOver}
 
 -- the seat's own entries, once one more was drawn

@@ -32,7 +32,7 @@ impl Actor<'_> {
         requires seat { IsOf (table_of self.now) seat.old }
         requires fresh { IsFresh (view_of seat.old) (core_of self.now) }
         requires round { round ≡ (view_of seat.old).round }
-        requires gate { (c r : ℕ) → IsTrue (G.admits gate.now c r) }
+        requires gate { IsTrue (G.admits gate.now (core_of self.now) round) }
         ensures seat { IsOf (table_of self.now) seat.new }
         ensures turned { HasTurned (core_of self.now) result (view_of seat.old) (view_of seat.new) }
     {
@@ -52,7 +52,7 @@ impl Actor<'_> {
         requires seat { IsOf (table_of self.now) seat.old }
         requires worked { IsTrue (has_worked (own_entries_in (view_of seat.old))) }
         requires free { (view_of seat.old).held ≡ [] }
-        requires gate { (c r : ℕ) → IsTrue (G.admits gate.now c r) }
+        requires gate { IsTrue (G.admits gate.now (core_of self.now) round) }
         ensures seat { IsOf (table_of self.now) seat.new × HasMoreNotes (view_of seat.old) (view_of seat.new) }
         ensures by { result.by ≡ core_of self.now }
         ensures looked { Looked (view_of seat.new) result }

@@ -1,5 +1,5 @@
 -- What is counted, and what follows from it.
-use Rattle.std.proofs.Common.{◌≡◌, ◌≢◌, ℕ, zero, suc, ◌<◌, ◌≤◌, eqb, ◌||◌, Bool, true, false, List, [], ◌∷◌, get_or, length, replicate, refl, sym, ap, ◌∙◌, arith}
+use Rattle.std.proofs.Common.{◌≡◌, ℕ, zero, suc, ◌<◌, ◌||◌, Bool, true, false, List, [], ◌∷◌, get_or, length, replicate, refl, ap, ◌∙◌, arith}
 use Rattle.std.specs.List.{list_any}
 
 module _ {X : Type 0} (test : X → Bool) where

@@ -1,7 +1,6 @@
 -- From round to round: what is counted is so of every history with which the opening seat's view agrees.
-use Rattle.std.proofs.Common.{◌≡◌, ℕ, zero, suc, ◌+◌, ◌==◌, ◌<◌, ◌≤◌, ◌||◌, ◌&&◌, not, nat_lt, Bool, true, false, min, List, [], ◌∷◌, ◌++◌, drop, take, map, length, All, get_or, refl, sym, ap, ◌∙◌, subst, arith}
+use Rattle.std.proofs.Common.{◌≡◌, ℕ, zero, suc, ◌+◌, ◌==◌, ◌<◌, ◌≤◌, ◌||◌, ◌&&◌, not, nat_lt, Bool, true, false, List, [], ◌∷◌, ◌++◌, map, length, All, get_or, refl, sym, ap, ◌∙◌, subst, arith}
 use Rattle.std.specs.List.{list_all, list_any, range_with_len, sum_by}
-use Rattle.std.specs.Prelude.{IsFalse, IsTrue}
 use Rattle.std.proofs.lemmas.Bool.Decides.{nat_tests}
 use Rattle.std.proofs.lemmas.List.Folds.{list_any-append}
 use Rattle.std.proofs.lemmas.List.{length-map}
@@ -22,7 +21,6 @@ use Rattle.round_model.specs.Cores.{core_numbers}
 use Rattle.round_model.specs.Entries.{ends}
 use Rattle.round_model.specs.Fits.{Fits}
 use Rattle.round_model.specs.Legal.{IsComplete, Legal, has_ended, is_complete, is_due, rounds_begun}
-use Rattle.round_model.specs.Reads.{round_start}
 use Rattle.round_model.specs.Scenes.{has_attempted, own_entries}
 use Rattle.round_model.specs.SerialEnds.{RoundFits}
 use Rattle.round_model.proofs.Between.{has_ended_split}
@@ -43,7 +41,7 @@ use Rattle.core_table.proofs.Histories.{entry_at, own_is}
 use Rattle.parallel_play.specs.declared.sums.Tally.{Tally}
 use Rattle.parallel_play.specs.Playing.{BeganAndPlayed, IsPlayed, entries_in, entries_of, log_in, merged_in}
 use Rattle.parallel_play.specs.Runs.{AreLeftBy, RunsFull, RunsWhole}
-use Rattle.parallel_play.specs.Tallies.{IsEmpty, MAX_COUNT, due_by, flag_of}
+use Rattle.parallel_play.specs.Tallies.{IsEmpty, due_by, flag_of}
 use Rattle.parallel_play.proofs.Seating.{begun_idle, played_back}
 use Rattle.parallel_play.proofs.Summing.{all_numbers, any_by_number, any_same, entries_split, sums_by_number}
 
@@ -228,7 +226,8 @@ module _ (begun : ℕ) (t : Tally) (v : View) (between : IsBetween begun t v) wh
           cores = λ c y there. of_these (λ q pl. y.core ≡ after q pl ends_so.history c) (ends_so.cores c y there).core;
           logs = ends_so.logs;
           legal = legal;
-          few = let room = ag.reserve in let most = ag.fits.few_entries in omega arith;
+          count = of_these (λ q pl. length closed.cores ≡ pl.cores) ends_so.count;
+          few = of_these (λ q pl. length ends_so.history ≤ pl.limit) (let room = ag.reserve in omega arith);
           keeps = main_theorem p meets plan ends_so.history (of_these Fits ag.fits) legal;
         }
 

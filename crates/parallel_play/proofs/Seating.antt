@@ -1,27 +1,21 @@
 -- Cores that play side by side, one after the other in the opening seat's view.
-use Rattle.std.proofs.Common.{◌≡◌, ◌≢◌, ℕ, zero, suc, ◌+◌, ◌<◌, ◌≤◌, ◌||◌, Bool, true, false, min, List, [], ◌∷◌, ◌++◌, drop, map, length, set, refl, sym, ap, ◌∙◌, subst, ⊎_elim, arith, length-set}
-use Rattle.std.specs.List.{list_any, sum_by}
-use Rattle.std.specs.Prelude.{IsTrue}
+use Rattle.std.proofs.Common.{◌≡◌, ◌≢◌, ℕ, zero, suc, ◌+◌, ◌<◌, ◌≤◌, ◌||◌, Bool, true, false, List, [], ◌∷◌, ◌++◌, drop, map, length, set, refl, sym, ap, ◌∙◌, subst, ⊎_elim, arith, length-set}
+use Rattle.std.specs.List.{list_any}
 use Rattle.std.proofs.lemmas.List.{drop-set}
 use Rattle.std.proofs.lemmas.List.Sums.{sum_by-cons}
 use mathlib.Core.Option.{some}
 use lib.ListN.{get_elem?, length-replicate}
 use Rattle.atomic_table.proofs.Lists.{at_set, set_else}
-use Rattle.sched_base.specs.declared.limits.TheConstants.{MAX_THREADS}
-use Rattle.round_model.specs.declared.entry.Entry.{Entry}
 use Rattle.round_model.specs.declared.entry.Entry.TheVariants as entry
 use Rattle.round_model.specs.After.{after}
 use Rattle.round_model.specs.Entries.{ends}
-use Rattle.core_state.specs.declared.logged.Logged.{Logged}
-use Rattle.core_table.specs.declared.views.HeldCore.{HeldCore}
-use Rattle.core_table.specs.declared.views.Role.{Role}
 use Rattle.core_table.specs.declared.views.Role.TheVariants as role
 use Rattle.core_table.specs.declared.views.Turn.{Turn}
 use Rattle.core_table.specs.declared.views.Turn.TheVariants as turn
 use Rattle.core_table.specs.declared.views.View.{View}
 use Rattle.core_table.specs.Plays.{Begins}
-use Rattle.core_table.specs.Told.{HasAllBack, HasIdle, IsIn, IsKnown}
-use Rattle.core_table.specs.Views.{all_idle, held_grown, joining, leaving, meaning_in, seat_of_core}
+use Rattle.core_table.specs.Told.{HasAllBack, HasIdle, IsIn}
+use Rattle.core_table.specs.Views.{all_idle, held_grown, leaving, meaning_in, seat_of_core}
 use Rattle.core_table.proofs.Beginning.{idle_at}
 use Rattle.core_table.proofs.Histories.{at_less, entry_at}
 use Rattle.core_table.proofs.Joining.{joining_is, leaving_is}

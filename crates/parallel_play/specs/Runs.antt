@@ -1,6 +1,5 @@
 -- What a run of all cores side by side comes to.
-use Rattle.std.specs.Prelude.{◌≡◌, ℕ, ◌≤◌, List, length, slice_get, IsFalse, Some}
-use Rattle.sched_base.specs.declared.limits.TheConstants.{MAX_ENTRIES}
+use Rattle.std.specs.Prelude.{◌≡◌, ℕ, ◌≤◌, List, length, slice_get, Some}
 use Rattle.policy_tree.specs.Meaning.{Meaning}
 use Rattle.round_laws.specs.MainTheorem.{KeepsLaws}
 use Rattle.round_model.specs.declared.entry.Entry.{Entry}
@@ -18,7 +17,8 @@ pub record AreLeftBy (p : Meaning) (plan : Plan) (history : List Entry) (closed 
   pub cores : (c : ℕ) (y : CoreView) → slice_get closed.cores c ≡ Some y → y.core ≡ after p plan history c
   pub logs : LogsOf history closed
   pub legal : Legal p plan history
-  pub few : length history ≤ MAX_ENTRIES
+  pub count : length closed.cores ≡ plan.cores
+  pub few : length history ≤ plan.limit
   pub keeps : KeepsLaws p plan history
 
 -- so it is of a whole history

@@ -1,5 +1,5 @@
 -- What is counted from round to round.
-use Rattle.std.specs.Prelude.{◌≡◌, ℕ, ◌+◌, ◌≤◌, ◌&&◌, ◌||◌, nat_lt, not, false, Bool, get_or, min, IsTrue}
+use Rattle.std.specs.Prelude.{◌≡◌, ℕ, ◌+◌, ◌≤◌, ◌&&◌, ◌||◌, nat_lt, not, false, Bool, get_or, min}
 use Rattle.std.specs.List.{list_any}
 use Rattle.sched_base.specs.declared.limits.TheConstants.{MAX_THREADS}
 use Rattle.round_model.specs.declared.plan.Plan.{Plan}

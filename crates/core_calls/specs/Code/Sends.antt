@@ -1,6 +1,5 @@
 -- A thread that is due goes over from one held core to another, as the code does it. No promise rests on this.
 use Rattle.std.specs.Prelude.{◌≡◌, ℕ, false, option_map, Option, Some, None}
-use Rattle.sched_base.specs.declared.task.Task.{Task}
 use Rattle.policy_tree.specs.Meaning.{Meaning}
 use Rattle.round_model.specs.declared.state.Blocked.{Blocked}
 use Rattle.round_model.specs.declared.state.ModelCore.{ModelCore}

@@ -1,4 +1,4 @@
-use Rattle.std.proofs.Common.{◌+◌, ◌<◌, ap, sym, subst, arith}
+use Rattle.std.proofs.Common.{ap, arith}
 use Rattle.round_model.specs.declared.plan.Plan.{Plan}
 use Rattle.core_table.specs.Public.{view_of}
 use Rattle.parallel_play.specs.Playing.{merged_in}

@@ -1,9 +1,8 @@
 use Rattle.std.proofs.Common.{◌+◌, ap, sym, subst, arith}
 use Rattle.round_model.specs.declared.plan.Plan.{Plan}
 use Rattle.core_table.specs.Public.{view_of}
-use Rattle.core_table.specs.declared.views.View.{View}
 use Rattle.parallel_play.specs.Playing.{IdleFrom}
-use Rattle.parallel_play.proofs.Seating.{fresh_seat, is_idle, left_idle}
+use Rattle.parallel_play.proofs.Seating.{is_idle, left_idle}
 use Rattle.parallel_play.proofs.turns.split_off.Goals as goal
 
 pub split_for_core-own-requires-clause-idle : goal.split_for_core-own-requires-clause-idle

@@ -1,4 +1,4 @@
-use Rattle.std.proofs.Common.{ℕ, ◌<◌, ◌≡◌, is_some, ap, ◌∙◌, sym, subst, refl, true, false, IsSome}
+use Rattle.std.proofs.Common.{ℕ, ◌<◌, ◌≡◌, is_some, ap, ◌∙◌, sym, subst, true, false}
 use Rattle.std.specs.Prelude.{IsSomeAnd}
 use Rattle.policy_tree.specs.Meaning.{Meaning, meaning_of}
 use Rattle.round_model.specs.declared.entry.Entry.TheVariants as entry
@@ -10,7 +10,7 @@ use Rattle.round_model.specs.Scenes.{entering_next}
 use Rattle.core_table.specs.declared.views.View.{View}
 use Rattle.core_table.specs.Public.{HasMoved, view_of}
 use Rattle.core_table.specs.Told.{IsLocalIn}
-use Rattle.core_table.specs.Views.{holding, meaning_in, taken}
+use Rattle.core_table.specs.Views.{holding, meaning_in}
 use Rattle.select_phase.proofs.Viewed.{placed_held}
 use Rattle.steal_phase.specs.Attempts.{own_entries_in}
 use Rattle.core_calls.proofs.Drawn.{adds_behind, adds_one, noted_only}

@@ -1,12 +1,12 @@
-use Rattle.std.proofs.Common.{ℕ, suc, ◌+◌, ◌<◌, ◌≤◌, ◌≡◌, eqb, true, get_or, length, List, ap, ◌∙◌, sym, subst, refl, arith}
+use Rattle.std.proofs.Common.{ℕ, suc, ◌+◌, ◌<◌, ◌≡◌, get_or, length, List, ap, ◌∙◌, sym, subst, arith}
 use Rattle.round_model.specs.declared.plan.Plan.{Plan}
 use Rattle.round_model.specs.declared.plan.Planned.{Planned}
 use Rattle.round_model.specs.declared.entry.Entry.TheVariants as entry
 use Rattle.core_table.specs.declared.seat.Seat.{Seat}
 use Rattle.core_table.specs.declared.views.View.{View}
 use Rattle.core_table.specs.Public.{view_of}
-use Rattle.core_calls.proofs.Arrivals.{HasPassed, all_passed, may_enter_here, none_passed, other_core, other_round, passed_by, passed_in}
-use Rattle.core_calls.proofs.Turning.{none_drawn, own_few}
+use Rattle.core_calls.proofs.Arrivals.{HasPassed, all_passed, may_enter_here, other_core, other_round, passed_by, passed_in}
+use Rattle.core_calls.proofs.Turning.{own_few}
 use Rattle.core_calls.proofs.actor.Actor.enter_all.Goals.{then-thread-self+then-thread-round, else-thread-self, else-thread-self-via-then-thread-self+else-thread-round, else-thread-self-via-else-thread-self}
 use Rattle.core_calls.proofs.actor.Actor.enter_all.Goals as goal
 

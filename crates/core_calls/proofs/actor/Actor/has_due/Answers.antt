@@ -1,4 +1,4 @@
-use Rattle.std.proofs.Common.{ℕ, ◌<◌, ◌≡◌, is_some, ap, ◌∙◌, sym, subst, refl, true, false, IsSome}
+use Rattle.std.proofs.Common.{◌<◌, ap, ◌∙◌, sym, subst}
 use Rattle.round_model.specs.declared.plan.Plan.{Plan}
 use Rattle.core_table.specs.Public.{view_of}
 use Rattle.round_model.specs.Scenes.{waking_next}

@@ -1,5 +1,5 @@
 use Rattle.std.proofs.Common.{ℕ, ◌<◌, ◌≡◌, ◌≢◌, max, min, Option, Some, None, ap, ◌∙◌, sym, subst, refl, arith}
-use Rattle.policy_tree.specs.Meaning.{Meaning, meaning_of}
+use Rattle.policy_tree.specs.Meaning.{meaning_of}
 use Rattle.round_model.specs.declared.entry.Entry.TheVariants as entry
 use Rattle.round_model.specs.declared.plan.Plan.{Plan}
 use Rattle.core_table.specs.declared.views.View.{View}

@@ -1,5 +1,5 @@
-use Rattle.std.proofs.Common.{ℕ, ◌<◌, ◌≡◌, is_some, ap, ◌∙◌, sym, subst, refl, true, false, IsSome}
-use Rattle.policy_tree.specs.Meaning.{Meaning, meaning_of}
+use Rattle.std.proofs.Common.{ℕ, ◌<◌, ◌≡◌, ap, ◌∙◌, sym, subst, refl, false}
+use Rattle.policy_tree.specs.Meaning.{meaning_of}
 use Rattle.round_model.specs.declared.entry.Entry.TheVariants as entry
 use Rattle.round_model.specs.declared.plan.Plan.{Plan}
 use Rattle.round_model.specs.Moves.{admitted, blocked_of, released}

@@ -1,12 +1,10 @@
 use Rattle.std.proofs.Common.{ℕ, ◌<◌, ◌≡◌, ap, ◌∙◌, sym, subst, refl, true}
 use Rattle.policy_tree.specs.Meaning.{Meaning, meaning_of}
-use Rattle.round_model.specs.declared.entry.Entry.{Entry}
 use Rattle.round_model.specs.declared.entry.Entry.TheVariants as entry
 use Rattle.round_model.specs.declared.plan.Plan.{Plan}
 use Rattle.round_model.specs.Work.{IsOutcomeOfWork, core_after_work}
-use Rattle.core_state.specs.Views.{CoreView}
 use Rattle.core_table.specs.declared.views.View.{View}
-use Rattle.core_table.specs.Public.{HasMoved, plan_of, view_of}
+use Rattle.core_table.specs.Public.{HasMoved, view_of}
 use Rattle.core_table.specs.Told.{IsLocalIn}
 use Rattle.core_table.specs.Views.{holding, meaning_in, taken}
 use Rattle.core_calls.proofs.Drawn.{adds_one}

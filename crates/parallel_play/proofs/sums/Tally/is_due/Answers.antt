@@ -1,4 +1,4 @@
-use Rattle.std.proofs.Common.{ℕ, ◌<◌, ◌≡◌, ◌&&◌, not, true, false, nat_lt, get_or, length, List, Bool, refl, ap, ◌∙◌, sym, arith}
+use Rattle.std.proofs.Common.{◌≡◌, ◌&&◌, not, true, false, nat_lt, length, Bool, refl, ap, ◌∙◌, sym, arith}
 use Rattle.std.specs.List.{list_any}
 use Rattle.round_model.specs.declared.plan.Planned.{Planned}
 use Rattle.parallel_play.specs.Tallies.{flag_of}

@@ -1,4 +1,4 @@
-use Rattle.std.proofs.Common.{ℕ, ◌≡◌, false, List, [], ◌∷◌, get_or, refl}
+use Rattle.std.proofs.Common.{refl}
 use Rattle.parallel_play.proofs.Counting.{all_false}
 use Rattle.parallel_play.proofs.sums.Tally.new.Goals as goal
 
