@@ -11,10 +11,10 @@ _ipanema() {
   local word="${COMP_WORDS[COMP_CWORD]}" wanted=""
   COMPREPLY=()
   case "$COMP_CWORD,${COMP_WORDS[1]}" in
-    1,*) wanted="check explain play replay report make bench" ;;
-    2,check | 2,explain | 2,play | 2,replay | 2,report) _ipanema_files policy "$word" ;;
+    1,*) wanted="check explain play run replay report make bench" ;;
+    2,check | 2,explain | 2,play | 2,run | 2,replay | 2,report) _ipanema_files policy "$word" ;;
     3,explain) wanted="B1 B2 B3 H1.enqueue H2.enqueue H1.tick H2.tick H1.yield H2.yield H1.block H2.block" ;;
-    3,play | 3,replay | 3,report) _ipanema_files trace "$word" ;;
+    3,play | 3,run | 3,replay | 3,report) _ipanema_files trace "$word" ;;
     4,replay | 4,report) _ipanema_files history "$word" ;;
   esac
   [ -z "$wanted" ] || mapfile -t COMPREPLY < <(compgen -W "$wanted" -- "$word")
