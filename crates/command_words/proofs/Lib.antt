@@ -1,3 +1,4 @@
 pub mod NamesFound
 pub mod Sizes
 pub mod Walks
+pub mod Verbs

@@ -5,7 +5,7 @@ use Rattle.std.specs.List.{list_all}
 use Rattle.std.specs.Str.{bytes_eq}
 use Rattle.obligations.specs.declared.names.ObName.{ObName}
 use Rattle.command_words.specs.Command.{Asked, asked_by, asked_plainly, bench, check, explain, is_plain, make, name_of, play}
-use Rattle.command_words.specs.Command.{replay, report}
+use Rattle.command_words.specs.Command.{replay, report, run}
 use Rattle.command_words.specs.Numbers.{is_size, seed_in, size_in}
 
 -- if a trace is to be made, its size is one, and if one is to be played too
@@ -73,6 +73,10 @@ played : (policy trace : List ℕ) → IsSized (Some (play policy trace))
 played policy trace =
     record { made = λ s n e. absurd (let bad = e in cc); benched = λ s n e. absurd (let bad = e in cc) }
 
+ran : (policy trace : List ℕ) → IsSized (Some (run policy trace))
+ran policy trace =
+    record { made = λ s n e. absurd (let bad = e in cc); benched = λ s n e. absurd (let bad = e in cc) }
+
 replayed : (policy trace history : List ℕ) → IsSized (Some (replay policy trace history))
 replayed policy trace history =
     record { made = λ s n e. absurd (let bad = e in cc); benched = λ s n e. absurd (let bad = e in cc) }
@@ -92,8 +96,9 @@ plainly (verb ∷ a ∷ []) = either (bytes_eq (codes "check") verb) _ _ (checke
 plainly (verb ∷ a ∷ b ∷ []) =
     either (bytes_eq (codes "explain") verb) _ _ (explained a (name_of b))
     (either (bytes_eq (codes "play") verb) _ _ (played a b)
+    (either (bytes_eq (codes "run") verb) _ _ (ran a b)
     (either (bytes_eq (codes "make") verb) _ _ (made (seed_in a) b)
-    (either (bytes_eq (codes "bench") verb) _ _ (benched (seed_in a) b) nothing)))
+    (either (bytes_eq (codes "bench") verb) _ _ (benched (seed_in a) b) nothing))))
 plainly (verb ∷ a ∷ b ∷ c ∷ []) =
     either (bytes_eq (codes "replay") verb) _ _ (replayed a b c)
     (either (bytes_eq (codes "report") verb) _ _ (reported a b c) nothing)

@@ -60,6 +60,13 @@ play (one a) = simp a.plain
 play (two a b) = simp (a.plain, b.plain)
 play (three a b c) = simp (a.plain, b.plain, c.plain)
 
+run : (behind : Behind) → AgreesAt (codes "run" ∷ texts behind)
+unfolding clap_on_literals
+run none = refl
+run (one a) = simp a.plain
+run (two a b) = simp (a.plain, b.plain)
+run (three a b c) = simp (a.plain, b.plain, c.plain)
+
 replay : (behind : Behind) → AgreesAt (codes "replay" ∷ texts behind)
 unfolding clap_on_literals
 replay none = refl
@@ -93,16 +100,17 @@ other : (v : Word) (behind : Behind)
     → bytes_eq (codes "check") (text v) ≡ false
     → bytes_eq (codes "explain") (text v) ≡ false
     → bytes_eq (codes "play") (text v) ≡ false
+    → bytes_eq (codes "run") (text v) ≡ false
     → bytes_eq (codes "replay") (text v) ≡ false
     → bytes_eq (codes "report") (text v) ≡ false
     → bytes_eq (codes "make") (text v) ≡ false
     → bytes_eq (codes "bench") (text v) ≡ false
     → AgreesAt (text v ∷ texts behind)
 unfolding clap_on_literals
-other v none a b c d e f g = simp (v.plain, a, b, c, d, e, f, g)
-other v (one w) a b c d e f g = simp (v.plain, w.plain, a, b, c, d, e, f, g)
-other v (two w x) a b c d e f g = simp (v.plain, w.plain, x.plain, a, b, c, d, e, f, g)
-other v (three w x y) a b c d e f g = simp (v.plain, w.plain, x.plain, y.plain, a, b, c, d, e, f, g)
+other v none a b c d e f g h = simp (v.plain, a, b, c, d, e, f, g, h)
+other v (one w) a b c d e f g h = simp (v.plain, w.plain, a, b, c, d, e, f, g, h)
+other v (two w x) a b c d e f g h = simp (v.plain, w.plain, x.plain, a, b, c, d, e, f, g, h)
+other v (three w x y) a b c d e f g h = simp (v.plain, w.plain, x.plain, y.plain, a, b, c, d, e, f, g, h)
 
 -- the verb is this one, or it isn't
 at_verb : (verb word : Text) (P : Text → Type 0) → P verb → (bytes_eq verb word ≡ false → P word) → P word
@@ -118,11 +126,12 @@ with_verb v behind =
     at_verb (codes "check") (text v) P (check behind) (λ a.
     at_verb (codes "explain") (text v) P (explain behind) (λ b.
     at_verb (codes "play") (text v) P (play behind) (λ c.
-    at_verb (codes "replay") (text v) P (replay behind) (λ d.
-    at_verb (codes "report") (text v) P (report behind) (λ e.
-    at_verb (codes "make") (text v) P (make behind) (λ f.
-    at_verb (codes "bench") (text v) P (bench behind) (λ g.
-    other v behind a b c d e f g)))))))
+    at_verb (codes "run") (text v) P (run behind) (λ d.
+    at_verb (codes "replay") (text v) P (replay behind) (λ e.
+    at_verb (codes "report") (text v) P (report behind) (λ f.
+    at_verb (codes "make") (text v) P (make behind) (λ g.
+    at_verb (codes "bench") (text v) P (bench behind) (λ h.
+    other v behind a b c d e f g h))))))))
 
 no_words : AgreesAt []
 unfolding clap_on_literals

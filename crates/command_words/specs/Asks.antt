@@ -1,14 +1,15 @@
 -- What a request asks for.
 use Rattle.std.specs.Prelude.{Option, Some, None}
-use Rattle.command_words.specs.Command.{Asked, bench, check, explain, make, play, replay, report}
+use Rattle.command_words.specs.Command.{Asked, bench, check, explain, make, play, replay, report, run}
 use Rattle.command_words.specs.declared.request.Request.{Request}
-use Rattle.command_words.specs.declared.request.Request.TheVariants.{Bench, Check, Explain, Make, Play, Replay, Report}
+use Rattle.command_words.specs.declared.request.Request.TheVariants.{Bench, Check, Explain, Make, Play, Replay, Report, Run}
 use Rattle.command_words.specs.declared.request.Request.TheVariants.{Unknown}
 
 abbrev pub asked : Request → Option Asked
 asked (Check policy) = Some (check policy.now)
 asked (Explain policy name) = Some (explain policy.now name)
 asked (Play policy trace) = Some (play policy.now trace.now)
+asked (Run policy trace) = Some (run policy.now trace.now)
 asked (Replay policy trace history) = Some (replay policy.now trace.now history.now)
 asked (Report policy trace history) = Some (report policy.now trace.now history.now)
 asked (Make seed size) = Some (make seed size)

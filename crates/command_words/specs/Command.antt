@@ -14,6 +14,8 @@ pub data Asked : Type 0 where
   explain : (policy : List ℕ) (name : ObName) → Asked
   -- to play the trace in one file under the policy in the other
   play : (policy trace : List ℕ) → Asked
+  -- to play it by all cores side by side
+  run : (policy trace : List ℕ) → Asked
   -- to judge the history in the third file by the policy and the trace in the others
   replay : (policy trace history : List ℕ) → Asked
   -- to report of the history in the third file under the policy and the trace in the others
@@ -53,6 +55,7 @@ abbrev pub asked_by_two : List ℕ → List ℕ → List ℕ → Option Asked
 asked_by_two verb first second =
     if bytes_eq (codes "explain") verb then option_map (explain first) (name_of second)
     else if bytes_eq (codes "play") verb then Some (play first second)
+    else if bytes_eq (codes "run") verb then Some (run first second)
     else if bytes_eq (codes "make") verb then made_by first second
     else if bytes_eq (codes "bench") verb then benched_by first second
     else None

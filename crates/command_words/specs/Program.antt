@@ -4,7 +4,7 @@ use Rattle.std.specs.Str.{bytes_eq}
 use Rattle.clap.specs.Words.{App, Row, Rule, Shape, Text, first_of, new_rule}
 use Rattle.clap.specs.Simple.{new_shape}
 use Rattle.clap.specs.declared.builder.ArgAction.TheVariants.{Set}
-use Rattle.command_words.specs.Command.{Asked, benched_by, check, explain, made_by, name_of, play, replay, report}
+use Rattle.command_words.specs.Command.{Asked, benched_by, check, explain, made_by, name_of, play, replay, report, run}
 
 -- a word that has to be there
 abbrev pub wanted : Text → Rule
@@ -32,6 +32,7 @@ commands =
     command_of (codes "check") (codes "POLICY" ∷ [])
     ∷ command_of (codes "explain") (codes "POLICY" ∷ codes "NAME" ∷ [])
     ∷ command_of (codes "play") (codes "POLICY" ∷ codes "TRACE" ∷ [])
+    ∷ command_of (codes "run") (codes "POLICY" ∷ codes "TRACE" ∷ [])
     ∷ command_of (codes "replay") (codes "POLICY" ∷ codes "TRACE" ∷ codes "HISTORY" ∷ [])
     ∷ command_of (codes "report") (codes "POLICY" ∷ codes "TRACE" ∷ codes "HISTORY" ∷ [])
     ∷ command_of (codes "make") (codes "SEED" ∷ codes "SIZE" ∷ [])
@@ -53,6 +54,7 @@ asked_in verb rows =
     else if bytes_eq verb (codes "explain") then
     option_map (explain (word_in rows (codes "POLICY"))) (name_of (word_in rows (codes "NAME")))
     else if bytes_eq verb (codes "play") then Some (play (word_in rows (codes "POLICY")) (word_in rows (codes "TRACE")))
+    else if bytes_eq verb (codes "run") then Some (run (word_in rows (codes "POLICY")) (word_in rows (codes "TRACE")))
     else if bytes_eq verb (codes "replay") then
     Some (replay (word_in rows (codes "POLICY")) (word_in rows (codes "TRACE")) (word_in rows (codes "HISTORY")))
     else if bytes_eq verb (codes "report") then

@@ -18,11 +18,15 @@ pub(crate) fn program<'a>(alloc: Global) -> Result<Command<'a>, AllocError>
     let program = no_commands(alloc);
     let program = with_command(program, alloc, "check", &["POLICY"])?;
     let program = with_command(program, alloc, "explain", &["POLICY", "NAME"])?;
-    let program = with_command(program, alloc, "play", &["POLICY", "TRACE"])?;
-    let program = with_command(program, alloc, "replay", &["POLICY", "TRACE", "HISTORY"])?;
-    let program = with_command(program, alloc, "report", &["POLICY", "TRACE", "HISTORY"])?;
-    let program = with_command(program, alloc, "make", &["SEED", "SIZE"])?;
-    with_command(program, alloc, "bench", &["SEED", "SIZE"])
+    let program = with_two(program, alloc, "play", "run", &["POLICY", "TRACE"])?;
+    let program = with_two(
+        program,
+        alloc,
+        "replay",
+        "report",
+        &["POLICY", "TRACE", "HISTORY"],
+    )?;
+    with_two(program, alloc, "make", "bench", &["SEED", "SIZE"])
 }
 
 /// The program with no command so far.
@@ -35,6 +39,22 @@ fn no_commands<'a>(alloc: Global) -> Command<'a>
         .disable_help_subcommand(true)
         .disable_version_flag(true)
         .subcommand_required(true)
+}
+
+/// The program with two more commands, which want the words of the same names.
+fn with_two<'a>(
+    program: Command<'a>,
+    alloc: Global,
+    verb: &'a str,
+    other: &'a str,
+    ids: &[&'a str],
+) -> Result<Command<'a>, AllocError>
+    ensures { IfOk result (λ made. app_of made ≡ with_subcommand
+        (with_subcommand (app_of program.entry) (command_of verb.now (map (λ id. id.now) ids.now)))
+        (command_of other.now (map (λ id. id.now) ids.now))) }
+{
+    let program = with_command(program, alloc, verb, ids)?;
+    with_command(program, alloc, other, ids)
 }
 
 /// The program with one more command, which wants the words of these names.

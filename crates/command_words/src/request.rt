@@ -31,6 +31,11 @@ pub enum Request<'a> {
         policy: &'a str,
         trace: &'a str,
     },
+    /// To play it by all cores side by side, each in a thread of its own.
+    Run {
+        policy: &'a str,
+        trace: &'a str,
+    },
     /// To judge the history in the third file by the policy and the trace in the others.
     Replay {
         policy: &'a str,
@@ -95,6 +100,10 @@ fn request_in<'a>(verb: &str, words: &ArgMatches<'a>) -> Request<'a>
         },
         "explain" => explanation_of(word_in(words, "POLICY"), word_in(words, "NAME")),
         "play" => Request::Play {
+            policy: word_in(words, "POLICY"),
+            trace: word_in(words, "TRACE"),
+        },
+        "run" => Request::Run {
             policy: word_in(words, "POLICY"),
             trace: word_in(words, "TRACE"),
         },

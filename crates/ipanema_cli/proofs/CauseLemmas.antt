@@ -22,8 +22,10 @@ use Rattle.history_replay.specs.declared.answer.HistoryAnswer.{HistoryAnswer}
 use Rattle.history_replay.specs.declared.answer.HistoryAnswer.TheVariants as judged
 use Rattle.history_replay.specs.declared.refusal.HistoryRefusal.TheVariants as no_history
 use Rattle.history_replay.specs.Judges.{IsReplayOf, IsReportOf}
-use Rattle.ipanema_cli.specs.Answers.{AnswersCheck, AnswersExplain, AnswersJudging, AnswersPlay, IsAnswer, Judging, output_of, status_of}
-use Rattle.command_words.specs.Command.{Asked, bench, check, explain, make, play, replay, report}
+use Rattle.trace_play.specs.Plays as plays
+use Rattle.trace_run.specs.Runs.{IsRunOf}
+use Rattle.ipanema_cli.specs.Answers.{AnswersCheck, AnswersExplain, AnswersJudging, AnswersPlay, IsAnswer, Judging, Playing, output_of, status_of}
+use Rattle.command_words.specs.Command.{Asked, bench, check, explain, make, play, replay, report, run}
 use Rattle.ipanema_cli.specs.Ends.{Ends, answered, unread, no_memory}
 use Rattle.ipanema_cli.specs.Causes.{HasCause, Judges, OneOf, Plays, SaysCrowded, SaysTooLong}
 use Rattle.ipanema_cli.specs.Status.{check_status, code_of, outcome_status, refusal_status}
@@ -113,7 +115,8 @@ played_for : (asked : Option Asked) (told : List ℕ → Told) (outcome : PlayAn
 played_for None told outcome is = absurd is
 played_for (Some (check policy)) told outcome is = absurd is
 played_for (Some (explain policy name)) told outcome is = absurd is
-played_for (Some (play policy trace)) told outcome is = (policy, trace, refl)
+played_for (Some (play policy trace)) told outcome is = (policy, trace, inl refl)
+played_for (Some (run policy trace)) told outcome is = (policy, trace, inr refl)
 played_for (Some (replay policy trace history)) told outcome is = absurd is
 played_for (Some (report policy trace history)) told outcome is = absurd is
 played_for (Some (make seed size)) told outcome is = absurd is
@@ -124,6 +127,7 @@ judged_for None told h is = absurd is
 judged_for (Some (check policy)) told h is = absurd is
 judged_for (Some (explain policy name)) told h is = absurd is
 judged_for (Some (play policy trace)) told h is = absurd is
+judged_for (Some (run policy trace)) told h is = absurd is
 judged_for (Some (replay policy trace history)) told h is = (policy, trace, history, inl refl)
 judged_for (Some (report policy trace history)) told h is = (policy, trace, history, inr refl)
 judged_for (Some (make seed size)) told h is = absurd is
@@ -135,6 +139,7 @@ for_no_command None told is = refl
 for_no_command (Some (check policy)) told is = absurd is
 for_no_command (Some (explain policy name)) told is = absurd is
 for_no_command (Some (play policy trace)) told is = absurd is
+for_no_command (Some (run policy trace)) told is = absurd is
 for_no_command (Some (replay policy trace history)) told is = absurd is
 for_no_command (Some (report policy trace history)) told is = absurd is
 for_no_command (Some (make seed size)) told is = absurd is
@@ -177,25 +182,25 @@ long_for_explain policy name (answer.Benched told) held is tells long = absurd i
 long_for_explain policy name (answer.TooLong which) held is tells long = refl
 long_for_explain policy name answer.BadWords held is tells long = absurd is
 
-long_for_play : (policy trace : Told) (a : Answer) (held : List ℕ) → AnswersPlay policy trace a → policy ≡ holds held → room_of kind.Policy < length held → code_of (status_of a) ≡ 10
-long_for_play policy trace (answer.Checked c) held is tells long = absurd (not_read kind.Policy policy is.text held is.policy_read tells long)
-long_for_play policy trace (answer.Explained e) held is tells long = absurd is
-long_for_play policy trace (answer.Played outcome) held is tells long = absurd (not_read kind.Policy policy is.text held is.policy_read tells long)
-long_for_play policy trace (answer.Judged h) held is tells long = absurd is
-long_for_play policy trace (answer.Made text) held is tells long = absurd is
-long_for_play policy trace (answer.Benched told) held is tells long = absurd is
-long_for_play policy trace (answer.TooLong which) held is tells long = refl
-long_for_play policy trace answer.BadWords held is tells long = absurd is
+long_for_play : (Is : Playing) (policy trace : Told) (a : Answer) (held : List ℕ) → AnswersPlay Is policy trace a → policy ≡ holds held → room_of kind.Policy < length held → code_of (status_of a) ≡ 10
+long_for_play Is policy trace (answer.Checked c) held is tells long = absurd (not_read kind.Policy policy is.text held is.policy_read tells long)
+long_for_play Is policy trace (answer.Explained e) held is tells long = absurd is
+long_for_play Is policy trace (answer.Played outcome) held is tells long = absurd (not_read kind.Policy policy is.text held is.policy_read tells long)
+long_for_play Is policy trace (answer.Judged h) held is tells long = absurd is
+long_for_play Is policy trace (answer.Made text) held is tells long = absurd is
+long_for_play Is policy trace (answer.Benched told) held is tells long = absurd is
+long_for_play Is policy trace (answer.TooLong which) held is tells long = refl
+long_for_play Is policy trace answer.BadWords held is tells long = absurd is
 
-long_trace_for_play : (policy trace : Told) (a : Answer) (held : List ℕ) → AnswersPlay policy trace a → trace ≡ holds held → room_of kind.Trace < length held → code_of (status_of a) ≡ 10
-long_trace_for_play policy trace (answer.Checked c) held is tells long = absurd (not_read kind.Trace trace is.jobs held is.trace_read tells long)
-long_trace_for_play policy trace (answer.Explained e) held is tells long = absurd is
-long_trace_for_play policy trace (answer.Played outcome) held is tells long = absurd (not_read kind.Trace trace is.jobs held is.trace_read tells long)
-long_trace_for_play policy trace (answer.Judged h) held is tells long = absurd is
-long_trace_for_play policy trace (answer.Made text) held is tells long = absurd is
-long_trace_for_play policy trace (answer.Benched told) held is tells long = absurd is
-long_trace_for_play policy trace (answer.TooLong which) held is tells long = refl
-long_trace_for_play policy trace answer.BadWords held is tells long = absurd is
+long_trace_for_play : (Is : Playing) (policy trace : Told) (a : Answer) (held : List ℕ) → AnswersPlay Is policy trace a → trace ≡ holds held → room_of kind.Trace < length held → code_of (status_of a) ≡ 10
+long_trace_for_play Is policy trace (answer.Checked c) held is tells long = absurd (not_read kind.Trace trace is.jobs held is.trace_read tells long)
+long_trace_for_play Is policy trace (answer.Explained e) held is tells long = absurd is
+long_trace_for_play Is policy trace (answer.Played outcome) held is tells long = absurd (not_read kind.Trace trace is.jobs held is.trace_read tells long)
+long_trace_for_play Is policy trace (answer.Judged h) held is tells long = absurd is
+long_trace_for_play Is policy trace (answer.Made text) held is tells long = absurd is
+long_trace_for_play Is policy trace (answer.Benched told) held is tells long = absurd is
+long_trace_for_play Is policy trace (answer.TooLong which) held is tells long = refl
+long_trace_for_play Is policy trace answer.BadWords held is tells long = absurd is
 
 long_policy_of_three : (Is : Judging) (policy trace history : Told) (a : Answer) (held : List ℕ) → AnswersJudging Is policy trace history a → policy ≡ holds held → room_of kind.Policy < length held → code_of (status_of a) ≡ 10
 long_policy_of_three Is policy trace history (answer.Checked c) held is tells long = absurd (not_read kind.Policy policy is.text held is.policy_read tells long)
@@ -244,9 +249,12 @@ long_file (Some (check policy)) told a kind.History name held is file tells long
 long_file (Some (explain policy ob)) told a kind.Policy name held is file tells long = long_for_explain (told policy) ob a held is (sym (ap told file) ∙ tells) long
 long_file (Some (explain policy ob)) told a kind.Trace name held is file tells long = absurd file
 long_file (Some (explain policy ob)) told a kind.History name held is file tells long = absurd file
-long_file (Some (play policy trace)) told a kind.Policy name held is file tells long = long_for_play (told policy) (told trace) a held is (sym (ap told file) ∙ tells) long
-long_file (Some (play policy trace)) told a kind.Trace name held is file tells long = long_trace_for_play (told policy) (told trace) a held is (sym (ap told file) ∙ tells) long
+long_file (Some (play policy trace)) told a kind.Policy name held is file tells long = long_for_play plays.IsPlayOf (told policy) (told trace) a held is (sym (ap told file) ∙ tells) long
+long_file (Some (play policy trace)) told a kind.Trace name held is file tells long = long_trace_for_play plays.IsPlayOf (told policy) (told trace) a held is (sym (ap told file) ∙ tells) long
 long_file (Some (play policy trace)) told a kind.History name held is file tells long = absurd file
+long_file (Some (run policy trace)) told a kind.Policy name held is file tells long = long_for_play IsRunOf (told policy) (told trace) a held is (sym (ap told file) ∙ tells) long
+long_file (Some (run policy trace)) told a kind.Trace name held is file tells long = long_trace_for_play IsRunOf (told policy) (told trace) a held is (sym (ap told file) ∙ tells) long
+long_file (Some (run policy trace)) told a kind.History name held is file tells long = absurd file
 long_file (Some (replay policy trace history)) told a which name held is file tells long = long_of_three IsReplayOf policy trace history told a which name held is file tells long
 long_file (Some (report policy trace history)) told a which name held is file tells long = long_of_three IsReportOf policy trace history told a which name held is file tells long
 long_file (Some (make seed size)) told a which name held is file tells long = absurd file
@@ -283,6 +291,11 @@ module _ (told : List ℕ → Told) (before after : Option (List ℕ)) where
   ten (Some (play policy trace)) (answer.Checked (checked.Judged (verdict.Undecided answers kept))) is e added = absurd (omega arith)
   ten (Some (play policy trace)) (answer.Checked (checked.Unjudged why)) is e added =
       inr (crowded_by (Some (play policy trace)) policy is.text why refl is.policy_read is.answers.0 e added)
+  ten (Some (run policy trace)) (answer.Checked (checked.Judged (verdict.Accepted kept))) is e added = absurd (omega arith)
+  ten (Some (run policy trace)) (answer.Checked (checked.Judged (verdict.Refused answers kept))) is e added = absurd (omega arith)
+  ten (Some (run policy trace)) (answer.Checked (checked.Judged (verdict.Undecided answers kept))) is e added = absurd (omega arith)
+  ten (Some (run policy trace)) (answer.Checked (checked.Unjudged why)) is e added =
+      inr (crowded_by (Some (run policy trace)) policy is.text why refl is.policy_read is.answers.0 e added)
   ten (Some (replay policy trace history)) (answer.Checked c) is e added =
       inr (ten_of_three (Some (replay policy trace history)) policy trace history refl IsReplayOf c is e added)
   ten (Some (report policy trace history)) (answer.Checked c) is e added =
@@ -299,6 +312,7 @@ module _ (told : List ℕ → Told) (before after : Option (List ℕ)) where
   ten (Some (explain policy ob)) (answer.Explained (explained.Unjudged why)) (text, read, is) e added =
       inr (crowded_by (Some (explain policy ob)) policy text why refl read is e added)
   ten (Some (play policy trace)) (answer.Explained told) is e added = absurd is
+  ten (Some (run policy trace)) (answer.Explained told) is e added = absurd is
   ten (Some (replay policy trace history)) (answer.Explained told) is e added = absurd is
   ten (Some (report policy trace history)) (answer.Explained told) is e added = absurd is
   ten (Some (make seed size)) (answer.Explained told) is e added = absurd is

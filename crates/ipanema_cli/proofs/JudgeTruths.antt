@@ -42,7 +42,7 @@ use Rattle.ipanema_cli.specs.declared.answers.Answer.{Answer}
 use Rattle.ipanema_cli.specs.declared.answers.Answer.TheVariants as answer
 use Rattle.ipanema_cli.specs.declared.texts.TextKind.TheVariants as kind
 use Rattle.ipanema_cli.proofs.CheckTruths.{Stopped, at_4, at_5, at_6, not_long, refusal_not_0, stopped_not, stopped_refuses, tells_fault, verdict_answers}
-use Rattle.ipanema_cli.proofs.PlayTruths.{low_or_stopped, no_line, refused_left}
+use Rattle.ipanema_cli.proofs.TraceTruths.{low_or_stopped, no_line, refused_left}
 use Rattle.ipanema_cli.proofs.PolicyFacts.{judged_refuses, read_decides, read_refuses, refused_text, resolved, same_policy, text_read}
 use Rattle.ipanema_cli.proofs.WritesLemmas.{code_among, no_stop, one_line, whole}
 

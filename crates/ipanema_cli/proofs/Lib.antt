@@ -7,6 +7,9 @@ pub mod LongLemmas
 pub mod JudgeTruths
 pub mod MakeTruths
 pub mod PlayTruths
+pub mod RunTruths
+pub mod RunWords
+pub mod TraceTruths
 pub mod PolicyFacts
 pub mod TruthLemmas
 pub mod WritesLemmas

@@ -22,13 +22,14 @@ use Rattle.trace_printer.specs.Printed.{trace_text}
 use Rattle.trace_play.specs.declared.answer.PlayAnswer.{PlayAnswer}
 use Rattle.trace_play.specs.declared.answer.PlayAnswer.TheVariants as play_answer
 use Rattle.trace_play.specs.Plays as plays
+use Rattle.trace_run.specs.Runs.{IsRunOf}
 use Rattle.history_replay.specs.declared.answer.HistoryAnswer.{HistoryAnswer}
 use Rattle.history_replay.specs.Judges.{IsReplayOf, IsReportOf}
 use Rattle.history_replay.specs.Lines as histories
 use Rattle.fair_policy.specs.Fair.{fair_meaning}
 use Rattle.bench_play.specs.Bench.{IsBench}
 use Rattle.bench_play.specs.Lines.{bench_lines}
-use Rattle.command_words.specs.Command.{Asked, bench, check, explain, make, play, replay, report}
+use Rattle.command_words.specs.Command.{Asked, bench, check, explain, make, play, replay, report, run}
 use Rattle.ipanema_cli.specs.Status.{check_status, explain_status, history_status}
 use Rattle.ipanema_cli.specs.Texts.{MayBeLong, MayRead, too_long_line}
 use Rattle.ipanema_cli.specs.declared.answers.Answer.{Answer}
@@ -135,39 +136,43 @@ AnswersExplain policy name (answer.TooLong kind.Trace) = ⊥
 AnswersExplain policy name (answer.TooLong kind.History) = ⊥
 AnswersExplain policy name answer.BadWords = ⊥
 
--- the answer of `play` to these texts of a policy and a trace: where the policy isn't accepted, that of `check`
-abbrev pub IsPlayOfTexts : (policy trace : List ℕ) → Answer → Type 0
-IsPlayOfTexts policy trace (answer.Checked c) = IsCheckOf policy c × IsFalse (accepts c)
-IsPlayOfTexts policy trace (answer.Explained e) = ⊥
-IsPlayOfTexts policy trace (answer.Played outcome) = (p : Meaning) × IsAccepted policy p
-    × plays.IsPlayOf p trace outcome
-IsPlayOfTexts policy trace (answer.Judged outcome) = ⊥
-IsPlayOfTexts policy trace (answer.Made text) = ⊥
-IsPlayOfTexts policy trace (answer.Benched told) = ⊥
-IsPlayOfTexts policy trace (answer.TooLong which) = ⊥
-IsPlayOfTexts policy trace answer.BadWords = ⊥
+-- a command that plays a trace: what it may answer under an accepted policy to the text of a trace
+abbrev pub Playing : Type 1
+Playing = Meaning → (trace : List ℕ) → PlayAnswer → Type 0
 
--- Both files are read, and may hold these texts, to which that is the answer.
-pub record PlaysTexts (policy trace : Told) (a : Answer) : Type 0 where
-  pub text : List ℕ
-  pub jobs : List ℕ
-  pub policy_read : MayRead kind.Policy policy text
-  pub trace_read : MayRead kind.Trace trace jobs
-  pub answers : IsPlayOfTexts text jobs a
+module _ (Is : Playing) where
+  -- the command's answer to these texts of a policy and a trace: where the policy isn't accepted, that of `check`
+  abbrev pub IsPlayOfTexts : (policy trace : List ℕ) → Answer → Type 0
+  IsPlayOfTexts policy trace (answer.Checked c) = IsCheckOf policy c × IsFalse (accepts c)
+  IsPlayOfTexts policy trace (answer.Explained e) = ⊥
+  IsPlayOfTexts policy trace (answer.Played outcome) = (p : Meaning) × IsAccepted policy p × Is p trace outcome
+  IsPlayOfTexts policy trace (answer.Judged outcome) = ⊥
+  IsPlayOfTexts policy trace (answer.Made text) = ⊥
+  IsPlayOfTexts policy trace (answer.Benched told) = ⊥
+  IsPlayOfTexts policy trace (answer.TooLong which) = ⊥
+  IsPlayOfTexts policy trace answer.BadWords = ⊥
 
--- the answer of `play` to files of which this is told
-abbrev pub AnswersPlay : (policy trace : Told) → Answer → Type 0
-AnswersPlay policy trace (answer.Checked c) = PlaysTexts policy trace (answer.Checked c)
-AnswersPlay policy trace (answer.Explained e) = ⊥
-AnswersPlay policy trace (answer.Played outcome) = PlaysTexts policy trace (answer.Played outcome)
-AnswersPlay policy trace (answer.Judged outcome) = ⊥
-AnswersPlay policy trace (answer.Made text) = ⊥
-AnswersPlay policy trace (answer.Benched told) = ⊥
-AnswersPlay policy trace (answer.TooLong kind.Policy) = MayBeLong kind.Policy policy
-AnswersPlay policy trace (answer.TooLong kind.Trace) =
-    ((text : List ℕ) × MayRead kind.Policy policy text) × MayBeLong kind.Trace trace
-AnswersPlay policy trace (answer.TooLong kind.History) = ⊥
-AnswersPlay policy trace answer.BadWords = ⊥
+  -- Both files are read, and may hold these texts, to which that is the answer.
+  pub record PlaysTexts (policy trace : Told) (a : Answer) : Type 0 where
+    pub text : List ℕ
+    pub jobs : List ℕ
+    pub policy_read : MayRead kind.Policy policy text
+    pub trace_read : MayRead kind.Trace trace jobs
+    pub answers : IsPlayOfTexts text jobs a
+
+  -- the command's answer to files of which this is told
+  abbrev pub AnswersPlay : (policy trace : Told) → Answer → Type 0
+  AnswersPlay policy trace (answer.Checked c) = PlaysTexts policy trace (answer.Checked c)
+  AnswersPlay policy trace (answer.Explained e) = ⊥
+  AnswersPlay policy trace (answer.Played outcome) = PlaysTexts policy trace (answer.Played outcome)
+  AnswersPlay policy trace (answer.Judged outcome) = ⊥
+  AnswersPlay policy trace (answer.Made text) = ⊥
+  AnswersPlay policy trace (answer.Benched told) = ⊥
+  AnswersPlay policy trace (answer.TooLong kind.Policy) = MayBeLong kind.Policy policy
+  AnswersPlay policy trace (answer.TooLong kind.Trace) =
+      ((text : List ℕ) × MayRead kind.Policy policy text) × MayBeLong kind.Trace trace
+  AnswersPlay policy trace (answer.TooLong kind.History) = ⊥
+  AnswersPlay policy trace answer.BadWords = ⊥
 
 -- Of the three files of a command that judges a history that one may be too long, and those before it are read.
 abbrev pub IsTooLongOfThree : (policy trace history : Told) → TextKind → Type 0
@@ -253,7 +258,8 @@ abbrev pub IsAnswer : Option Asked → (List ℕ → Told) → Answer → Type 0
 IsAnswer None told a = AnswersWords a
 IsAnswer (Some (check policy)) told a = AnswersCheck (told policy) a
 IsAnswer (Some (explain policy name)) told a = AnswersExplain (told policy) name a
-IsAnswer (Some (play policy trace)) told a = AnswersPlay (told policy) (told trace) a
+IsAnswer (Some (play policy trace)) told a = AnswersPlay plays.IsPlayOf (told policy) (told trace) a
+IsAnswer (Some (run policy trace)) told a = AnswersPlay IsRunOf (told policy) (told trace) a
 IsAnswer (Some (replay policy trace history)) told a =
     AnswersJudging IsReplayOf (told policy) (told trace) (told history) a
 IsAnswer (Some (report policy trace history)) told a =

@@ -10,7 +10,7 @@ use Rattle.policy_check.specs.Checks.{IsCrowded}
 use Rattle.policy_check.specs.Lines.{refusal_line}
 use Rattle.policy_check.specs.declared.reading.Refusal.TheVariants.{Crowded}
 use Rattle.ipanema_cli.specs.Answers.{IsAnswer, lines_of}
-use Rattle.command_words.specs.Command.{Asked, play, replay, report}
+use Rattle.command_words.specs.Command.{Asked, play, replay, report, run}
 use Rattle.ipanema_cli.specs.Loads.{IsFileOf}
 use Rattle.ipanema_cli.specs.Stops.{IsUnread}
 use Rattle.ipanema_cli.specs.Texts.{MayRead, room_of, too_long_line}
@@ -46,7 +46,7 @@ Judges asked = (policy trace history : List ℕ) × ((asked ≡ Some (replay pol
 
 -- the command plays a trace
 abbrev pub Plays : Option Asked → Type 0
-Plays asked = (policy trace : List ℕ) × (asked ≡ Some (play policy trace))
+Plays asked = (policy trace : List ℕ) × ((asked ≡ Some (play policy trace)) ⊎ (asked ≡ Some (run policy trace)))
 
 -- Each status has its cause.
 pub record HasCause (asked : Option Asked) (told : List ℕ → Told) (read_fault : Type 0) (before after : Shown)
@@ -61,7 +61,7 @@ pub record HasCause (asked : Option Asked) (told : List ℕ → Told) (read_faul
   -- the words are no command
   pub bad_words : code ≡ 7 → (asked ≡ None) × Adds (codes "bad words\n") before.written after.written
   pub no_command : asked ≡ None → OneOf (5 ∷ 6 ∷ 7 ∷ []) code
-  -- only a command that judges a history says that one isn't whole, and only `play` that one is full
+  -- only a command that judges a history says that one isn't whole, and only one that plays a trace that one is full
   pub not_whole : code ≡ 9 → Judges asked
   pub full : code ≡ 8 → Plays asked
   -- a file of the command may be longer than its limit, and one that is told to be gets no other answer; or an

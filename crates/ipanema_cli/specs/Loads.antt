@@ -2,7 +2,7 @@
 use Rattle.std.specs.Prelude.{◌≡◌, ℕ, ◌<◌, List, [], ◌∷◌, Option, Some, None, take}
 use Rattle.sched_io.specs.Loads.{AreRequested, LoadRequest, load_request}
 use Rattle.sched_io.specs.Told.{Told}
-use Rattle.command_words.specs.Command.{Asked, bench, check, explain, make, play, replay, report}
+use Rattle.command_words.specs.Command.{Asked, bench, check, explain, make, play, replay, report, run}
 use Rattle.ipanema_cli.specs.Texts.{MayRead, room_of}
 use Rattle.ipanema_cli.specs.declared.texts.TextKind.{TextKind}
 use Rattle.ipanema_cli.specs.declared.texts.TextKind.TheVariants as kind
@@ -25,6 +25,9 @@ IsFileOf (Some (explain policy ob)) kind.History name = ⊥
 IsFileOf (Some (play policy trace)) kind.Policy name = name ≡ policy
 IsFileOf (Some (play policy trace)) kind.Trace name = name ≡ trace
 IsFileOf (Some (play policy trace)) kind.History name = ⊥
+IsFileOf (Some (run policy trace)) kind.Policy name = name ≡ policy
+IsFileOf (Some (run policy trace)) kind.Trace name = name ≡ trace
+IsFileOf (Some (run policy trace)) kind.History name = ⊥
 IsFileOf (Some (replay policy trace history)) which name = IsOneOfThree policy trace history which name
 IsFileOf (Some (report policy trace history)) which name = IsOneOfThree policy trace history which name
 IsFileOf (Some (make seed size)) which name = ⊥
@@ -35,13 +38,17 @@ abbrev pub three_files : (policy trace history : List ℕ) → List LoadRequest
 three_files policy trace history = load_request policy (room_of kind.Policy) ∷ load_request trace (room_of kind.Trace)
     ∷ load_request history (room_of kind.History) ∷ []
 
+-- those of a command that plays a trace
+abbrev pub two_files : (policy trace : List ℕ) → List LoadRequest
+two_files policy trace = load_request policy (room_of kind.Policy) ∷ load_request trace (room_of kind.Trace) ∷ []
+
 -- the files of a command, each with the most bytes that it may have
 abbrev pub files_of : Option Asked → List LoadRequest
 files_of None = []
 files_of (Some (check policy)) = load_request policy (room_of kind.Policy) ∷ []
 files_of (Some (explain policy name)) = load_request policy (room_of kind.Policy) ∷ []
-files_of (Some (play policy trace)) =
-    load_request policy (room_of kind.Policy) ∷ load_request trace (room_of kind.Trace) ∷ []
+files_of (Some (play policy trace)) = two_files policy trace
+files_of (Some (run policy trace)) = two_files policy trace
 files_of (Some (replay policy trace history)) = three_files policy trace history
 files_of (Some (report policy trace history)) = three_files policy trace history
 files_of (Some (make seed size)) = []
@@ -59,6 +66,10 @@ pub record LoadsOfThree (policy trace history : List ℕ) (told : List ℕ → T
   pub loaded : AreRequested (take count (three_files policy trace history)) before after
   pub goes_on : GoesOnOfThree (told policy) (told trace) (told history) count
 
+-- of so many loads of two files the first is of a text that may be read, if there is another
+abbrev pub GoesOnOfTwo : (policy : Told) → ℕ → Type 0
+GoesOnOfTwo policy count = 1 < count → (text : List ℕ) × MayRead kind.Policy policy text
+
 -- Of so many loads each but the last is of a text that may be read: behind one that is told to be missing or too long
 -- none is.
 abbrev pub MayGoOn : Option Asked → (List ℕ → Told) → ℕ → Type 0
@@ -71,7 +82,8 @@ MayGoOn (Some (report policy trace history)) told count =
     GoesOnOfThree (told policy) (told trace) (told history) count
 MayGoOn (Some (make seed size)) told count = Unit {0}
 MayGoOn (Some (bench seed size)) told count = Unit {0}
-MayGoOn (Some (play policy trace)) told count = 1 < count → (text : List ℕ) × MayRead kind.Policy (told policy) text
+MayGoOn (Some (play policy trace)) told count = GoesOnOfTwo (told policy) count
+MayGoOn (Some (run policy trace)) told count = GoesOnOfTwo (told policy) count
 
 -- Just the first of the command's files are loaded, each once and with its limit, where the source tells of its loads.
 pub record FirstAreLoaded (asked : Option Asked) (told : List ℕ → Told)

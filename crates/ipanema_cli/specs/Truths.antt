@@ -40,10 +40,12 @@ use Rattle.fair_policy.specs.Fair.{fair_meaning}
 use Rattle.bench_play.specs.declared.playing.BenchTotals.{BenchTotals}
 use Rattle.bench_play.specs.Bench.{IsBench}
 use Rattle.bench_play.specs.Lines.{bench_lines}
+use Rattle.round_model.specs.Room.{HasRoomForRounds}
 use Rattle.round_model.specs.SerialEnds.{EndsWhole, IsFull, StopsFull}
 use Rattle.trace_maker.specs.Made.{made}
 use Rattle.trace_printer.specs.Printed.{trace_text}
 use Rattle.trace_play.specs.declared.fault.LineFault.{LineFault}
+use Rattle.trace_run.specs.Runs.{RunEnds, RunStops}
 use Rattle.sched_report.specs.declared.rows.FullReport.{FullReport}
 use Rattle.sched_report.specs.Lines.{report_lines}
 use Rattle.history_reader.specs.Reading.{IsFirstBadLine}
@@ -55,7 +57,7 @@ use Rattle.trace_play.specs.Plays as plays
 use Rattle.trace_play.specs.Told as trace_faults
 use Rattle.ipanema_cli.specs.Answers.{IsAccepted}
 use Rattle.ipanema_cli.specs.Causes.{OneOf}
-use Rattle.command_words.specs.Command.{Asked, bench, check, explain, make, play, replay, report}
+use Rattle.command_words.specs.Command.{Asked, bench, check, explain, make, play, replay, report, run}
 use Rattle.ipanema_cli.specs.Status.{code_of, outcome_status, verdict_status}
 use Rattle.ipanema_cli.specs.Texts.{MayRead, room_of}
 use Rattle.ipanema_cli.specs.declared.texts.TextKind.{TextKind}
@@ -217,13 +219,9 @@ pub record BadTrace (policy trace : Told) (before after : Option (List ℕ)) : T
   pub has : plays.HasFault p jobs fault
   pub written : Adds (trace_faults.fault_line fault) before after
 
--- When each status of `play` must come, if the outside lets it be. A policy with an open system may be left undecided.
-pub record MustPlay (policy trace : Told) (code : ℕ) : Type 0 where
-  -- what can be played is: to the end where every round fits, and only there
-  pub reaches_end : (p : Meaning) (plan : Plan) → DoPlay policy trace p plan →
-      ((k : ℕ) → IsFull plan (serial_rounds p plan k) → ⊥) → OneOf (0 ∷ 3 ∷ 4 ∷ 5 ∷ 6 ∷ []) code
-  pub stops_full : (p : Meaning) (plan : Plan) (k : ℕ) → DoPlay policy trace p plan →
-      IsFull plan (serial_rounds p plan k) → OneOf (3 ∷ 4 ∷ 5 ∷ 6 ∷ 8 ∷ []) code
+-- When each status of a command that plays a trace must come that isn't of its play, if the outside lets it be. A policy
+-- with an open system may be left undecided.
+pub record MustAnswer (policy trace : Told) (code : ℕ) : Type 0 where
   -- a trace that can't be played gets its fault
   pub faulty : (p : Meaning) (jobs : List ℕ) (fault : LineFault) → DoHold policy trace p jobs →
       plays.HasFault p jobs fault → OneOf (2 ∷ 3 ∷ 4 ∷ 5 ∷ 6 ∷ []) code
@@ -236,18 +234,53 @@ pub record MustPlay (policy trace : Told) (code : ℕ) : Type 0 where
   -- and a text that isn't judged the one for it
   pub unjudged : (jobs : List ℕ) → Holds kind.Trace trace jobs → Refuses policy code
 
--- What `play` says of files of which this is told is true.
-pub record PlaysTruly (policy trace : Told) (before after : Option (List ℕ)) (code : ℕ) : Type 0 where
-  -- the text of the serial history was written, which is whole and keeps the laws of every interleaving
-  pub whole : code ≡ 0 → (p : Meaning) × (plan : Plan) × (history : List Entry) × MayPlay policy trace p plan
-      × EndsWhole p plan history × KeepsLaws p plan history × Adds (text_of_history history) before after
-  -- the text of the complete rounds before the first that might not fit the limit was written, which keep them too
-  pub full : code ≡ 8 → (p : Meaning) × (plan : Plan) × (history : List Entry) × MayPlay policy trace p plan
-      × StopsFull p plan history × KeepsLaws p plan history × Adds (text_of_history history) before after
-  pub must : MustPlay policy trace code
+-- When each status of `play` must come, if the outside lets it be.
+pub record MustPlay (policy trace : Told) (code : ℕ) : Type 0 where
+  -- what can be played is: to the end where every round fits, and only there
+  pub reaches_end : (p : Meaning) (plan : Plan) → DoPlay policy trace p plan →
+      ((k : ℕ) → IsFull plan (serial_rounds p plan k) → ⊥) → OneOf (0 ∷ 3 ∷ 4 ∷ 5 ∷ 6 ∷ []) code
+  pub stops_full : (p : Meaning) (plan : Plan) (k : ℕ) → DoPlay policy trace p plan →
+      IsFull plan (serial_rounds p plan k) → OneOf (3 ∷ 4 ∷ 5 ∷ 6 ∷ 8 ∷ []) code
+  pub others : MustAnswer policy trace code
+
+-- When each status of `run` must come, if the outside lets it be and the run comes to an end.
+pub record MustRun (policy trace : Told) (code : ℕ) : Type 0 where
+  -- what can be played is, to the end or to a round that might not fit
+  pub ends : (p : Meaning) (plan : Plan) → DoPlay policy trace p plan → OneOf (0 ∷ 3 ∷ 4 ∷ 5 ∷ 6 ∷ 8 ∷ []) code
+  -- and to the end where the limit has room for all rounds
+  pub reaches_end : (p : Meaning) (plan : Plan) → DoPlay policy trace p plan → HasRoomForRounds plan →
+      OneOf (0 ∷ 3 ∷ 4 ∷ 5 ∷ 6 ∷ []) code
+  pub others : MustAnswer policy trace code
+
+-- The text of a history was written with which play ended so, of an accepted policy and a trace that means a plan. It
+-- keeps the laws of every interleaving.
+abbrev pub WritesPlayed : (Ends : Meaning → Plan → List Entry → Type 0) (policy trace : Told)
+    (before after : Option (List ℕ)) → Type 0
+WritesPlayed Ends policy trace before after = (p : Meaning) × (plan : Plan) × (history : List Entry)
+    × MayPlay policy trace p plan × Ends p plan history × KeepsLaws p plan history
+    × Adds (text_of_history history) before after
+
+-- What a command that plays a trace says is true, whose play may come to its end so, and may stop full so.
+pub record TracesTruly (Ends Stops : Meaning → Plan → List Entry → Type 0) (Must : ℕ → Type 0) (policy trace : Told)
+    (before after : Option (List ℕ)) (code : ℕ) : Type 0 where
+  pub whole : code ≡ 0 → WritesPlayed Ends policy trace before after
+  pub full : code ≡ 8 → WritesPlayed Stops policy trace before after
+  pub must : Must code
   -- a policy that isn't accepted gets the lines of `check`
   pub lines : OneOf (1 ∷ 3 ∷ []) code → AnswersFor policy before after code
   pub bad_text : code ≡ 2 → TellsFault policy before after ⊎ BadTrace policy trace before after
+
+-- What `play` says of files of which this is told is true: what is written is the serial history, which is whole, or
+-- the complete rounds of it before the first that might not fit the limit.
+abbrev pub PlaysTruly : (policy trace : Told) (before after : Option (List ℕ)) (code : ℕ) → Type 0
+PlaysTruly policy trace before after code =
+    TracesTruly EndsWhole StopsFull (MustPlay policy trace) policy trace before after code
+
+-- What `run` says is true: what is written is a whole history, or complete rounds of a legal one behind which a round
+-- is due that might not fit the limit.
+abbrev pub RunsTruly : (policy trace : Told) (before after : Option (List ℕ)) (code : ℕ) → Type 0
+RunsTruly policy trace before after code =
+    TracesTruly RunEnds RunStops (MustRun policy trace) policy trace before after code
 
 -- The files may hold an accepted policy, a trace that means this plan under it, and the text of this history.
 pub record MayJudge (policy trace history : Told) (p : Meaning) (plan : Plan) (entries : List Entry) : Type 0 where
@@ -400,6 +433,7 @@ IsTruthful None told before after code = Unit {0}
 IsTruthful (Some (check policy)) told before after code = ChecksTruly (told policy) before after code
 IsTruthful (Some (explain policy name)) told before after code = ExplainsTruly (told policy) name before after code
 IsTruthful (Some (play policy trace)) told before after code = PlaysTruly (told policy) (told trace) before after code
+IsTruthful (Some (run policy trace)) told before after code = RunsTruly (told policy) (told trace) before after code
 IsTruthful (Some (replay policy trace history)) told before after code =
     JudgesTruly SaysWhole (told policy) (told trace) (told history) before after code
 IsTruthful (Some (report policy trace history)) told before after code =

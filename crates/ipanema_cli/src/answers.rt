@@ -1,11 +1,13 @@
 //! What commands answer, and how it is written.
 
-ghost use Rattle.std.specs.Prelude.{◌≡◌, ◌≤◌, IfErr, IfOk, IsTrue, length};
+ghost use Rattle.std.specs.Prelude.{◌≡◌, ◌≤◌, ℕ, IfErr, IfOk, IsTrue, length};
 ghost use Rattle.sched_base.specs.declared.limits.TheConstants.{MAX_POLICY_BYTES, MAX_TRACE_BYTES};
 ghost use Rattle.sched_io.specs.Puts.{Puts};
 ghost use Rattle.ipanema_cli.specs.Answers.{AnswersBench, AnswersMake, CanBePut, IsJudgingOfTexts, IsPlayOfTexts, judging_of, lines_of, status_of};
 ghost use Rattle.policy_tree.specs.Meaning.{meaning_of};
 ghost use Rattle.command_words.specs.Numbers.{is_size};
+ghost use Rattle.trace_play.specs.Plays.{IsPlayOf};
+ghost use Rattle.trace_run.specs.Runs.{IsRunOf};
 ghost use Rattle.ipanema_cli.specs.declared.stop.Stop.TheVariants as stop;
 
 use crate::status::{Status, check_status, explain_status, history_status};
@@ -18,11 +20,14 @@ use policy_check::{CheckAnswer, ExplainAnswer, check_text};
 use policy_checker::{AcceptedPolicy, CheckFault, Verdict, check_policy};
 use round_model::Played;
 use sched_base::CHECK_BUDGET;
-use sched_io::{PutFault, Sink, put_all};
+use sched_io::{Gate, PutFault, Sink, put_all};
 use std::alloc::Global;
+use std::sync::Wait;
+use std::thread::Threads;
 use trace_maker::make_trace;
 use trace_play::{PlayAnswer, PlayMemory, play_text};
 use trace_printer::print_trace;
+use trace_run::run_text;
 
 /// What a command answers.
 #[derive(Drop)]
@@ -31,7 +36,7 @@ pub enum Answer {
     Checked(CheckAnswer),
     /// What `explain` answers of an obligation of the policy.
     Explained(ExplainAnswer),
-    /// What serial play of the trace comes to, under an accepted policy.
+    /// What the trace comes to that is played under an accepted policy.
     Played(PlayAnswer),
     /// What a history's text comes to, under an accepted policy and a trace.
     Judged(HistoryAnswer),
@@ -58,13 +63,36 @@ pub enum HistoryCommand {
 pub fn play_texts(alloc: Global, policy: &[u8], trace: &[u8]) -> Result<Answer, Stop>
     requires policy { length policy.now ≤ MAX_POLICY_BYTES }
     requires trace { length trace.now ≤ MAX_TRACE_BYTES }
-    ensures answer { IfOk result (IsPlayOfTexts policy.now trace.now) }
+    ensures answer { IfOk result (IsPlayOfTexts IsPlayOf policy.now trace.now) }
     ensures shown { IfOk result CanBePut }
     ensures memory { IfErr result (λ why. why ≡ stop.Memory) }
 {
     match check_text(alloc, policy)? {
         CheckAnswer::Judged(Verdict::Accepted(accepted)) => {
             Ok(Answer::Played(play_text(alloc, &accepted, trace)?))
+        }
+        refusal => Ok(Answer::Checked(refusal)),
+    }
+}
+
+/// The answer of `run` to texts within their limits. Each core passes the gate in each round.
+pub fn run_texts<R: Threads + Wait + Sync, G: Gate + Sync>(
+    rt: &R,
+    alloc: Global,
+    policy: &[u8],
+    trace: &[u8],
+    gate: &G,
+) -> Result<Answer, Stop>
+    requires policy { length policy.now ≤ MAX_POLICY_BYTES }
+    requires trace { length trace.now ≤ MAX_TRACE_BYTES }
+    requires gate { (c r : ℕ) → IsTrue (G.admits gate.now c r) }
+    ensures answer { IfOk result (IsPlayOfTexts IsRunOf policy.now trace.now) }
+    ensures shown { IfOk result CanBePut }
+    ensures memory { IfErr result (λ why. why ≡ stop.Memory) }
+{
+    match check_text(alloc, policy)? {
+        CheckAnswer::Judged(Verdict::Accepted(accepted)) => {
+            Ok(Answer::Played(run_text(rt, alloc, &accepted, trace, gate)?))
         }
         refusal => Ok(Answer::Checked(refusal)),
     }

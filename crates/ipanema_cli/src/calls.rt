@@ -1,7 +1,9 @@
 //! How tests call the program: over files and a sink in memory.
 
+ghost use Rattle.std.specs.Prelude.{ℕ, IsTrue};
+
 use crate::top::ipanema;
-use sched_io::{MemoryFiles, MemorySink, OpenGate};
+use sched_io::{Gate, MemoryFiles, MemorySink, OpenGate};
 use std::alloc::Global;
 use std::sync::Wait;
 use std::test::Fail;
@@ -58,6 +60,19 @@ pub(crate) fn call<R: Threads + Wait + Sync>(
     words: &[&str],
     outside: &Outside,
 ) -> Result<(u8, Vec<u8>), Fail> {
+    call_past(rt, alloc, words, outside, &OpenGate)
+}
+
+/// The same, where cores that play side by side pass this gate.
+pub(crate) fn call_past<R: Threads + Wait + Sync, G: Gate + Sync>(
+    rt: &R,
+    alloc: Global,
+    words: &[&str],
+    outside: &Outside,
+    gate: &G,
+) -> Result<(u8, Vec<u8>), Fail>
+    requires { (c r : ℕ) → IsTrue (G.admits gate.now c r) }
+{
     let mut list = Vec::new(alloc);
     for word in words {
         list.push(String::from_str(alloc, word)?)?;
@@ -68,7 +83,7 @@ pub(crate) fn call<R: Threads + Wait + Sync>(
     }
     let mut files = MemoryFiles::new(alloc, held, outside.loads.to_vec(alloc)?);
     let mut out = MemorySink::new(alloc, 262_144, outside.puts.to_vec(alloc)?)?;
-    let status = ipanema(rt, alloc, &list, &mut files, &mut out, &OpenGate);
+    let status = ipanema(rt, alloc, &list, &mut files, &mut out, gate);
     Ok((status, out.bytes().to_vec(alloc)?))
 }
 

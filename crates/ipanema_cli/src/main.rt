@@ -18,6 +18,9 @@ mod history_tests;
 mod make_tests;
 #[cfg(test)]
 mod play_tests;
+#[cfg(test)]
+mod run_tests;
+mod running;
 mod serial;
 mod status;
 mod stop;

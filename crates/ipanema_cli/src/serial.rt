@@ -1,17 +1,18 @@
 //! The commands that one thread carries out.
 
-ghost use Rattle.std.specs.Prelude.{◌≡◌, ◌≢◌, ◌⊎◌, ℕ, [], ◌∷◌, Some, IfErr, IfOk, IsErrOf, IsTrue, OnOk, codes, slice_get};
+ghost use Rattle.std.specs.Prelude.{◌≡◌, ◌≢◌, ◌⊎◌, ℕ, List, [], ◌∷◌, Some, IfErr, IfOk, IsErrOf, IsTrue, OnOk, codes, slice_get};
 ghost use Rattle.sched_io.specs.Faults.{Rose};
 ghost use Rattle.sched_io.specs.Loads.{AreRequested};
 ghost use Rattle.ipanema_cli.specs.Answers.{AnswersCheck, AnswersExplain, AnswersJudging, AnswersPlay, CanBePut, IsAnswer, judging_of};
 ghost use Rattle.command_words.specs.Asks.{asked};
 ghost use Rattle.command_words.specs.Numbers.{is_size};
-ghost use Rattle.command_words.specs.Command.{asked_by, bench as asks_bench, check, explain, make as asks_make, play, words_of};
+ghost use Rattle.command_words.specs.Command.{asked_by, bench as asks_bench, check, explain, make as asks_make, play, run, words_of};
 ghost use Rattle.ipanema_cli.specs.Ends.{Ends, Writes};
 ghost use Rattle.ipanema_cli.specs.Causes.{HasCause, OneOf};
 ghost use Rattle.ipanema_cli.specs.Loads.{FirstAreLoaded, LoadsOfThree, files_of, three_files};
 ghost use Rattle.ipanema_cli.specs.Stops.{IsStop, IsStopOfThree};
 ghost use Rattle.ipanema_cli.specs.Truths.{IsTruthful};
+ghost use Rattle.trace_play.specs.Plays.{IsPlayOf};
 
 use crate::answers::{Answer, HistoryCommand, bench, judge, make, play_texts};
 use crate::status::Status;
@@ -51,6 +52,7 @@ pub fn serial_command<F: Files, S: Sink>(
 
 /// Does what the words ask for.
 fn carry_out<F: Files, S: Sink>(alloc: Global, words: &[String], files: &mut F, out: &mut S) -> u8
+    requires { slice_get (words_of words.now) 0 ≢ Some (codes "run") }
     ensures ends { Ends (asked_by (words_of words.now)) (F.told files.old)
         (Rose (F.faults files.old) (F.faults files.new)) (S.shown out.old) (S.shown out.new) result }
     ensures loads { FirstAreLoaded (asked_by (words_of words.now)) (F.told files.old)
@@ -70,6 +72,7 @@ fn carry_out<F: Files, S: Sink>(alloc: Global, words: &[String], files: &mut F, 
 
 /// The answer to what the words ask for.
 fn answer_to<F: Files>(alloc: Global, words: &[String], files: &mut F) -> Result<Answer, Stop>
+    requires { slice_get (words_of words.now) 0 ≢ Some (codes "run") }
     ensures answer { IfOk result (IsAnswer (asked_by (words_of words.now)) (F.told files.old)) }
     ensures shown { IfOk result CanBePut }
     ensures stop { IfErr result (IsStop (asked_by (words_of words.now)) (F.told files.old)
@@ -86,6 +89,7 @@ fn answer_to<F: Files>(alloc: Global, words: &[String], files: &mut F) -> Result
 
 /// The answer to what is asked for.
 fn answer_of<F: Files>(alloc: Global, request: Request, files: &mut F) -> Result<Answer, Stop>
+    requires serial { (policy trace : List ℕ) → asked request ≢ Some (run policy trace) }
     requires made { (seed size : ℕ) → asked request ≡ Some (asks_make seed size) → IsTrue (is_size size) }
     requires benched { (seed size : ℕ) → asked request ≡ Some (asks_bench seed size) → IsTrue (is_size size) }
     ensures answer { IfOk result (IsAnswer (asked request.entry) (F.told files.old)) }
@@ -102,6 +106,8 @@ fn answer_of<F: Files>(alloc: Global, request: Request, files: &mut F) -> Result
         Request::Check { policy } => check(alloc, policy, files),
         Request::Explain { policy, name } => explain(alloc, policy, name, files),
         Request::Play { policy, trace } => play(alloc, policy, trace, files),
+        // That takes more than one thread.
+        Request::Run { .. } => unreachable!(),
         Request::Replay {
             policy,
             trace,
@@ -153,7 +159,7 @@ fn explain<F: Files>(
 
 /// The answer of `play` to the trace in one file under the policy in the other.
 fn play<F: Files>(alloc: Global, policy: &str, trace: &str, files: &mut F) -> Result<Answer, Stop>
-    ensures answer { IfOk result (AnswersPlay (F.told files.old policy.now) (F.told files.old trace.now)) }
+    ensures answer { IfOk result (AnswersPlay IsPlayOf (F.told files.old policy.now) (F.told files.old trace.now)) }
     ensures shown { IfOk result CanBePut }
     ensures stop { IfErr result (IsStop (Some (play policy.now trace.now)) (F.told files.old)
         (Rose (F.faults files.old) (F.faults files.new))) }

@@ -30,7 +30,7 @@ fn words_and_texts(rt: HostRuntime) -> Result<(), Fail> {
         &[""],
         &["check", "-p"],
         &["run", "p"],
-        &["run", "p", "p"],
+        &["run", "p", "p", "p"],
         &["play"],
         &["play", "p"],
         &["play", "p", "-p"],

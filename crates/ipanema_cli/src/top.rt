@@ -1,6 +1,6 @@
 //! The top call: every command over files, a sink and a gate that are handed in.
 
-ghost use Rattle.std.specs.Prelude.{◌≡◌, ◌⊎◌, [], ◌∷◌};
+ghost use Rattle.std.specs.Prelude.{◌≡◌, ◌⊎◌, ℕ, [], ◌∷◌, IsTrue};
 ghost use Rattle.sched_io.specs.Faults.{Rose};
 ghost use Rattle.sched_io.specs.Loads.{AreRequested};
 ghost use Rattle.command_words.specs.Command.{asked_by, words_of};
@@ -9,8 +9,8 @@ ghost use Rattle.ipanema_cli.specs.Causes.{HasCause, OneOf};
 ghost use Rattle.ipanema_cli.specs.Loads.{FirstAreLoaded, files_of};
 ghost use Rattle.ipanema_cli.specs.Truths.{IsTruthful};
 
-use crate::answers::Answer;
-use crate::serial::{give, serial_command};
+use crate::running::run_command;
+use crate::serial::serial_command;
 use sched_io::{Files, Gate, Sink};
 use std::alloc::Global;
 use std::sync::Wait;
@@ -18,16 +18,17 @@ use std::thread::Threads;
 
 /// Carries out the command that the words are, and answers the status for the shell.
 ///
-/// The words are those of the call without the program's name. Files come from `files`, and output goes to `out`. No
-/// command needs a second thread so far: the runtime and the gate are there for those to come.
-pub fn ipanema<R: Threads + Wait + Sync, F: Files, S: Sink, G: Gate>(
-    _rt: &R,
+/// The words are those of the call without the program's name. Files come from `files`, and output goes to `out`. Where
+/// cores play side by side, each waits at `gate` before its turn of a round, so that tests can choose the order.
+pub fn ipanema<R: Threads + Wait + Sync, F: Files, S: Sink, G: Gate + Sync>(
+    rt: &R,
     alloc: Global,
     words: &Vec<String>,
     files: &mut F,
     out: &mut S,
-    _gate: &G,
+    gate: &G,
 ) -> u8
+    requires gate { (c r : ℕ) → IsTrue (G.admits gate.now c r) }
     // One definition says how the call ends for these words and these files.
     ensures ends { Ends (asked_by (words_of words.now.items)) (F.told files.old)
         (Rose (F.faults files.old) (F.faults files.new)) (S.shown out.old) (S.shown out.new) result }
@@ -49,7 +50,7 @@ pub fn ipanema<R: Threads + Wait + Sync, F: Files, S: Sink, G: Gate>(
     ensures quiet { (result ≡ 5) ⊎ ((S.shown out.new).faults ≡ (S.shown out.old).faults) }
 {
     match words.first() {
-        Some(verb) if verb.as_str() == "run" => give(Answer::BadWords, out),
+        Some(verb) if verb.as_str() == "run" => run_command(rt, alloc, words, files, out, gate),
         _ => serial_command(alloc, words, files, out),
     }
 }

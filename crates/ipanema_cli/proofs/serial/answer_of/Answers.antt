@@ -10,6 +10,9 @@ make-requires g c = c.requires.made c.in-Make.seed c.in-Make.size (ap asked c.in
 pub bench-requires : goal.bench-requires
 bench-requires g c = c.requires.benched c.in-Bench.seed c.in-Bench.size (ap asked c.in-Bench.is)
 
+pub unreachable-requires : goal.unreachable-requires
+unreachable-requires g c = c.requires.serial c.in-Run.policy.now c.in-Run.trace.now (ap asked c.in-Run.is)
+
 pub returns-in-Check-clause-loads : goal.returns-in-Check-clause-loads
 returns-in-Check-clause-loads g c =
     subst (λ request. FirstAreLoaded (asked request) (g.F.Files.told c.args.files.now) (g.F.Files.requested c.args.files.now) (g.F.Files.requested c.check.new.files))

@@ -2,11 +2,16 @@
 use Rattle.std.proofs.Common.{sym, ◌∙◌}
 use Rattle.command_words.specs.Command.{words_of}
 use Rattle.command_words.proofs.Sizes.{asked-sized}
+use Rattle.command_words.proofs.Verbs.{begins_with_run}
 use Rattle.ipanema_cli.proofs.LoadLemmas.{none_loaded}
 use Rattle.ipanema_cli.proofs.serial.answer_to.Goals as goal
 
 pub returns-in_err-request-clause-loads : goal.returns-in_err-request-clause-loads
 returns-in_err-request-clause-loads g c = none_loaded _ _ _
+
+pub answer_of-requires-clause-serial : goal.answer_of-requires-clause-serial
+answer_of-requires-clause-serial g c policy trace is =
+    c.requires (begins_with_run policy trace (words_of c.args.words.now) (sym c.in_ok-request.ensures.asks ∙ is))
 
 pub answer_of-requires-clause-made : goal.answer_of-requires-clause-made
 answer_of-requires-clause-made g c seed size is =

@@ -1,0 +1,82 @@
+-- From how `run` ends to the truth of what it says.
+use Rattle.std.proofs.Common.{◌≡◌, ℕ, List, [], ◌∷◌, Option, refl, sym, arith, subst}
+use Rattle.sched_io.specs.Shown.{Shown}
+use Rattle.sched_io.specs.Told.{Told}
+use Rattle.sched_io.specs.Written.{Adds}
+use Rattle.policy_eval.proofs.Statements.{handler_obligations}
+use Rattle.policy_tree.specs.Meaning.{Meaning}
+use Rattle.round_model.specs.declared.entry.Entry.{Entry}
+use Rattle.round_model.specs.declared.plan.Plan.{Plan}
+use Rattle.round_model.specs.declared.serial.Played.TheVariants as played
+use Rattle.round_model.specs.Room.{HasRoomForRounds}
+use Rattle.round_model.proofs.EntryBounds.{room_suffices}
+use Rattle.round_laws.proofs.MainTheorem.{main_theorem}
+use Rattle.sched_history.specs.Spelling.{text_of_history}
+use Rattle.trace_play.specs.declared.answer.PlayAnswer.{PlayAnswer}
+use Rattle.trace_play.specs.declared.answer.PlayAnswer.TheVariants as play_answer
+use Rattle.trace_play.specs.Plays as plays
+use Rattle.trace_run.specs.Runs.{IsRunOf, RunEnds, RunStops, RunsText}
+use Rattle.ipanema_cli.specs.Answers.{AnswersPlay, play_status}
+use Rattle.ipanema_cli.specs.Causes.{OneOf}
+use Rattle.ipanema_cli.specs.Ends.{Writes}
+use Rattle.ipanema_cli.specs.Status.{code_of}
+use Rattle.ipanema_cli.specs.Truths.{DoPlay, MustAnswer, MustRun, RunsTruly}
+use Rattle.ipanema_cli.specs.declared.answers.Answer.{Answer}
+use Rattle.ipanema_cli.proofs.CheckTruths.{Stopped}
+use Rattle.ipanema_cli.proofs.TraceTruths.{Read, broken_trace, held_play, may_play, others_played, same_plan, stopped_trace, traces_truly, weaker_0, weaker_both}
+
+must_of : (policy trace : Told) (code : ℕ) → ((p : Meaning) (plan : Plan) → DoPlay policy trace p plan → OneOf (3 ∷ 4 ∷ 5 ∷ 6 ∷ []) code) → MustAnswer policy trace code → MustRun policy trace code
+must_of policy trace code low others = record {
+  ends = λ p plan held. weaker_both code (low p plan held);
+  reaches_end = λ p plan held room. weaker_0 code (low p plan held);
+  others = others;
+}
+
+pub stopped_run : (policy trace : Told) (before after : Option (List ℕ)) (code : ℕ) → Stopped code → RunsTruly policy trace before after code
+stopped_run policy trace before after code stop = stopped_trace RunEnds RunStops MustRun must_of policy trace before after code stop
+
+ran_whole : (policy trace : Told) (text jobs : List ℕ) (p : Meaning) (history : List Entry) (before after : Option (List ℕ)) (code : ℕ) → Read policy trace text jobs p
+    → RunsText p jobs (played.Whole history) → code ≡ 0 → Adds (text_of_history history) before after → RunsTruly policy trace before after code
+ran_whole policy trace text jobs p history before after code read made own added = record {
+  whole = λ h.
+      let may = may_play policy trace text jobs p made.trace made.plan read made.spells made.means made.fits in
+      (p, made.plan, history, may, made.ran, main_theorem p may.meets made.plan history made.fits made.ran.whole.legal, added);
+  full = λ h. absurd (omega arith);
+  must = record {
+    ends = λ other plan held. rw own refl;
+    reaches_end = λ other plan held room. rw own refl;
+    others = others_played policy trace text jobs p made.trace made.plan code read made.spells made.means (λ three. omega arith);
+  };
+  lines = λ low. absurd (let bad = rw own at low in cc);
+  bad_text = λ h. absurd (omega arith);
+}
+
+ran_full : (policy trace : Told) (text jobs : List ℕ) (p : Meaning) (history : List Entry) (before after : Option (List ℕ)) (code : ℕ) → Read policy trace text jobs p
+    → RunsText p jobs (played.Full history) → code ≡ 8 → Adds (text_of_history history) before after → RunsTruly policy trace before after code
+ran_full policy trace text jobs p history before after code read made own added =
+    let may = may_play policy trace text jobs p made.trace made.plan read made.spells made.means made.fits in
+    record {
+      whole = λ h. absurd (omega arith);
+      full = λ h. (p, made.plan, history, may, made.ran, main_theorem p may.meets made.plan history made.fits made.ran.legal, added);
+      must = record {
+        ends = λ other plan held. rw own refl;
+        reaches_end = λ other plan held room.
+            let s = held_play policy trace text jobs p other plan read held in
+            let is_plan = same_plan p jobs made.trace held.lines made.plan plan made.spells made.means s.spells s.means in
+            absurd (room_suffices p made.plan history made.fits (handler_obligations p may.meets) (subst HasRoomForRounds (sym is_plan) room) made.ran.legal made.ran.full);
+        others = others_played policy trace text jobs p made.trace made.plan code read made.spells made.means (λ three. omega arith);
+      };
+      lines = λ low. absurd (let bad = rw own at low in cc);
+      bad_text = λ h. absurd (omega arith);
+    }
+
+-- the trace was read
+answered_trace : (policy trace : Told) (text jobs : List ℕ) (p : Meaning) (play : PlayAnswer) (before after : Option (List ℕ)) (code : ℕ) → Read policy trace text jobs p
+    → IsRunOf p jobs play → code ≡ code_of (play_status play) → Adds (plays.output_of play) before after → RunsTruly policy trace before after code
+answered_trace policy trace text jobs p (play_answer.Broken fault) before after code read is own added = broken_trace RunEnds RunStops MustRun must_of policy trace text jobs p fault before after code read is own added
+answered_trace policy trace text jobs p (play_answer.Played (played.Whole history)) before after code read is own added = ran_whole policy trace text jobs p history before after code read is own added
+answered_trace policy trace text jobs p (play_answer.Played (played.Full history)) before after code read is own added = ran_full policy trace text jobs p history before after code read is own added
+
+pub runs_truly : (policy trace : Told) (before after : Shown) (code : ℕ) (a : Answer) → AnswersPlay IsRunOf policy trace a
+    → Writes a before after code → RunsTruly policy trace before.written after.written code
+runs_truly policy trace before after code a is writes = traces_truly RunEnds RunStops MustRun must_of IsRunOf answered_trace policy trace before after code a is writes

@@ -1,0 +1,303 @@
+-- From how a command that plays a trace ends to the truth of what it says, as far as that isn't of its play.
+use Rattle.std.specs.List.{list_any}
+use Rattle.std.specs.Prelude.{IsFalse}
+use Rattle.std.proofs.Common.{◌≡◌, ◌≢◌, ℕ, ◌==◌, ◌||◌, Bool, true, false, inl, inr, List, [], ◌∷◌, Option, append-nil, refl, sym, ◌∙◌, arith, subst}
+use Rattle.std.proofs.lemmas.List.Folds.{flat_map-map}
+use Rattle.sched_io.specs.Puts.{joined}
+use Rattle.sched_io.specs.Shown.{Shown}
+use Rattle.sched_io.specs.Told.{Told}
+use Rattle.sched_io.specs.Written.{Adds}
+use Rattle.policy_eval.specs.Obligations.{MeetsObligations}
+use Rattle.policy_tree.specs.declared.typed.Policy.{Policy}
+use Rattle.policy_tree.specs.Meaning.{Meaning, meaning_of}
+use Rattle.policy_checker.specs.declared.answer.Answered.{Answered}
+use Rattle.policy_checker.specs.declared.verdict.Verdict.{Verdict}
+use Rattle.policy_checker.specs.declared.verdict.Verdict.TheVariants as verdict
+use Rattle.policy_checker.proofs.True.{meets}
+use Rattle.policy_checker.proofs.Worth.{unmet}
+use Rattle.policy_check.specs.Checks.{IsCheckOf, IsJudged}
+use Rattle.policy_check.specs.Lines.{check_lines}
+use Rattle.policy_check.specs.declared.answer.CheckAnswer.{CheckAnswer}
+use Rattle.policy_check.specs.declared.answer.CheckAnswer.TheVariants as checked
+use Rattle.policy_check.specs.declared.reading.Refusal.{Refusal}
+use Rattle.policy_check.specs.declared.reading.Refusal.TheVariants as refusal
+use Rattle.round_model.specs.declared.entry.Entry.{Entry}
+use Rattle.round_model.specs.declared.plan.Plan.{Plan}
+use Rattle.round_model.specs.Fits.{Fits}
+use Rattle.job_trace.specs.declared.trace.Numbered.{Numbered}
+use Rattle.job_trace.specs.Plans.{SpellsPlan}
+use Rattle.job_trace.specs.TraceText.{SpellsTrace}
+use Rattle.trace_play.specs.declared.answer.PlayAnswer.{PlayAnswer}
+use Rattle.trace_play.specs.declared.answer.PlayAnswer.TheVariants as play_answer
+use Rattle.trace_play.specs.declared.fault.LineFault.{LineFault}
+use Rattle.trace_play.specs.Plays as plays
+use Rattle.trace_play.specs.Told as trace_faults
+use Rattle.sched_history.specs.Spelling.{line_of_entry}
+use Rattle.trace_play.proofs.OnePlay.{never_faulty, one_plan, one_trace}
+use Rattle.ipanema_cli.specs.Answers.{AnswersPlay, IsAccepted, Playing, accepts, play_status}
+use Rattle.ipanema_cli.specs.Causes.{OneOf}
+use Rattle.ipanema_cli.specs.Ends.{Writes}
+use Rattle.ipanema_cli.specs.Status.{check_status, code_of, refusal_status, verdict_status}
+use Rattle.ipanema_cli.specs.Texts.{MayRead}
+use Rattle.ipanema_cli.specs.Truths.{Decides, DoHold, DoPlay, Holds, MayPlay, MustAnswer, Refuses, Spells, TracesTruly}
+use Rattle.ipanema_cli.specs.declared.answers.Answer.{Answer}
+use Rattle.ipanema_cli.specs.declared.answers.Answer.TheVariants as answer
+use Rattle.ipanema_cli.specs.declared.texts.TextKind.TheVariants as kind
+use Rattle.ipanema_cli.proofs.CheckTruths.{Stopped, at_4, at_5, at_6, not_long, refusal_not_0, stopped_not, stopped_refuses, tells_fault, verdict_answers}
+use Rattle.ipanema_cli.proofs.PolicyFacts.{judged_refuses, read_decides, read_refuses, refused_text, resolved, same_policy, text_read}
+use Rattle.ipanema_cli.proofs.WritesLemmas.{code_among, no_stop, whole}
+
+-- the statuses that are always possible
+pub weaker_0 : (code : ℕ) → OneOf (3 ∷ 4 ∷ 5 ∷ 6 ∷ []) code → OneOf (0 ∷ 3 ∷ 4 ∷ 5 ∷ 6 ∷ []) code
+weaker_0 code low = front (0 == code) (list_any (λ s. s == code) (3 ∷ 4 ∷ 5 ∷ 6 ∷ [])) low
+  where
+    front : (a b : Bool) → b ≡ true → (a || b) ≡ true
+    front true b is = refl
+    front false b is = is
+
+pub weaker_8 : (code : ℕ) → OneOf (3 ∷ 4 ∷ 5 ∷ 6 ∷ []) code → OneOf (3 ∷ 4 ∷ 5 ∷ 6 ∷ 8 ∷ []) code
+weaker_8 code low = back (3 == code) (4 == code) (5 == code) (6 == code) (8 == code) low
+  where
+    back : (a b c d e : Bool) → (a || (b || (c || (d || false)))) ≡ true → (a || (b || (c || (d || (e || false))))) ≡ true
+    back true b c d e is = refl
+    back false true c d e is = refl
+    back false false true d e is = refl
+    back false false false true e is = refl
+    back false false false false e is = absurd (cc)
+
+pub weaker_both : (code : ℕ) → OneOf (3 ∷ 4 ∷ 5 ∷ 6 ∷ []) code → OneOf (0 ∷ 3 ∷ 4 ∷ 5 ∷ 6 ∷ 8 ∷ []) code
+weaker_both code low = front (0 == code) (list_any (λ s. s == code) (3 ∷ 4 ∷ 5 ∷ 6 ∷ 8 ∷ [])) (weaker_8 code low)
+  where
+    front : (a b : Bool) → b ≡ true → (a || b) ≡ true
+    front true b is = refl
+    front false b is = is
+
+stopped_others : (policy trace : Told) (code : ℕ) → Stopped code → MustAnswer policy trace code
+stopped_others policy trace code stop = record {
+  faulty = λ p jobs fault held has. elim stop [ at_4 e ↦ rw e refl | at_5 e ↦ rw e refl | at_6 e ↦ rw e refl ];
+  decides = λ p jobs held also none. stopped_not code 3 (λ e. omega arith) (λ e. omega arith) (λ e. omega arith) stop;
+  refuses = λ p jobs held also unmet. elim stop [ at_4 e ↦ rw e refl | at_5 e ↦ rw e refl | at_6 e ↦ rw e refl ];
+  unjudged = λ jobs also. stopped_refuses policy code stop;
+}
+
+pub low_or_stopped : (code : ℕ) → OneOf (1 ∷ 3 ∷ []) code → Stopped code → ⊥
+low_or_stopped code low stop = elim stop [ at_4 e ↦ (let bad = rw e at low in cc) | at_5 e ↦ (let bad = rw e at low in cc) | at_6 e ↦ (let bad = rw e at low in cc) ]
+
+-- Under a policy that isn't accepted, what must come of the policy's text must come of the call. One that meets its
+-- obligations is left undecided.
+others_of : (policy trace : Told) (code : ℕ) → ((p : Meaning) → Spells policy p → MeetsObligations p → code ≡ 3) → Decides policy code → Refuses policy code → MustAnswer policy trace code
+others_of policy trace code left decides refuses = record {
+  faulty = λ p jobs fault held _. rw (left p held.spells held.meets) refl;
+  decides = λ p jobs held also none. decides.decides p held none;
+  refuses = λ p jobs held also unmet. decides.refuses p held unmet;
+  unjudged = λ jobs also. refuses;
+}
+
+-- a refused policy doesn't meet its obligations
+pub refused_left : (policy : Told) (text : List ℕ) (answers : List Answered) (kept : Policy) (code : ℕ) → MayRead kind.Policy policy text
+    → IsJudged text (meaning_of kept) (verdict.Refused answers kept) → (p : Meaning) → Spells policy p → MeetsObligations p → code ≡ 3
+refused_left policy text answers kept code read is p held met =
+    let own = meaning_of kept in
+    absurd (unmet own (resolved policy text own read is.spells) answers is.is (subst MeetsObligations (sym (same_policy policy text own p read is.spells held)) met))
+
+refusal_not_8 : (why : Refusal) (code : ℕ) → code ≡ code_of (refusal_status why) → code ≢ 8
+refusal_not_8 (refusal.Faulty fault) code own e = omega arith
+refusal_not_8 (refusal.Crowded name) code own e = omega arith
+
+-- a text that isn't judged has no line of an obligation
+pub no_line : (why : Refusal) (code : ℕ) → code ≡ code_of (refusal_status why) → OneOf (1 ∷ 3 ∷ []) code → ⊥
+no_line (refusal.Faulty fault) code own low = let bad = rw own at low in cc
+no_line (refusal.Crowded name) code own low = let bad = rw own at low in cc
+
+-- both files were read, and the policy is accepted
+pub record Read (policy trace : Told) (text jobs : List ℕ) (p : Meaning) : Type 0 where
+  pub policy_read : MayRead kind.Policy policy text
+  pub trace_read : MayRead kind.Trace trace jobs
+  pub accepted : IsAccepted text p
+
+-- what is read is what the files hold
+pub record SamePlay (text jobs : List ℕ) (p other : Meaning) (lines : List Numbered) (plan : Plan) : Type 0 where
+  pub policy : p ≡ other
+  pub spells : SpellsTrace jobs lines
+  pub means : SpellsPlan p lines plan
+
+pub held_play : (policy trace : Told) (text jobs : List ℕ) (p other : Meaning) (plan : Plan) → Read policy trace text jobs p
+    → (held : DoPlay policy trace other plan) → SamePlay text jobs p other held.lines plan
+held_play policy trace text jobs p other plan read held =
+    let same_jobs = text_read kind.Trace trace jobs held.jobs read.trace_read held.held.trace_held in
+    let is_policy : p ≡ other = same_policy policy text p other read.policy_read read.accepted.spells held.held.spells in
+    record {
+      policy = is_policy;
+      spells = subst (λ (t : List ℕ). SpellsTrace t held.lines) (sym same_jobs) held.spells;
+      means = subst (λ (q : Meaning). SpellsPlan q held.lines plan) (sym is_policy) held.means;
+    }
+
+pub same_plan : (p : Meaning) (jobs : List ℕ) (trace lines : List Numbered) (made plan : Plan) → SpellsTrace jobs trace → SpellsPlan p trace made → SpellsTrace jobs lines → SpellsPlan p lines plan → made ≡ plan
+same_plan p jobs trace lines made plan spelled meant spells means =
+    let same = one_trace jobs trace lines spelled spells in
+    one_plan p lines made plan (subst (λ (l : List Numbered). SpellsPlan p l made) same meant) means
+
+-- a fault of what the files hold is one of what was read
+pub still_faulty : (policy trace : Told) (text jobs : List ℕ) (p other : Meaning) (also : List ℕ) (fault : LineFault) → Read policy trace text jobs p
+    → DoHold policy trace other also → plays.HasFault other also fault → plays.HasFault p jobs fault
+still_faulty policy trace text jobs p other also fault read held has =
+    let is_policy : p ≡ other = same_policy policy text p other read.policy_read read.accepted.spells held.spells in
+    let same = text_read kind.Trace trace jobs also read.trace_read held.trace_held in
+    let here : plays.HasFault other jobs fault = subst (λ (t : List ℕ). plays.HasFault other t fault) (sym same) has in
+    subst (λ (q : Meaning). plays.HasFault q jobs fault) (sym is_policy) here
+
+-- an accepted policy meets its obligations, and so does the one that is held
+pub still_meets : (policy trace : Told) (text jobs : List ℕ) (p other : Meaning) → Read policy trace text jobs p → Spells policy other → MeetsObligations other
+still_meets policy trace text jobs p other read held =
+    subst MeetsObligations (same_policy policy text p other read.policy_read read.accepted.spells held)
+    (meets p (resolved policy text p read.policy_read read.accepted.spells) read.accepted.certified)
+
+pub may_play : (policy trace : Told) (text jobs : List ℕ) (p : Meaning) (lines : List Numbered) (plan : Plan) → Read policy trace text jobs p → SpellsTrace jobs lines → SpellsPlan p lines plan → Fits p plan → MayPlay policy trace p plan
+may_play policy trace text jobs p lines plan read spells means fits = record {
+  text = text;
+  jobs = jobs;
+  policy_read = read.policy_read;
+  trace_read = read.trace_read;
+  accepted = read.accepted;
+  meets = meets p (resolved policy text p read.policy_read read.accepted.spells) read.accepted.certified;
+  lines = lines;
+  spells = spells;
+  means = means;
+  fits = fits;
+}
+
+-- what was played has no other fault, and its policy is none that is refused
+pub others_played : (policy trace : Told) (text jobs : List ℕ) (p : Meaning) (lines : List Numbered) (plan : Plan) (code : ℕ) → Read policy trace text jobs p → SpellsTrace jobs lines → SpellsPlan p lines plan → code ≢ 3 → MustAnswer policy trace code
+others_played policy trace text jobs p lines plan code read spells means other_code = record {
+  faulty = λ other also fault held has. absurd (never_faulty p jobs lines plan fault spells means (still_faulty policy trace text jobs p other also fault read held has));
+  decides = λ other also held holding none. other_code;
+  refuses = λ other also held holding unmet. absurd (unmet (still_meets policy trace text jobs p other read held));
+  unjudged = λ also holding. judged_refuses policy text p code read.policy_read read.accepted.spells read.accepted.few;
+}
+
+-- the bytes of the lines are those of the answer
+played_lines : (p : PlayAnswer) → joined (plays.lines_of p) ≡ plays.output_of p
+played_lines (play_answer.Broken fault) = append-nil (trace_faults.fault_line fault)
+played_lines (play_answer.Played play) = flat_map-map (λ l. l) line_of_entry (plays.history_of play)
+
+-- what a status promises of its play follows where nothing was played
+module _ (Ends Stops : Meaning → Plan → List Entry → Type 0) (Must : Told → Told → ℕ → Type 0)
+    (must_of : (policy trace : Told) (code : ℕ) → ((p : Meaning) (plan : Plan) → DoPlay policy trace p plan → OneOf (3 ∷ 4 ∷ 5 ∷ 6 ∷ []) code) → MustAnswer policy trace code → Must policy trace code) where
+  pub stopped_trace : (policy trace : Told) (before after : Option (List ℕ)) (code : ℕ) → Stopped code → TracesTruly Ends Stops (Must policy trace) policy trace before after code
+  stopped_trace policy trace before after code stop = record {
+    whole = λ h. absurd (stopped_not code 0 (λ e. omega arith) (λ e. omega arith) (λ e. omega arith) stop h);
+    full = λ h. absurd (stopped_not code 8 (λ e. omega arith) (λ e. omega arith) (λ e. omega arith) stop h);
+    must = must_of policy trace code (λ p plan held. elim stop [ at_4 e ↦ rw e refl | at_5 e ↦ rw e refl | at_6 e ↦ rw e refl ]) (stopped_others policy trace code stop);
+    lines = λ low. absurd (low_or_stopped code low stop);
+    bad_text = λ h. absurd (stopped_not code 2 (λ e. omega arith) (λ e. omega arith) (λ e. omega arith) stop h);
+  }
+
+  -- a file is too long, which one doesn't matter
+  long_trace : (policy trace : Told) (before after : Option (List ℕ)) (code : ℕ) → ((text jobs : List ℕ) → Holds kind.Policy policy text → Holds kind.Trace trace jobs → ⊥) → code ≡ 10
+      → TracesTruly Ends Stops (Must policy trace) policy trace before after code
+  long_trace policy trace before after code none own = record {
+    whole = λ h. absurd (omega arith);
+    full = λ h. absurd (omega arith);
+    must = must_of policy trace code (λ p plan held. absurd (none held.held.spells.text held.jobs held.held.spells.held held.held.trace_held)) (record {
+      faulty = λ p jobs fault held _. absurd (none held.spells.text jobs held.spells.held held.trace_held);
+      decides = λ p jobs held also _ three. none held.text jobs held.held also;
+      refuses = λ p jobs held also _. absurd (none held.text jobs held.held also);
+      unjudged = λ jobs also. record {
+        crowded = λ text p held _ _. absurd (none text jobs held also);
+        faulty = λ text fault held _. absurd (none text jobs held also);
+      };
+    });
+    lines = λ low. absurd (let bad = rw own at low in cc);
+    bad_text = λ h. absurd (omega arith);
+  }
+
+  -- the policy was judged, and isn't accepted
+  judged : (policy trace : Told) (v : Verdict) (text : List ℕ) (before after : Option (List ℕ)) (code : ℕ) → MayRead kind.Policy policy text → IsCheckOf text (checked.Judged v)
+      → code ≡ code_of (verdict_status v) → code ≢ 0 → code ≢ 8 → code ≢ 2 → ((p : Meaning) → Spells policy p → MeetsObligations p → code ≡ 3)
+      → Adds (joined (check_lines (checked.Judged v))) before after → TracesTruly Ends Stops (Must policy trace) policy trace before after code
+  judged policy trace v text before after code read is own not_0 not_8 not_2 left added = record {
+    whole = λ h. absurd (not_0 h);
+    full = λ h. absurd (not_8 h);
+    must = must_of policy trace code (λ p plan held. rw (left p held.held.spells held.held.meets) refl)
+        (others_of policy trace code left (read_decides policy text (checked.Judged v) code read is own) (read_refuses policy text (checked.Judged v) code read is own));
+    lines = λ low. verdict_answers policy text v before after code read is own added;
+    bad_text = λ h. absurd (not_2 h);
+  }
+
+  -- the policy isn't accepted
+  pub unaccepted : (policy trace : Told) (c : CheckAnswer) (text : List ℕ) (before after : Option (List ℕ)) (code : ℕ) → MayRead kind.Policy policy text → IsCheckOf text c → IsFalse (accepts c)
+      → code ≡ code_of (check_status c) → Adds (joined (check_lines c)) before after → TracesTruly Ends Stops (Must policy trace) policy trace before after code
+  unaccepted policy trace (checked.Judged (verdict.Accepted kept)) text before after code read is refusal own added = absurd (cc)
+  unaccepted policy trace (checked.Judged (verdict.Refused answers kept)) text before after code read is refusal own added =
+      judged policy trace (verdict.Refused answers kept) text before after code read is own (λ e. omega arith) (λ e. omega arith) (λ e. omega arith)
+      (refused_left policy text answers kept code read is) added
+  unaccepted policy trace (checked.Judged (verdict.Undecided answers kept)) text before after code read is refusal own added =
+      judged policy trace (verdict.Undecided answers kept) text before after code read is own (λ e. omega arith) (λ e. omega arith) (λ e. omega arith) (λ p held met. own) added
+  unaccepted policy trace (checked.Unjudged why) text before after code read is refusal own added = record {
+    whole = λ h. absurd (refusal_not_0 why code own h);
+    full = λ h. absurd (refusal_not_8 why code own h);
+    must = must_of policy trace code (λ p plan held. absurd (refused_text policy text why p read is held.held.spells))
+        (others_of policy trace code (λ p held met. absurd (refused_text policy text why p read is held))
+        (read_decides policy text (checked.Unjudged why) code read is own) (read_refuses policy text (checked.Unjudged why) code read is own));
+    lines = λ low. absurd (no_line why code own low);
+    bad_text = λ h. inl (tells_fault policy text why before after code read is own added h);
+  }
+
+  pub broken_trace : (policy trace : Told) (text jobs : List ℕ) (p : Meaning) (fault : LineFault) (before after : Option (List ℕ)) (code : ℕ) → Read policy trace text jobs p
+      → plays.HasFault p jobs fault → code ≡ 2 → Adds (trace_faults.fault_line fault) before after → TracesTruly Ends Stops (Must policy trace) policy trace before after code
+  broken_trace policy trace text jobs p fault before after code read has own added =
+      let never : (other : Meaning) (plan : Plan) → DoPlay policy trace other plan → ⊥ = λ other plan held.
+      let s = held_play policy trace text jobs p other plan read held in
+      never_faulty p jobs held.lines plan fault s.spells s.means has in
+      record {
+        whole = λ h. absurd (omega arith);
+        full = λ h. absurd (omega arith);
+        must = must_of policy trace code (λ other plan held. absurd (never other plan held)) (record {
+          faulty = λ other also found held has_it. rw own refl;
+          decides = λ other also held holding none three. absurd (omega arith);
+          refuses = λ other also held holding unmet. absurd (unmet (still_meets policy trace text jobs p other read held));
+          unjudged = λ also holding. judged_refuses policy text p code read.policy_read read.accepted.spells read.accepted.few;
+        });
+        lines = λ low. absurd (let bad = rw own at low in cc);
+        bad_text = λ h. inr (record {
+          text = text;
+          jobs = jobs;
+          policy_read = read.policy_read;
+          trace_read = read.trace_read;
+          p = p;
+          accepted = read.accepted;
+          fault = fault;
+          has = has;
+          written = added;
+        });
+      }
+
+  -- so what the command says is true, if that is so of what it played
+  module _ (Is : Playing) (played_truly : (policy trace : Told) (text jobs : List ℕ) (p : Meaning) (play : PlayAnswer) (before after : Option (List ℕ)) (code : ℕ) → Read policy trace text jobs p
+      → Is p jobs play → code ≡ code_of (play_status play) → Adds (plays.output_of play) before after → TracesTruly Ends Stops (Must policy trace) policy trace before after code) where
+    pub traces_truly : (policy trace : Told) (before after : Shown) (code : ℕ) (a : Answer) → AnswersPlay Is policy trace a
+        → Writes a before after code → TracesTruly Ends Stops (Must policy trace) policy trace before.written after.written code
+    traces_truly policy trace before after code (answer.Checked c) texts writes = elim (code_among _ _ _ _ writes) [
+      | inr e ↦ stopped_trace policy trace before.written after.written code (at_5 e)
+      | inl e ↦ unaccepted policy trace c texts.text before.written after.written code texts.policy_read texts.answers.0 texts.answers.1 e (whole _ _ _ _ writes (λ five. (no_stop (answer.Checked c)).1 (sym e ∙ five)))
+    ]
+    traces_truly policy trace before after code (answer.Explained told) is writes = absurd is
+    traces_truly policy trace before after code (answer.Judged outcome) is writes = absurd is
+    traces_truly policy trace before after code (answer.Made text) is writes = absurd is
+    traces_truly policy trace before after code (answer.Benched told) is writes = absurd is
+    traces_truly policy trace before after code (answer.Played outcome) texts writes = elim (code_among _ _ _ _ writes) [
+      | inr e ↦ stopped_trace policy trace before.written after.written code (at_5 e)
+      | inl e ↦ played_truly policy trace texts.text texts.jobs texts.answers.0 outcome before.written after.written code
+          (record { policy_read = texts.policy_read; trace_read = texts.trace_read; accepted = texts.answers.1 })
+          texts.answers.2 e (subst (λ (bytes : List ℕ). Adds bytes before.written after.written) (played_lines outcome) (whole _ _ _ _ writes (λ five. (no_stop (answer.Played outcome)).1 (sym e ∙ five))))
+    ]
+    traces_truly policy trace before after code (answer.TooLong kind.Policy) long writes = elim (code_among _ _ _ _ writes) [
+      | inr e ↦ stopped_trace policy trace before.written after.written code (at_5 e)
+      | inl e ↦ long_trace policy trace before.written after.written code (λ text jobs held also. not_long kind.Policy policy text long held) e
+    ]
+    traces_truly policy trace before after code (answer.TooLong kind.Trace) long writes = elim (code_among _ _ _ _ writes) [
+      | inr e ↦ stopped_trace policy trace before.written after.written code (at_5 e)
+      | inl e ↦ long_trace policy trace before.written after.written code (λ text jobs held also. not_long kind.Trace trace jobs long.1 also) e
+    ]
+    traces_truly policy trace before after code (answer.TooLong kind.History) is writes = absurd is
+    traces_truly policy trace before after code answer.BadWords is writes = absurd is

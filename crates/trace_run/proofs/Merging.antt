@@ -1,0 +1,31 @@
+-- The history that is merged is the one that was run.
+use Rattle.std.proofs.Common.{All, List, subst}
+use Rattle.policy_tree.specs.Meaning.{Meaning}
+use Rattle.round_model.specs.declared.entry.Entry.{Entry}
+use Rattle.round_model.specs.declared.plan.Plan.{Plan}
+use Rattle.round_model.specs.declared.serial.Played.{Played}
+use Rattle.round_model.specs.declared.serial.Played.TheVariants as played
+use Rattle.round_model.specs.Fits.{Fits}
+use Rattle.core_state.specs.Logs.{LogsOf}
+use Rattle.core_state.specs.Views.{ClosedView}
+use Rattle.history_merge.proofs.Walks.{one_history}
+use Rattle.parallel_play.specs.Runs.{IsFaultOf, RunsWhole}
+use Rattle.parallel_play.specs.declared.fault.RunFault.{RunFault}
+use Rattle.parallel_play.specs.declared.fault.RunFault.TheVariants as fault
+use Rattle.sched_history.specs.Ranges.{IsPrintable}
+use Rattle.sched_history.proofs.Printable.{legal_is_printable}
+use Rattle.trace_play.specs.Plays.{history_of}
+use Rattle.trace_run.specs.Runs.{IsRun, Left, RunEnds, RunStops}
+
+pub merged_whole : (p : Meaning) (plan : Plan) (closed : ClosedView) (merged : List Entry) → RunsWhole p plan closed → LogsOf merged closed → RunEnds p plan merged
+merged_whole p plan closed merged run logs =
+    subst (RunEnds p plan) (one_history closed run.history merged run.left.logs logs) (record { whole = run.whole; few = run.left.few })
+
+pub merged_full : (p : Meaning) (plan : Plan) (why : RunFault) (left : ClosedView) (merged : List Entry) → IsFaultOf p plan why → Left why left → LogsOf merged left → RunStops p plan merged
+merged_full p plan (fault.HistoryFull closed) left merged run is logs =
+    subst (RunStops p plan) (one_history closed run.history merged run.left.logs (subst (LogsOf merged) is logs)) (record { legal = run.left.legal; complete = run.complete; full = run.full; few = run.left.few })
+
+-- it can be written
+pub shown : (p : Meaning) (plan : Plan) (play : Played) → Fits p plan → IsRun p plan play → All IsPrintable (history_of play)
+shown p plan (played.Whole history) fits is = legal_is_printable p plan history fits is.whole.legal is.few
+shown p plan (played.Full history) fits is = legal_is_printable p plan history fits is.legal is.few

@@ -1,0 +1,56 @@
+-- What a run of a trace's text comes to, where all cores play side by side.
+use Rattle.std.specs.Prelude.{◌≡◌, ℕ, ◌≤◌, List, length}
+use Rattle.sched_base.specs.declared.limits.TheConstants.{MAX_ENTRIES}
+use Rattle.policy_tree.specs.Meaning.{Meaning}
+use Rattle.round_model.specs.declared.entry.Entry.{Entry}
+use Rattle.round_model.specs.declared.plan.Plan.{Plan}
+use Rattle.round_model.specs.declared.serial.Played.{Played}
+use Rattle.round_model.specs.declared.serial.Played.TheVariants as played
+use Rattle.round_model.specs.Fits.{Fits}
+use Rattle.round_model.specs.Legal.{IsComplete, Legal, Whole}
+use Rattle.round_model.specs.SerialEnds.{IsFull}
+use Rattle.core_state.specs.Views.{ClosedView}
+use Rattle.parallel_play.specs.declared.fault.RunFault.{RunFault}
+use Rattle.parallel_play.specs.declared.fault.RunFault.TheVariants as fault
+use Rattle.job_trace.specs.declared.trace.Numbered.{Numbered}
+use Rattle.job_trace.specs.Plans.{SpellsPlan}
+use Rattle.job_trace.specs.TraceText.{SpellsTrace}
+use Rattle.trace_play.specs.declared.answer.PlayAnswer.{PlayAnswer}
+use Rattle.trace_play.specs.declared.answer.PlayAnswer.TheVariants as answer
+use Rattle.trace_play.specs.Plays.{HasFault}
+
+-- the run came to its end: the history is whole
+pub record RunEnds (p : Meaning) (plan : Plan) (history : List Entry) : Type 0 where
+  pub whole : Whole p plan history
+  pub few : length history ≤ MAX_ENTRIES
+
+-- the run stopped before a round that might not fit: behind complete rounds of a legal history one is due that may
+-- have more entries than the plan's limit still allows
+pub record RunStops (p : Meaning) (plan : Plan) (history : List Entry) : Type 0 where
+  pub legal : Legal p plan history
+  pub complete : IsComplete plan history
+  pub full : IsFull plan history
+  pub few : length history ≤ MAX_ENTRIES
+
+-- what a run comes to
+abbrev pub IsRun : Meaning → Plan → Played → Type 0
+IsRun p plan (played.Whole history) = RunEnds p plan history
+IsRun p plan (played.Full history) = RunStops p plan history
+
+-- the cores that are left where no whole history was made
+abbrev pub Left : RunFault → ClosedView → Type 0
+Left (fault.HistoryFull closed) left = left ≡ closed
+
+-- the text spells a trace, whose plan fits the policy, and that is what a run of the plan came to
+pub record RunsText (p : Meaning) (text : List ℕ) (play : Played) : Type 0 where
+  pub trace : List Numbered
+  pub spells : SpellsTrace text trace
+  pub plan : Plan
+  pub means : SpellsPlan p trace plan
+  pub fits : Fits p plan
+  pub ran : IsRun p plan play
+
+-- the answer is one that the text may get under the policy
+abbrev pub IsRunOf : Meaning → List ℕ → PlayAnswer → Type 0
+IsRunOf p text (answer.Broken fault) = HasFault p text fault
+IsRunOf p text (answer.Played play) = RunsText p text play

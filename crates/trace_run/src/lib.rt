@@ -1,0 +1,10 @@
+//! What a trace's text comes to where all cores run side by side: its plan, the run, and the history that is merged
+//! from the logs of the cores.
+//!
+//! The answers are those of serial play, `PlayAnswer`. What they promise is less: the history is legal and whole, or
+//! stops before a round that might not fit, but which of them comes isn't said.
+#![tactic(auto)]
+
+mod running;
+
+pub use crate::running::{run_plan, run_text};
