@@ -17,6 +17,7 @@ use std::thread::Threads;
 const LOOKS: u32 = 50_000_000;
 
 /// A gate at which two cores wait for each other.
+#[derive(Drop)]
 struct Meeting {
     /// Of each core, whether it came.
     came: [OnceLock<bool>; 2],

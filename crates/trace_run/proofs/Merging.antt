@@ -1,5 +1,6 @@
 -- The history that is merged is the one that was run.
-use Rattle.std.proofs.Common.{All, List, subst}
+use Rattle.std.proofs.Common.{◌≤◌, All, List, arith, length, subst}
+use Rattle.sched_base.specs.declared.limits.TheConstants.{MAX_ENTRIES}
 use Rattle.policy_tree.specs.Meaning.{Meaning}
 use Rattle.round_model.specs.declared.entry.Entry.{Entry}
 use Rattle.round_model.specs.declared.plan.Plan.{Plan}
@@ -25,7 +26,10 @@ pub merged_full : (p : Meaning) (plan : Plan) (why : RunFault) (left : ClosedVie
 merged_full p plan (fault.HistoryFull closed) left merged run is logs =
     subst (RunStops p plan) (one_history closed run.history merged run.left.logs (subst (LogsOf merged) is logs)) (record { legal = run.left.legal; complete = run.complete; full = run.full; few = run.left.few })
 
+within : (p : Meaning) (plan : Plan) (history : List Entry) → Fits p plan → length history ≤ plan.limit → length history ≤ MAX_ENTRIES
+within p plan history fits few = let most = fits.few_entries in omega arith
+
 -- it can be written
 pub shown : (p : Meaning) (plan : Plan) (play : Played) → Fits p plan → IsRun p plan play → All IsPrintable (history_of play)
-shown p plan (played.Whole history) fits is = legal_is_printable p plan history fits is.whole.legal is.few
-shown p plan (played.Full history) fits is = legal_is_printable p plan history fits is.legal is.few
+shown p plan (played.Whole history) fits is = legal_is_printable p plan history fits is.whole.legal (within p plan history fits is.few)
+shown p plan (played.Full history) fits is = legal_is_printable p plan history fits is.legal (within p plan history fits is.few)

@@ -1,6 +1,5 @@
 -- What a run of a trace's text comes to, where all cores play side by side.
 use Rattle.std.specs.Prelude.{◌≡◌, ℕ, ◌≤◌, List, length}
-use Rattle.sched_base.specs.declared.limits.TheConstants.{MAX_ENTRIES}
 use Rattle.policy_tree.specs.Meaning.{Meaning}
 use Rattle.round_model.specs.declared.entry.Entry.{Entry}
 use Rattle.round_model.specs.declared.plan.Plan.{Plan}
@@ -22,7 +21,7 @@ use Rattle.trace_play.specs.Plays.{HasFault}
 -- the run came to its end: the history is whole
 pub record RunEnds (p : Meaning) (plan : Plan) (history : List Entry) : Type 0 where
   pub whole : Whole p plan history
-  pub few : length history ≤ MAX_ENTRIES
+  pub few : length history ≤ plan.limit
 
 -- the run stopped before a round that might not fit: behind complete rounds of a legal history one is due that may
 -- have more entries than the plan's limit still allows
@@ -30,7 +29,7 @@ pub record RunStops (p : Meaning) (plan : Plan) (history : List Entry) : Type 0 
   pub legal : Legal p plan history
   pub complete : IsComplete plan history
   pub full : IsFull plan history
-  pub few : length history ≤ MAX_ENTRIES
+  pub few : length history ≤ plan.limit
 
 -- what a run comes to
 abbrev pub IsRun : Meaning → Plan → Played → Type 0
