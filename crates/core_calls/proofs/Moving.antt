@@ -45,19 +45,23 @@ module _ (v : View) (c : ℕ) (y z : CoreView) (free : v.held ≡ []) (low : c <
   unfolding touches effect
   enter_moved thread by reads t task planned made came =
       one_moved (entry.Enter thread by c reads) (λ d. refl)
-      (λ m own. came ∙ (λ k. record y { core = (
-          ap (λ (x : Task). admitted (meaning_in v) true x y.core) made
-          ∙ (ap (λ (o : Option Planned). entered (meaning_in v) o y.core) (sym planned)
-          ∙ (ap (entered (meaning_in v) (planned_of v.plan thread)) (sym own)
-          ∙ ap (λ b. cond b (entered (meaning_in v) (planned_of v.plan thread) (m c)) (m c)) (sym (eq-eqb c c refl))))) k }))
+      (λ m own. came ∙ (λ k. record y {
+        core = (
+            ap (λ (x : Task). admitted (meaning_in v) true x y.core) made
+            ∙ (ap (λ (o : Option Planned). entered (meaning_in v) o y.core) (sym planned)
+            ∙ (ap (entered (meaning_in v) (planned_of v.plan thread)) (sym own)
+            ∙ ap (λ b. cond b (entered (meaning_in v) (planned_of v.plan thread) (m c)) (m c)) (sym (eq-eqb c c refl))))) k;
+      }))
 
   pub work_moved : (did : Did) → z ≡ record y { core = core_after_work (meaning_in v) v.plan v.round y.core } → HasMoved (entry.Work c did) (holding c y v) c z
   unfolding touches effect
   work_moved did ran =
       one_moved (entry.Work c did) (λ d. refl)
-      (λ m own. ran ∙ (λ k. record y { core = (
-          ap (core_after_work (meaning_in v) v.plan v.round) (sym own)
-          ∙ ap (λ b. cond b (core_after_work (meaning_in v) v.plan v.round (m c)) (m c)) (sym (eq-eqb c c refl))) k }))
+      (λ m own. ran ∙ (λ k. record y {
+        core = (
+            ap (core_after_work (meaning_in v) v.plan v.round) (sym own)
+            ∙ ap (λ b. cond b (core_after_work (meaning_in v) v.plan v.round (m c)) (m c)) (sym (eq-eqb c c refl))) k;
+      }))
 
   -- a thread that wakes on the core where it was blocked
   pub wake_moved : (thread : ℕ) (reads : List ℕ) (b : Blocked) → blocked_of thread y.core ≡ Some b
@@ -66,12 +70,14 @@ module _ (v : View) (c : ℕ) (y z : CoreView) (free : v.held ≡ []) (low : c <
   wake_moved thread reads b is came =
       let named : b.task.id ≡ thread = let test = find-passes (is_blocked_task thread) y.core.blocked b is in grind (arith, nat_tests) in
       one_moved (entry.Wake thread c c reads) (λ d. both (eqb c d))
-      (λ m own. came ∙ (λ k. record y { core = (
-          ap (λ id. admitted (meaning_in v) false b.task (released id y.core)) (sym named)
-          ∙ (ap (λ x. let left : ModelCore = cond x (released b.task.id y.core) y.core in cond x (admitted (meaning_in v) false b.task left) left) (sym (eq-eqb c c refl))
-          ∙ (ap (λ (o : Option Blocked). woken (meaning_in v) c c c o y.core) (sym is)
-          ∙ (ap (λ (x : ModelCore). woken (meaning_in v) c c c (blocked_of thread x) x) (sym own)
-          ∙ ap (λ x. cond x (woken (meaning_in v) c c c (blocked_of thread (m c)) (m c)) (m c)) (sym (both (eqb c c) ∙ eq-eqb c c refl)))))) k }))
+      (λ m own. came ∙ (λ k. record y {
+        core = (
+            ap (λ id. admitted (meaning_in v) false b.task (released id y.core)) (sym named)
+            ∙ (ap (λ x. let left : ModelCore = cond x (released b.task.id y.core) y.core in cond x (admitted (meaning_in v) false b.task left) left) (sym (eq-eqb c c refl))
+            ∙ (ap (λ (o : Option Blocked). woken (meaning_in v) c c c o y.core) (sym is)
+            ∙ (ap (λ (x : ModelCore). woken (meaning_in v) c c c (blocked_of thread x) x) (sym own)
+            ∙ ap (λ x. cond x (woken (meaning_in v) c c c (blocked_of thread (m c)) (m c)) (m c)) (sym (both (eqb c c) ∙ eq-eqb c c refl)))))) k;
+      }))
     where
       both : (x : Bool) → (x || x) ≡ x
       both true = refl
@@ -131,8 +137,10 @@ module _ (v : View) (a b thread : ℕ) (reads : List ℕ) (y z : CoreView) (apar
   other_moved : IsMoved (entry.Wake thread a b reads) v (taken v.plan.cores b z) came
   other_moved m agree =
       let mine : m a ≡ y.core = agree i (taken v.plan.cores a y) own in let theirs : m b ≡ z.core = agree j (taken v.plan.cores b z) other in
-      sent.came ∙ (λ k. record z { core = (ap (admitted (meaning_in v) false sent.blocked.task) (sym theirs)
-          ∙ sym (wake_comes (meaning_in v) v.plan v.round m a b thread reads apart sent.blocked (ap (blocked_of thread) mine ∙ sent.found))) k })
+      sent.came ∙ (λ k. record z {
+        core = (ap (admitted (meaning_in v) false sent.blocked.task) (sym theirs)
+            ∙ sym (wake_comes (meaning_in v) v.plan v.round m a b thread reads apart sent.blocked (ap (blocked_of thread) mine ∙ sent.found))) k;
+      })
 
 -- by its number the core is the lower or the higher of the two
 module _ (v : View) (a b thread : ℕ) (reads : List ℕ) (y z left came : CoreView) (apart : a ≢ b) (free : v.held ≡ []) (sent : SendsOne (meaning_in v) thread y z left came) where

@@ -119,7 +119,7 @@ over_by v a marked entered attempted h ag look =
     let own : own_entries h a ≡ own_entries_in v = sym (own_is a h) ∙ ap (map (λ (l : Logged). l.entry)) (sym t.is_own) in
     let s : Scene = scene_of (meaning_in v) v.plan h a in
     let nobody : entering_next v.plan (round_of h) a (own_entries h a) ≡ None = nothing (entering_next v.plan (round_of h) a (own_entries h a))
-        (subst (λ (x : ℕ × List Entry). IsNone (entering_next v.plan x.0 a x.1)) (λ i. (ag.dated.round i, sym own i)) entered) in
+    (subst (λ (x : ℕ × List Entry). IsNone (entering_next v.plan x.0 a x.1)) (λ i. (ag.dated.round i, sym own i)) entered) in
     let none : waking_next (round_of h) (after (meaning_in v) v.plan h a) ≡ None = nothing (waking_next (round_of h) (after (meaning_in v) v.plan h a)) (t.due refl) in
     ap (step_to_enter s a look) nobody ∙ (ap (step_to_wake (own_entries h a) look) none
     ∙ ap (λ b. cond b over (cond (has_worked (own_entries h a)) (step_behind_unit look) working)) (ap has_attempted own ∙ attempted))

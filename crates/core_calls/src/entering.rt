@@ -27,7 +27,8 @@ impl Actor<'_> {
             unreachable!()
         };
         let mut held = self.table.hold(rt, seat, at);
-        held.state.admit(self.policy, entering_task(self.policy, planned), true);
+        held.state
+            .admit(self.policy, entering_task(self.policy, planned), true);
         let entry = Entry::Enter {
             thread,
             by: self.core,

@@ -22,13 +22,7 @@ use steal_phase::attempt;
 impl Actor<'_> {
     /// The core's turn of the open round, which has that number: it lets threads in, wakes those that are due, runs
     /// its unit, passes the gate, looks at all cores, and makes its attempt.
-    pub fn turn<R: Wait, G: Gate>(
-        &self,
-        rt: &R,
-        seat: &mut Seat,
-        round: u32,
-        gate: &G,
-    ) -> Turned
+    pub fn turn<R: Wait, G: Gate>(&self, rt: &R, seat: &mut Seat, round: u32, gate: &G) -> Turned
         requires seat { IsOf (table_of self.now) seat.old }
         requires fresh { IsFresh (view_of seat.old) (core_of self.now) }
         requires round { round ≡ (view_of seat.old).round }

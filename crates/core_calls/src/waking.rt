@@ -37,6 +37,7 @@ impl Actor<'_> {
             self.wake_away(rt, seat, round, at, reads)
         }
     }
+
     /// Whether a thread of the core is due. Where none is, the seat knows it from now on.
     fn has_due<R: Wait>(&self, rt: &R, seat: &mut Seat, round: u32) -> bool
         requires seat { IsOf (table_of self.now) seat.old }
@@ -53,14 +54,8 @@ impl Actor<'_> {
         due
     }
 
-    /// The same, where the thread comes to the core itself.
-    fn wake_here<R: Wait>(
-        &self,
-        rt: &R,
-        seat: &mut Seat,
-        round: u32,
-        reads: Reads,
-    ) -> Option<Pos>
+    /// Wakes the next thread that is due, and puts it on the core itself.
+    fn wake_here<R: Wait>(&self, rt: &R, seat: &mut Seat, round: u32, reads: Reads) -> Option<Pos>
         requires seat { IsOf (table_of self.now) seat.old }
         requires may { MayWake (view_of seat.old) (core_of self.now) }
         requires round { round ≡ (view_of seat.old).round }

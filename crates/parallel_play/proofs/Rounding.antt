@@ -74,8 +74,8 @@ module _ (policy : Policy) (plan : Plan) (t : Tally) (empty : IsEmpty t) where
       let p : Meaning = meaning_of policy in
       let none : rounds_begun h ≡ 0 = sym (open_round p plan h ag.legal) ∙ sym ag.dated.round in
       let idle : (c : ℕ) (x : Turn) → get_elem? (all_idle plan.cores) c ≡ some x → length (log_in x) ≡ length (own_entries h c) =
-          λ c x there. let still = idle_at plan.cores c x there in let own = subst (IsTrueTurn h c) still (ag.role.are_true c x there) in
-          ap (λ (y : Turn). length (log_in y)) still ∙ ap length (sym (ap (map (λ (l : Logged). l.entry)) own) ∙ own_is c h) in
+      λ c x there. let still = idle_at plan.cores c x there in let own = subst (IsTrueTurn h c) still (ag.role.are_true c x there) in
+      ap (λ (y : Turn). length (log_in y)) still ∙ ap length (sym (ap (map (λ (l : Logged). l.entry)) own) ∙ own_is c h) in
       let zero : entries_of (all_idle plan.cores) ≡ 0 = all_nothing plan.cores in
       let sums = sums_by_number (all_idle plan.cores) (λ (x : Turn). length (log_in x)) (λ c. length (own_entries h c)) idle in
       let wide = ag.role.count in let total = ap (λ n. sum_by (λ c. length (own_entries h c)) (range_with_len 0 n)) wide in

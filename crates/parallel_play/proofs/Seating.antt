@@ -113,7 +113,7 @@ module _ (c : ℕ) (before counted after : Tally) (v left w u x : View) (turned 
         (at_set pl.turns c d (turn.Done u.own) t at);
     entries =
         let split : entries_of (drop c turns_now) ≡ length u.own + entries_of (drop (c + 1) pl.turns) =
-            ap entries_of rest_is ∙ sum_by-cons (λ (t : Turn). length (log_in t)) (turn.Done u.own) (drop (c + 1) pl.turns) in
+        ap entries_of rest_is ∙ sum_by-cons (λ (t : Turn). length (log_in t)) (turn.Done u.own) (drop (c + 1) pl.turns) in
         let count = done.entries in let sum = pl.entries in let more = adds.entries in omega arith;
     ended = λ id few.
         adds.ended id few ∙ (ap (λ b. b || is_told id turned.ended) (pl.ended id few)

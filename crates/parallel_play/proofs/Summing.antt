@@ -119,7 +119,7 @@ module _ (p : Meaning) (plan : Plan) where
       let actor = actor_of e is in let a : ℕ = actor.0 in let there = acts_there p plan h e a actor.1 next in
       let start = start_stays h e is in let long = length-append h (e ∷ []) in
       let sums : own_total (h ++ e ∷ []) ≡ sum_by (λ c. length (own_entries h c) + hits a c) (core_numbers plan) =
-          ap (λ (f : ℕ → ℕ). sum_by f (core_numbers plan)) (λ i c. own_longer h e a c is actor.1 i) in
+      ap (λ (f : ℕ → ℕ). sum_by f (core_numbers plan)) (λ i c. own_longer h e a c is actor.1 i) in
       let both = sum_of_both (λ c. length (own_entries h c)) (hits a) (core_numbers plan) in
       let one = one_hit a 0 plan.cores (omega arith) (omega arith) in
       omega arith

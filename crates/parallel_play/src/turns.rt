@@ -109,7 +109,20 @@ pub(crate) fn play_from<R: Threads + Wait + Sync, G: Gate + Sync>(
                 × (plan.now ≡ plan_of table.now) × (round ≡ (view_of own).round)
                 × ((c r : ℕ) → IsTrue (G.admits gate.now c r)) }
             ensures { IsOf table.entry.now result.0 × HasTurned core result.1 (view_of own) (view_of result.0) }
-        { turn(rt, &Stage { table, policy, plan, round }, gate, own, core) },
+        {
+            turn(
+                rt,
+                &Stage {
+                    table,
+                    policy,
+                    plan,
+                    round,
+                },
+                gate,
+                own,
+                core,
+            )
+        },
         || -> (Seat, Tally)
             requires { IsSync R.row × IsSync G.row × IsOf table.now left × IdleFrom next (view_of left)
                 × (policy.now ≡ policy_of table.now)
@@ -117,7 +130,21 @@ pub(crate) fn play_from<R: Threads + Wait + Sync, G: Gate + Sync>(
                 × ((c r : ℕ) → IsTrue (G.admits gate.now c r)) }
             ensures { IsOf table.entry.now result.0
                 × Played next tally result.1 (view_of left) (view_of result.0) }
-        { play_from(rt, &Stage { table, policy, plan, round }, gate, left, next, tally) },
+        {
+            play_from(
+                rt,
+                &Stage {
+                    table,
+                    policy,
+                    plan,
+                    round,
+                },
+                gate,
+                left,
+                next,
+                tally,
+            )
+        },
     );
     take_back(stage, rest, own, counted, turned)
 }

@@ -10,7 +10,7 @@ use Rattle.parallel_play.proofs.rounds.run_under.Goals as goal
 
 pub loop-begun-init : goal.loop-begun-init
 loop-begun-init g c =
-        let s = c.requires.seat in record { of = s.of; between = first_between c.args.policy.now c.args.plan.now c.new-tally.result c.new-tally.ensures (view_of c.args.seat) s.view s.known }
+    let s = c.requires.seat in record { of = s.of; between = first_between c.args.policy.now c.args.plan.now c.new-tally.result c.new-tally.ensures (view_of c.args.seat) s.view s.known }
 
 pub returns-then-not-is_due-clause-whole : goal.returns-then-not-is_due-clause-whole
 returns-then-not-is_due-clause-whole g c =

@@ -29,7 +29,7 @@ admit-requires-clause-consts c =
     let table = table_of self in let p = meaning_of (policy_of table) in let plan = plan_of table in
     let due = sym c.due.ensures ∙ c.in_ok-thread.was in let there = due_blocked c.args.round thread own.state.core due in
     let can = subst (λ (q : Meaning). CanAdmit q other.state) (sym (ap meaning_of self.under))
-        (comes_over p plan two.fits two.handlers two.history two.legal thread own.core own.state two.first two.first_now other.core other.state two.apart two.second two.second_now there) in
+    (comes_over p plan two.fits two.handlers two.history two.legal thread own.core own.state two.first two.first_now other.core other.state two.apart two.second two.second_now there) in
     can.consts
 
 pub admit-requires-clause-room : goal.admit-requires-clause-room
@@ -38,5 +38,5 @@ admit-requires-clause-room c =
     let table = table_of self in let p = meaning_of (policy_of table) in let plan = plan_of table in
     let due = sym c.due.ensures ∙ c.in_ok-thread.was in let there = due_blocked c.args.round thread own.state.core due in
     let can = subst (λ (q : Meaning). CanAdmit q other.state) (sym (ap meaning_of self.under))
-        (comes_over p plan two.fits two.handlers two.history two.legal thread own.core own.state two.first two.first_now other.core other.state two.apart two.second two.second_now there) in
+    (comes_over p plan two.fits two.handlers two.history two.legal thread own.core own.state two.first two.first_now other.core other.state two.apart two.second two.second_now there) in
     can.room

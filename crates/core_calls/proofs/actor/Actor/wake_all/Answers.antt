@@ -21,7 +21,10 @@ overflow_add-drawn g c =
 pub loop-preserved : goal.loop-preserved
 loop-preserved g c =
     let a = c.args.self.now.core in let v = view_of c.loop.seat in let now = view_of c.wake_next.new.seat in let i = c.loop.invariant in
-    let w = subst (λ (r : Option ℕ). MatchOption r (HasNoneDue a v now) (λ at. Woken a at v now)) c.in-Some-wake_next.is c.wake_next.ensures.woken in let at = c.in-Some-wake_next.field-0 in
-    (tt, tt, c.wake_next.ensures.seat,
-    drawn_more a c.loop.drawn at (entry.Wake w.thread a w.to w.reads) (view_of c.args.seat.now) v now i.3 w.adds refl refl (λ id. refl),
-    let_in_still a at (entry.Wake w.thread a w.to w.reads) v now w.adds.added (λ id. refl) i.4)
+    let w = subst (λ (r : Option ℕ). MatchOption r (HasNoneDue a v now) (λ at. Woken a at v now)) c.in-Some-wake_next.is c.wake_next.ensures.woken in let at = c.in-Some-wake_next.field-0 in (
+      tt,
+      tt,
+      c.wake_next.ensures.seat,
+      drawn_more a c.loop.drawn at (entry.Wake w.thread a w.to w.reads) (view_of c.args.seat.now) v now i.3 w.adds refl refl (λ id. refl),
+      let_in_still a at (entry.Wake w.thread a w.to w.reads) v now w.adds.added (λ id. refl) i.4,
+    )

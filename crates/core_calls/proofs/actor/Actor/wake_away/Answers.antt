@@ -32,10 +32,10 @@ returns-in_default-clause-woken g c =
     let s = c.send_between.ensures in let now = c.send_between.new.held in
     let p = meaning_of (policy_of (table_of self)) in let is_p : p ≡ meaning_in v = ap meaning_of (sym o.policy) in
     let between : SendsBetween p c.args.round self.core held.low.core held.high.core None held.low.state held.high.state now.low.state now.high.state =
-        record {
-          up = λ same. subst (λ (x : Option ℕ). Sends p c.args.round x held.low.state held.high.state now.low.state now.high.state) c.in_default.is (s.up same);
-          down = λ same. subst (λ (x : Option ℕ). Sends p c.args.round x held.high.state held.low.state now.high.state now.low.state) c.in_default.is (s.down same);
-        } in
+    record {
+      up = λ same. subst (λ (x : Option ℕ). Sends p c.args.round x held.low.state held.high.state now.low.state now.high.state) c.in_default.is (s.up same);
+      down = λ same. subst (λ (x : Option ℕ). Sends p c.args.round x held.high.state held.low.state now.high.state now.low.state) c.in_default.is (s.down same);
+    } in
     none_between v self.core at reads may c.requires.placed inside apart held.low.state held.high.state now.low.state now.high.state p c.args.round held.low.core held.high.core is_p c.requires.round e.low e.high between (view_of c.release_two.new.seat) (c.release_two.ensures.home.view ∙ ap (λ (x : View). giving (giving x)) e.held.view)
 
 pub draw_two-position-requires-clause-moved : goal.draw_two-position-requires-clause-moved
@@ -47,10 +47,10 @@ draw_two-position-requires-clause-moved g c =
     let thread = c.in-Some.thread in let s = c.send_between.ensures in let now = c.send_between.new.held in
     let p = meaning_of (policy_of (table_of self)) in let is_p : p ≡ meaning_in v = ap meaning_of (sym o.policy) in
     let between : SendsBetween p c.args.round self.core held.low.core held.high.core (Some thread) held.low.state held.high.state now.low.state now.high.state =
-        record {
-          up = λ same. subst (λ (x : Option ℕ). Sends p c.args.round x held.low.state held.high.state now.low.state now.high.state) c.in-Some.is (s.up same);
-          down = λ same. subst (λ (x : Option ℕ). Sends p c.args.round x held.high.state held.low.state now.high.state now.low.state) c.in-Some.is (s.down same);
-        } in
+    record {
+      up = λ same. subst (λ (x : Option ℕ). Sends p c.args.round x held.low.state held.high.state now.low.state now.high.state) c.in-Some.is (s.up same);
+      down = λ same. subst (λ (x : Option ℕ). Sends p c.args.round x held.high.state held.low.state now.high.state now.low.state) c.in-Some.is (s.down same);
+    } in
     let sent = sent_between v self.core at reads may c.requires.placed inside apart held.low.state held.high.state now.low.state now.high.state p c.args.round held.low.core held.high.core is_p c.requires.round e.low e.high thread between in
     moved_as (entry.Wake thread self.core at reads) (entry.Wake thread self.core at reads) (holding (max self.core at) held.high.state (holding (min self.core at) held.low.state v)) (view_of c.hold_two-held.new.seat)
     (min self.core at) (max self.core at) now.low.core now.high.core now.low.state now.high.state refl e.held.view (s.cores.0 ∙ e.low) (s.cores.1 ∙ e.high) sent.moved
@@ -64,10 +64,10 @@ draw_two-position-requires-clause-legal g c =
     let thread = c.in-Some.thread in let s = c.send_between.ensures in let now = c.send_between.new.held in
     let p = meaning_of (policy_of (table_of self)) in let is_p : p ≡ meaning_in v = ap meaning_of (sym o.policy) in
     let between : SendsBetween p c.args.round self.core held.low.core held.high.core (Some thread) held.low.state held.high.state now.low.state now.high.state =
-        record {
-          up = λ same. subst (λ (x : Option ℕ). Sends p c.args.round x held.low.state held.high.state now.low.state now.high.state) c.in-Some.is (s.up same);
-          down = λ same. subst (λ (x : Option ℕ). Sends p c.args.round x held.high.state held.low.state now.high.state now.low.state) c.in-Some.is (s.down same);
-        } in
+    record {
+      up = λ same. subst (λ (x : Option ℕ). Sends p c.args.round x held.low.state held.high.state now.low.state now.high.state) c.in-Some.is (s.up same);
+      down = λ same. subst (λ (x : Option ℕ). Sends p c.args.round x held.high.state held.low.state now.high.state now.low.state) c.in-Some.is (s.down same);
+    } in
     let sent = sent_between v self.core at reads may c.requires.placed inside apart held.low.state held.high.state now.low.state now.high.state p c.args.round held.low.core held.high.core is_p c.requires.round e.low e.high thread between in
     subst (λ (x : View). IsLocalIn x (entry.Wake thread self.core at reads)) (sym e.held.view) sent.legal
 

@@ -55,7 +55,7 @@ finish-requires-clause-moved g c =
     let low : self.core < v.plan.cores = subst (λ (x : Plan). self.core < x.cores) (sym o.plan) self.there in let y = c.hold-held.result.state in
     let did = c.work-did.result in let z = c.work-did.new.self in
     let ran : z ≡ record y { core = core_after_work (meaning_in v) v.plan v.round y.core } =
-        c.work-did.ensures.core ∙ (λ i. record y { core = core_after_work (sym is_q i) (sym is_plan i) (c.requires.round i) y.core }) in
+    c.work-did.ensures.core ∙ (λ i. record y { core = core_after_work (sym is_q i) (sym is_plan i) (c.requires.round i) y.core }) in
     subst (λ (x : View × ℕ). HasMoved (entry.Work self.core did) x.0 x.1 z) (λ i. (sym e.view i, sym c.hold-held.ensures.core i)) (work_moved v self.core y z c.requires.may.free low did ran)
 
 pub finish-requires-clause-legal : goal.finish-requires-clause-legal
@@ -65,7 +65,7 @@ finish-requires-clause-legal g c =
     let low : self.core < v.plan.cores = subst (λ (x : Plan). self.core < x.cores) (sym o.plan) self.there in let y = c.hold-held.result.state in
     let did = c.work-did.result in let w : View = holding self.core y v in
     let outcome : IsOutcomeOfWork (meaning_in v) v.plan v.round y.core did =
-        subst (λ (x : Meaning × Plan × ℕ). IsOutcomeOfWork x.0 x.1 x.2 y.core did) (λ i. (sym is_q i, sym is_plan i, c.requires.round i)) c.work-did.ensures.did in
+    subst (λ (x : Meaning × Plan × ℕ). IsOutcomeOfWork x.0 x.1 x.2 y.core did) (λ i. (sym is_q i, sym is_plan i, c.requires.round i)) c.work-did.ensures.did in
     subst (λ (x : View). IsLocalIn x (entry.Work self.core did)) (sym e.view)
     (work_local w self.core low 0 (taken v.plan.cores self.core y) refl refl c.requires.may.marked e.known.0 e.known.1 c.requires.may.entered c.requires.may.first did outcome)
 

@@ -9,7 +9,7 @@ pub returns : goal.returns
 returns c =
     let t = c.args.self.now in let threads = c.args.plan.now.threads in
     let none : list_any (λ (p : Planned). not (flag_of t p.id)) threads ≡ false =
-        none_passes (λ (p : Planned). not (flag_of t p.id)) threads (λ j d low. ap not (c.loop-thread.invariant j d (let high = c.loop-thread-test.false in let count = ap length c.as_slice-thread-items.ensures.items in omega arith))) in
+    none_passes (λ (p : Planned). not (flag_of t p.id)) threads (λ j d low. ap not (c.loop-thread.invariant j d (let high = c.loop-thread-test.false in let count = ap length c.as_slice-thread-items.ensures.items in omega arith))) in
     sym (ap (λ b. nat_lt c.args.begun c.args.plan.now.rounds && b) none ∙ never (nat_lt c.args.begun c.args.plan.now.rounds))
   where
     never : (b : Bool) → (b && false) ≡ false
