@@ -129,10 +129,33 @@ pub(crate) fn play<R: Threads + Wait + Sync>(
     loads: &[u64],
     puts: &[u64],
 ) -> Result<(u8, Vec<u8>), Fail> {
+    call_of_two(rt, alloc, &["play", "p", "t"], texts, loads, puts)
+}
+
+/// `run` of these texts, where these loads and puts fail: the status, and what is written.
+pub(crate) fn run<R: Threads + Wait + Sync>(
+    rt: &R,
+    alloc: Global,
+    texts: (&[u8], &[u8]),
+    loads: &[u64],
+    puts: &[u64],
+) -> Result<(u8, Vec<u8>), Fail> {
+    call_of_two(rt, alloc, &["run", "p", "t"], texts, loads, puts)
+}
+
+/// A call with these words over a policy and a trace, where these loads and puts fail.
+fn call_of_two<R: Threads + Wait + Sync>(
+    rt: &R,
+    alloc: Global,
+    words: &[&str],
+    texts: (&[u8], &[u8]),
+    loads: &[u64],
+    puts: &[u64],
+) -> Result<(u8, Vec<u8>), Fail> {
     let outside = Outside {
         files: &[("p", texts.0), ("t", texts.1)],
         loads,
         puts,
     };
-    call(rt, alloc, &["play", "p", "t"], &outside)
+    call(rt, alloc, words, &outside)
 }

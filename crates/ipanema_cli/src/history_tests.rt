@@ -10,7 +10,7 @@ use std::test::Fail;
 use std::thread::Threads;
 
 /// The command of these words over a policy, a trace and a history: the status, and what is written.
-fn judge<R: Threads + Wait + Sync>(
+pub(crate) fn judge<R: Threads + Wait + Sync>(
     rt: &R,
     alloc: Global,
     words: &[&str],

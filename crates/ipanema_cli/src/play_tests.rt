@@ -87,7 +87,8 @@ pub(crate) const FAIR: &str =
     }\nfilter self.nr == 0 and victim.nr >= 2 or victim.load - self.load > 8\n\
     choose max victim.load\nsteal max t.weight\n";
 
-pub(crate) const FAIR_TRACE: &str = "cores 2\nrounds 2\nthread 1 core 0 round 1 weight 3 run 1 block 1 run 1\n\
+pub(crate) const FAIR_TRACE: &str =
+    "cores 2\nrounds 2\nthread 1 core 0 round 1 weight 3 run 1 block 1 run 1\n\
     thread 2 core 0 round 1 weight 5 forever\n";
 
 const FAIR_HISTORY: &str =

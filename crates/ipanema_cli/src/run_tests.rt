@@ -2,16 +2,15 @@
 
 ghost use Rattle.std.specs.Prelude.{◌<◌, true};
 
-use crate::calls::{Outside, call, call_past, policy};
+use crate::calls::{Outside, call_past, play, policy, run};
+use crate::history_tests::judge;
 use crate::play_tests::{FAIR, FAIR_TRACE, ONE_STEAL, STALE, eight_threads};
 use history_reader::read_history;
 use round_model::Entry;
 use sched_base::Reads;
 use sched_io::Gate;
-use std::alloc::Global;
 use std::sync::{OnceLock, Wait};
 use std::test::Fail;
-use std::thread::Threads;
 
 /// How often a core looks for the other one.
 const LOOKS: u32 = 50_000_000;
@@ -111,28 +110,6 @@ fn two_cores_meet(rt: HostRuntime) -> Result<(), Fail> {
     Ok(())
 }
 
-/// `run` of these texts: the status, what is written, and what `replay` says of that.
-fn run_and_replay<R: Threads + Wait + Sync>(
-    rt: &R,
-    alloc: Global,
-    policy: &[u8],
-    trace: &[u8],
-) -> Result<(u8, Vec<u8>), Fail> {
-    let outside = Outside {
-        files: &[("p", policy), ("t", trace)],
-        loads: &[],
-        puts: &[],
-    };
-    let (status, history) = call(rt, alloc, &["run", "p", "t"], &outside)?;
-    let outside = Outside {
-        files: &[("p", policy), ("t", trace), ("h", history.as_slice())],
-        loads: &[],
-        puts: &[],
-    };
-    let (_ended, judged) = call(rt, alloc, &["replay", "p", "t", "h"], &outside)?;
-    Ok((status, judged))
-}
-
 /// A run stops where serial play does: its rounds have as many entries.
 #[test]
 fn runs_are_judged(rt: HostRuntime) -> Result<(), Fail> {
@@ -157,7 +134,10 @@ fn runs_are_judged(rt: HostRuntime) -> Result<(), Fail> {
         (basic.as_str(), five.as_str(), 8, "short 53\n"),
     ];
     for (policy, trace, status, line) in cases {
-        let (ended, out) = run_and_replay(&rt, alloc, policy.as_bytes(), trace.as_bytes())?;
+        let (policy, trace_text) = (policy.as_bytes(), trace.as_bytes());
+        let (ended, history) = run(&rt, alloc, (policy, trace_text), &[], &[])?;
+        let texts = (policy, trace_text, history.as_slice());
+        let (_judged, out) = judge(&rt, alloc, &["replay", "p", "t", "h"], texts)?;
         assert_eq!(rt; ended, status, "at {trace:?}");
         assert_eq!(rt; out.as_slice(), line.as_bytes(), "at {trace:?}");
     }
@@ -179,13 +159,9 @@ fn no_history_is_run(rt: HostRuntime) -> Result<(), Fail> {
         (timid.as_str(), ONE_STEAL, &[], &[1], 5),
     ];
     for (policy, trace, loads, puts, status) in cases {
-        let outside = Outside {
-            files: &[("p", policy.as_bytes()), ("t", trace.as_bytes())],
-            loads,
-            puts,
-        };
-        let played = call(&rt, alloc, &["play", "p", "t"], &outside)?;
-        let ran = call(&rt, alloc, &["run", "p", "t"], &outside)?;
+        let texts = (policy.as_bytes(), trace.as_bytes());
+        let played = play(&rt, alloc, texts, loads, puts)?;
+        let ran = run(&rt, alloc, texts, loads, puts)?;
         assert_eq!(rt; ran.0, status, "at {trace:?}");
         assert_eq!(rt; ran.0, played.0, "at {trace:?}");
         assert_eq!(rt; ran.1.as_slice(), played.1.as_slice(), "at {trace:?}");

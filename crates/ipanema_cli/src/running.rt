@@ -129,5 +129,11 @@ fn run<R: Threads + Wait + Sync, F: Files, G: Gate + Sync>(
 {
     let policy_text = load(alloc, files, policy, TextKind::Policy)?;
     let trace_text = load(alloc, files, trace, TextKind::Trace)?;
-    run_texts(rt, alloc, policy_text.as_slice(), trace_text.as_slice(), gate)
+    run_texts(
+        rt,
+        alloc,
+        policy_text.as_slice(),
+        trace_text.as_slice(),
+        gate,
+    )
 }
