@@ -26,7 +26,7 @@ use std::thread::Threads;
 /// Carries out `run`, and answers its status.
 ///
 /// The words are those of the call without the program's name. Each core takes its turn of a round in a thread of its
-/// own, and passes the gate before.
+/// own, where one can be started, and passes the gate between its unit and its look. No clause says either.
 pub fn run_command<R: Threads + Wait + Sync, F: Files, S: Sink, G: Gate + Sync>(
     rt: &R,
     alloc: Global,

@@ -19,7 +19,8 @@ use std::thread::Threads;
 /// Carries out the command that the words are, and answers the status for the shell.
 ///
 /// The words are those of the call without the program's name. Files come from `files`, and output goes to `out`. Where
-/// cores play side by side, each waits at `gate` before its turn of a round, so that tests can choose the order.
+/// cores play side by side, each passes `gate` in its turn of a round, between its unit and its look, so that tests can
+/// have them meet there. No clause says that it does.
 pub fn ipanema<R: Threads + Wait + Sync, F: Files, S: Sink, G: Gate + Sync>(
     rt: &R,
     alloc: Global,

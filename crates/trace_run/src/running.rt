@@ -18,7 +18,7 @@ use std::sync::Wait;
 use std::thread::Threads;
 use trace_play::{PlanStop, PlayAnswer, PlayMemory, plan_text};
 
-/// What a run of the text under the policy comes to, with a worker for each core. Each passes the gate in each round.
+/// What a run of the text under the policy comes to, all cores side by side. The gate lets each of them pass.
 ///
 /// # Errors
 ///
