@@ -1,24 +1,26 @@
-/* Starts and joins threads as `run` does, and nothing else: in each round a chain of them, one for each core but the last. */
+/* Starts and joins threads as `run` does, and nothing else: in each round one for each core, joined from the last on. */
 #include <pthread.h>
 #include <stdlib.h>
 
-static void *chain(void *left)
+#define MOST_CORES 32
+
+static void *nothing(void *none)
 {
-    pthread_t thread;
-    long cores = (long)left;
-    if (cores > 0) {
-        if (pthread_create(&thread, NULL, chain, (void *)(cores - 1)) != 0)
-            exit(1);
-        pthread_join(thread, NULL);
-    }
-    return NULL;
+    return none;
 }
 
 int main(int count, char **words)
 {
-    if (count != 3)
+    pthread_t threads[MOST_CORES];
+    long cores = count == 3 ? atol(words[2]) : 0;
+    if (cores < 1 || cores > MOST_CORES)
         return 2;
-    for (long round = atol(words[1]); round > 0; round--)
-        chain((void *)atol(words[2]));
+    for (long round = atol(words[1]); round > 0; round--) {
+        for (long core = 0; core < cores; core++)
+            if (pthread_create(&threads[core], NULL, nothing, NULL) != 0)
+                return 1;
+        for (long core = cores; core > 0; core--)
+            pthread_join(threads[core - 1], NULL);
+    }
     return 0;
 }
