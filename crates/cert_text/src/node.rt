@@ -2,7 +2,8 @@
 
 ghost use Rattle.std.specs.Prelude.{◌≡◌, ◌≢◌, ℕ, ℤ, ◌^◌, ◌<◌, length, IfOk, MatchOption};
 ghost use Rattle.linear_cert.specs.declared.cert.Mult.{Mult};
-ghost use Rattle.cert_text.specs.Nodes.{AreMults, AreNoMults, BeginsWithMult, BeginsWithNoMult, IsLineOf, IsNoLine, word_of};
+ghost use Rattle.cert_text.specs.Nodes.{AreMults, AreNoMults, BeginsWithMult, BeginsWithNoMult, IsLineOf, IsNoLine};
+ghost use Rattle.cert_text.specs.Nodes.{word_of};
 ghost use Rattle.cert_text.specs.Text.{IsMult, IsSplit, split_line};
 
 use crate::lines::{cut, front};

@@ -2,7 +2,8 @@
 
 ghost use Rattle.std.specs.Prelude.{◌≡◌, [], ◌∷◌, ◌++◌, All, IfOk, OnOk};
 ghost use Rattle.linear_cert.specs.Right.{IsShallow, cert_tree};
-ghost use Rattle.cert_text.specs.Text.{AreInRange, IsMult, IsSplit, SpellsCertificate, cert_text, leaf_line, mult_text, split_line};
+ghost use Rattle.cert_text.specs.Text.{AreInRange, IsMult, IsSplit, SpellsCertificate, cert_text, leaf_line, mult_text};
+ghost use Rattle.cert_text.specs.Text.{split_line};
 
 use crate::fault::CertText;
 use itoa::{Buffer, Integer};

@@ -2,7 +2,8 @@
 use Rattle.std.specs.Prelude.{Option, Some, None}
 use Rattle.command_words.specs.Command.{Asked, bench, check, explain, make, play, replay, report, run}
 use Rattle.command_words.specs.declared.request.Request.{Request}
-use Rattle.command_words.specs.declared.request.Request.TheVariants.{Bench, Check, Explain, Make, Play, Replay, Report, Run}
+use Rattle.command_words.specs.declared.request.Request.TheVariants.{Bench, Check, Explain, Make, Play, Replay, Report}
+use Rattle.command_words.specs.declared.request.Request.TheVariants.{Run}
 use Rattle.command_words.specs.declared.request.Request.TheVariants.{Unknown}
 
 abbrev pub asked : Request → Option Asked

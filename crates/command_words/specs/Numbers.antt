@@ -1,5 +1,6 @@
 -- The numbers among the words of a call, and the limits of words.
-use Rattle.std.specs.Prelude.{◌≡◌, ℕ, ◌^◌, Bool, ◌&&◌, List, length, Option, Some, None, nat_le, nat_lt, option_and_then, if◌then◌else◌}
+use Rattle.std.specs.Prelude.{◌≡◌, ℕ, ◌^◌, Bool, ◌&&◌, List, length, Option, Some, None, nat_le, nat_lt}
+use Rattle.std.specs.Prelude.{option_and_then, if◌then◌else◌}
 use Rattle.std.specs.Char.{is_ascii_digit}
 use Rattle.std.specs.List.{list_all}
 use Rattle.sched_base.specs.declared.limits.TheConstants.{MAX_THREADS}

@@ -1,5 +1,6 @@
 -- How `clap` is told of the commands, and what is read from what it finds. No contract of a public call speaks of this.
-use Rattle.std.specs.Prelude.{List, [], ◌∷◌, Option, Some, None, codes, if◌then◌else◌, map, option_and_then, option_map, true, false, unwrap_or}
+use Rattle.std.specs.Prelude.{List, [], ◌∷◌, Option, Some, None, codes, if◌then◌else◌, map, option_and_then, option_map}
+use Rattle.std.specs.Prelude.{true, false, unwrap_or}
 use Rattle.std.specs.Str.{bytes_eq}
 use Rattle.clap.specs.Words.{App, Row, Rule, Shape, Text, first_of, new_rule}
 use Rattle.clap.specs.Simple.{new_shape}

@@ -1,5 +1,6 @@
 -- The logs of a history: of each core the entries that touch it, with their positions.
-use Rattle.std.specs.Prelude.{◌≡◌, ℕ, suc, ◌<◌, Bool, cond, IsTrue, List, [], ◌∷◌, ◌++◌, length, fold, slice_get, Some, All}
+use Rattle.std.specs.Prelude.{◌≡◌, ℕ, suc, ◌<◌, Bool, cond, IsTrue, List, [], ◌∷◌, ◌++◌, length, fold, slice_get, Some}
+use Rattle.std.specs.Prelude.{All}
 use Rattle.round_model.specs.declared.entry.Entry.{Entry}
 use Rattle.round_model.specs.Entries.{touches}
 use Rattle.round_model.specs.Kinds.{is_round}

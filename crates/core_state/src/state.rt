@@ -1,6 +1,7 @@
 //! One core.
 
-ghost use Rattle.std.specs.Prelude.{◌≡◌, ◌<◌, ◌≤◌, ◌++◌, [], ◌∷◌, Contains, IfOk, IfSome, IsSome, MatchOption, None, Some, find, length, option_map};
+ghost use Rattle.std.specs.Prelude.{◌≡◌, ◌<◌, ◌≤◌, ◌++◌, [], ◌∷◌, Contains, IfOk, IfSome, IsSome, MatchOption, None};
+ghost use Rattle.std.specs.Prelude.{Some, find, length, option_map};
 ghost use Rattle.sched_base.specs.declared.task.Task.{Task};
 ghost use Rattle.policy_tree.specs.Meaning.{meaning_of, order_tree};
 ghost use Rattle.policy_eval.specs.Fitting.{IsTask};
@@ -11,7 +12,8 @@ ghost use Rattle.round_model.specs.Bounds.{CoreInBounds};
 ghost use Rattle.round_model.specs.Bursts.{HaveBursts};
 ghost use Rattle.round_model.specs.Cores.{load_of, opening_state, thread_count};
 ghost use Rattle.round_model.specs.Fits.{Fits};
-ghost use Rattle.round_model.specs.Moves.{admitted, blocked_of, blocked_put, handed, queued_of, received, released, with_task};
+ghost use Rattle.round_model.specs.Moves.{admitted, blocked_of, blocked_put, handed, queued_of, received, released};
+ghost use Rattle.round_model.specs.Moves.{with_task};
 ghost use Rattle.round_model.specs.Scenes.{waking_next};
 ghost use Rattle.round_model.specs.Work.{IsOutcomeOfWork, core_after_work, met};
 ghost use Rattle.run_queue.specs.Tasks.{IsSeenTask};

@@ -8,7 +8,8 @@ use Rattle.core_state.specs.Views.{CoreView}
 use Rattle.core_table.specs.declared.slots.Slot.{Slot}
 use Rattle.core_table.specs.declared.views.View.{View}
 use Rattle.core_table.specs.Words.{out_mark}
-use Rattle.core_table.specs.Views.{beginning, drawing, giving, holding, meaning_in, note_of_word, noting, publishing_word, slot_of}
+use Rattle.core_table.specs.Views.{beginning, drawing, giving, holding, meaning_in, note_of_word, noting}
+use Rattle.core_table.specs.Views.{publishing_word, slot_of}
 use Rattle.core_table.specs.Told.{Agrees, Each, IsKnown}
 
 -- a seat: its view, and the slots that are out with it

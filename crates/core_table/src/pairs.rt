@@ -3,7 +3,8 @@
 ghost use Rattle.std.specs.Prelude.{◌≡◌, ◌≢◌, ◌<◌, [], max, min};
 ghost use Rattle.core_table.specs.Above.{IsAbove};
 ghost use Rattle.core_table.specs.Plays.{Draws};
-ghost use Rattle.core_table.specs.Public.{Becomes, HasMovedTwo, HasTwo, IsActors, IsOf, MayGiveTwo, plan_of, publishing, view_of};
+ghost use Rattle.core_table.specs.Public.{Becomes, HasMovedTwo, HasTwo, IsActors, IsOf, MayGiveTwo, plan_of};
+ghost use Rattle.core_table.specs.Public.{publishing, view_of};
 ghost use Rattle.core_table.specs.Told.{IsLocalIn};
 ghost use Rattle.core_table.specs.Views.{giving, holding};
 

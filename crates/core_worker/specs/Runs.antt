@@ -1,5 +1,6 @@
 -- How far serial play over running cores has come.
-use Rattle.std.specs.Prelude.{◌≡◌, ℕ, ◌+◌, ◌<◌, ◌≤◌, List, [], ◌∷◌, ◌++◌, length, fold, All, IfSome, Option, Some, None, vec_capacity}
+use Rattle.std.specs.Prelude.{◌≡◌, ℕ, ◌+◌, ◌<◌, ◌≤◌, List, [], ◌∷◌, ◌++◌, length, fold, All, IfSome, Option, Some, None}
+use Rattle.std.specs.Prelude.{vec_capacity}
 use Rattle.sched_base.specs.declared.limits.TheConstants.{MAX_THREADS}
 use Rattle.policy_tree.specs.Meaning.{Meaning}
 use Rattle.round_model.specs.declared.entry.Entry.{Entry}
@@ -7,7 +8,8 @@ use Rattle.round_model.specs.declared.entry.Entry.TheVariants as entry
 use Rattle.round_model.specs.declared.plan.Plan.{Plan}
 use Rattle.round_model.specs.declared.plan.Planned.{Planned}
 use Rattle.round_model.specs.declared.state.Blocked.{Blocked}
-use Rattle.round_model.specs.TurnSteps.{TurnStep, attempting, entering, late_step, looking, turn_step_of, waking, working}
+use Rattle.round_model.specs.TurnSteps.{TurnStep, attempting, entering, late_step, looking, turn_step_of, waking}
+use Rattle.round_model.specs.TurnSteps.{working}
 use Rattle.round_model.specs.Choices.{choice_of}
 use Rattle.round_model.specs.Code.Outcomes.{values_at}
 use Rattle.round_model.specs.Code.Past.{Awaits, is_flagged}

@@ -3,7 +3,8 @@
 ghost use Rattle.std.specs.Prelude.{◌≡◌, IfOk, map};
 ghost use Rattle.policy_tree.specs.Meaning.{case_tree, handler_trees, order_tree, set_tree};
 ghost use Rattle.policy_tree.specs.Trees.{cond_tree, variable};
-ghost use Rattle.fair_policy.specs.Fair.{counted_use, fair_attributes, fair_filter, fair_handlers, gap_is_wide, idle_sees_two};
+ghost use Rattle.fair_policy.specs.Fair.{counted_use, fair_attributes, fair_filter, fair_handlers, gap_is_wide};
+ghost use Rattle.fair_policy.specs.Fair.{idle_sees_two};
 ghost use Rattle.fair_policy.specs.Forms.{by_key, whenever};
 
 use policy_tree::variables::{OTHER_LOAD, OTHER_NR, SELF_LOAD, SELF_NR, THREAD_ATTRIBUTES};

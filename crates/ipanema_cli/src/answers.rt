@@ -3,7 +3,8 @@
 ghost use Rattle.std.specs.Prelude.{◌≡◌, ◌≤◌, ℕ, IfErr, IfOk, IsTrue, length};
 ghost use Rattle.sched_base.specs.declared.limits.TheConstants.{MAX_POLICY_BYTES, MAX_TRACE_BYTES};
 ghost use Rattle.sched_io.specs.Puts.{Puts};
-ghost use Rattle.ipanema_cli.specs.Answers.{AnswersBench, AnswersMake, CanBePut, IsJudgingOfTexts, IsPlayOfTexts, judging_of, lines_of, status_of};
+ghost use Rattle.ipanema_cli.specs.Answers.{AnswersBench, AnswersMake, CanBePut, IsJudgingOfTexts, IsPlayOfTexts};
+ghost use Rattle.ipanema_cli.specs.Answers.{judging_of, lines_of, status_of};
 ghost use Rattle.policy_tree.specs.Meaning.{meaning_of};
 ghost use Rattle.command_words.specs.Numbers.{is_size};
 ghost use Rattle.trace_play.specs.Plays.{IsPlayOf};

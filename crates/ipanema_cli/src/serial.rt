@@ -1,12 +1,15 @@
 //! The commands that one thread carries out.
 
-ghost use Rattle.std.specs.Prelude.{◌≡◌, ◌≢◌, ◌⊎◌, ℕ, List, [], ◌∷◌, Some, IfErr, IfOk, IsErrOf, IsTrue, OnOk, codes, slice_get};
+ghost use Rattle.std.specs.Prelude.{◌≡◌, ◌≢◌, ◌⊎◌, ℕ, List, [], ◌∷◌, Some, IfErr, IfOk, IsErrOf, IsTrue, OnOk, codes};
+ghost use Rattle.std.specs.Prelude.{slice_get};
 ghost use Rattle.sched_io.specs.Faults.{Rose};
 ghost use Rattle.sched_io.specs.Loads.{AreRequested};
-ghost use Rattle.ipanema_cli.specs.Answers.{AnswersCheck, AnswersExplain, AnswersJudging, AnswersPlay, CanBePut, IsAnswer, judging_of};
+ghost use Rattle.ipanema_cli.specs.Answers.{AnswersCheck, AnswersExplain, AnswersJudging, AnswersPlay, CanBePut};
+ghost use Rattle.ipanema_cli.specs.Answers.{IsAnswer, judging_of};
 ghost use Rattle.command_words.specs.Asks.{asked};
 ghost use Rattle.command_words.specs.Numbers.{is_size};
-ghost use Rattle.command_words.specs.Command.{asked_by, bench as asks_bench, check, explain, make as asks_make, play, run, words_of};
+ghost use Rattle.command_words.specs.Command.{asked_by, bench as asks_bench, check, explain, make as asks_make, play};
+ghost use Rattle.command_words.specs.Command.{run, words_of};
 ghost use Rattle.ipanema_cli.specs.Ends.{Ends, Writes};
 ghost use Rattle.ipanema_cli.specs.Causes.{HasCause, OneOf};
 ghost use Rattle.ipanema_cli.specs.Loads.{FirstAreLoaded, LoadsOfThree, files_of, three_files};

@@ -1,7 +1,8 @@
 //! How the program ends.
 
 ghost use Rattle.std.specs.Prelude.{◌≡◌};
-ghost use Rattle.ipanema_cli.specs.Status.{check_status, code_of, explain_status, history_refusal_status, history_status, outcome_status, refusal_status, verdict_status};
+ghost use Rattle.ipanema_cli.specs.Status.{check_status, code_of, explain_status, history_refusal_status};
+ghost use Rattle.ipanema_cli.specs.Status.{history_status, outcome_status, refusal_status, verdict_status};
 
 use history_replay::{HistoryAnswer, HistoryRefusal};
 use policy_check::{CheckAnswer, ExplainAnswer, Refusal};

@@ -1,5 +1,6 @@
 -- What the lines of a trace look like, whatever the ranges of their numbers.
-use Rattle.std.specs.Prelude.{◌≡◌, ℕ, ℤ, pos, neg_ℤ, ◌==◌, true, List, [], ◌∷◌, ◌++◌, Option, Some, None, option_map, codes, if◌then◌else◌}
+use Rattle.std.specs.Prelude.{◌≡◌, ℕ, ℤ, pos, neg_ℤ, ◌==◌, true, List, [], ◌∷◌, ◌++◌, Option, Some, None, option_map}
+use Rattle.std.specs.Prelude.{codes, if◌then◌else◌}
 use Rattle.round_model.specs.declared.plan.Burst.{Burst}
 use Rattle.round_model.specs.declared.plan.Ending.{Ending}
 use Rattle.round_model.specs.declared.plan.Ending.TheVariants as ending

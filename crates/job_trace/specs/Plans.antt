@@ -1,5 +1,7 @@
 -- The plan that a trace means under a policy.
-use Rattle.std.specs.Prelude.{◌≡◌, ℕ, zero, suc, ◌+◌, ◌-◌, ◌==◌, ℤ, pos, Bool, false, ◌||◌, List, [], ◌∷◌, ◌++◌, length, map, replicate, take, find, position, fold, filter_map, slice_set, Option, Some, None, Result, Ok, Err, nat_lt, int_lt, if◌then◌else◌}
+use Rattle.std.specs.Prelude.{◌≡◌, ℕ, zero, suc, ◌+◌, ◌-◌, ◌==◌, ℤ, pos, Bool, false, ◌||◌, List, [], ◌∷◌, ◌++◌, length}
+use Rattle.std.specs.Prelude.{map, replicate, take, find, position, fold, filter_map, slice_set, Option, Some, None}
+use Rattle.std.specs.Prelude.{Result, Ok, Err, nat_lt, int_lt, if◌then◌else◌}
 use Rattle.std.specs.Option.{option_or}
 use Rattle.std.specs.Str.{bytes_eq}
 use Rattle.sched_base.specs.declared.limits.TheConstants.{DEFAULT_ENTRIES, MAX_ATTRIBUTES}

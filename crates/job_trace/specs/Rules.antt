@@ -1,9 +1,12 @@
 -- The rules that a line of a trace keeps behind the lines before it.
-use Rattle.std.specs.Prelude.{◌≡◌, ℕ, ◌+◌, ◌-◌, ◌==◌, ℤ, pos, neg_ℤ, Bool, true, false, ◌||◌, ◌&&◌, ◌≤◌, List, [], ◌∷◌, ◌++◌, length, map, Option, Some, None, codes, nat_lt, int_lt, if◌then◌else◌}
+use Rattle.std.specs.Prelude.{◌≡◌, ℕ, ◌+◌, ◌-◌, ◌==◌, ℤ, pos, neg_ℤ, Bool, true, false, ◌||◌, ◌&&◌, ◌≤◌, List, [], ◌∷◌}
+use Rattle.std.specs.Prelude.{◌++◌, length, map, Option, Some, None, codes, nat_lt, int_lt, if◌then◌else◌}
 use Rattle.std.specs.List.{list_any}
 use Rattle.std.specs.Option.{option_or}
 use Rattle.std.specs.Str.{bytes_eq}
-use Rattle.sched_base.specs.declared.limits.TheConstants.{MAX_ATTRIBUTE, MAX_BLOCK_ROUNDS, MAX_BURSTS, MAX_CORES, MAX_ENTRIES, MAX_ORDER_CORES, MAX_ROUNDS, MAX_THREADS, MAX_UNITS, MAX_WEIGHT}
+use Rattle.sched_base.specs.declared.limits.TheConstants.{MAX_ATTRIBUTE, MAX_BLOCK_ROUNDS, MAX_BURSTS, MAX_CORES}
+use Rattle.sched_base.specs.declared.limits.TheConstants.{MAX_ENTRIES, MAX_ORDER_CORES, MAX_ROUNDS, MAX_THREADS}
+use Rattle.sched_base.specs.declared.limits.TheConstants.{MAX_UNITS, MAX_WEIGHT}
 use Rattle.round_model.specs.declared.plan.Burst.{Burst}
 use Rattle.round_model.specs.declared.plan.Ending.{Ending}
 use Rattle.round_model.specs.declared.plan.Ending.TheVariants as ending

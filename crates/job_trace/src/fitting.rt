@@ -1,7 +1,8 @@
 //! Whether the lines of a trace fit a policy.
 
 ghost use Rattle.std.specs.Prelude.{◌≡◌, find, option_map};
-ghost use Rattle.job_trace.specs.Plans.{const_fault, consts_fault, first_fault, is_foreign, is_named, is_outside, line_fault, weight_fault};
+ghost use Rattle.job_trace.specs.Plans.{const_fault, consts_fault, first_fault, is_foreign, is_named, is_outside};
+ghost use Rattle.job_trace.specs.Plans.{line_fault, weight_fault};
 
 use crate::plan_fault::PlanFault;
 use crate::trace::{NamedConst, Numbered, TraceLine};

@@ -7,7 +7,9 @@ ghost use Rattle.round_model.specs.Fits.{Fits};
 ghost use Rattle.policy_eval.specs.Resolved.{IsResolved};
 ghost use Rattle.policy_tree.specs.Meaning.{meaning_of};
 ghost use Rattle.job_trace.specs.declared.plan_fault.PlanFault.{PlanFault};
-ghost use Rattle.job_trace.specs.Plans.{IsForeign, IsPlanFault, MustPlan, MustRefusePlan, SpellsPlan, counted_weight, entries_in, limit_of, order_of, orders_of, rounds_in, rounds_of, thread_of, threads_of, weighed};
+ghost use Rattle.job_trace.specs.Plans.{IsForeign, IsPlanFault, MustPlan, MustRefusePlan, SpellsPlan, counted_weight};
+ghost use Rattle.job_trace.specs.Plans.{entries_in, limit_of, order_of, orders_of, rounds_in, rounds_of, thread_of};
+ghost use Rattle.job_trace.specs.Plans.{threads_of, weighed};
 
 use crate::constants::consts_of;
 use crate::fitting::first_fault;

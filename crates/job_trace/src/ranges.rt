@@ -1,7 +1,8 @@
 //! The ranges of the numbers of a line.
 
 ghost use Rattle.std.specs.Prelude.{◌≡◌, map};
-ghost use Rattle.job_trace.specs.Rules.{block_measures, burst_measures, const_measure, constant, first_passed, measures, order_measures, passed_end, ranged};
+ghost use Rattle.job_trace.specs.Rules.{block_measures, burst_measures, const_measure, constant, first_passed};
+ghost use Rattle.job_trace.specs.Rules.{measures, order_measures, passed_end, ranged};
 
 use crate::trace::{NamedConst, TraceLine};
 use round_model::{Burst, Ending};

@@ -1,6 +1,7 @@
 //! Reads a text line by line.
 
-ghost use Rattle.std.specs.Prelude.{◌≡◌, ◌+◌, ◌<◌, ◌≤◌, ◌++◌, [], Ok, Err, IfOk, IfErr, MatchResult, OnOk, length, vec_len};
+ghost use Rattle.std.specs.Prelude.{◌≡◌, ◌+◌, ◌<◌, ◌≤◌, ◌++◌, [], Ok, Err, IfOk, IfErr, MatchResult, OnOk, length};
+ghost use Rattle.std.specs.Prelude.{vec_len};
 ghost use Rattle.text_forms.specs.Lines.{lines_of};
 ghost use Rattle.job_trace.specs.declared.fault.TraceFault.{TraceFault};
 ghost use Rattle.job_trace.specs.declared.trace.Numbered.{Numbered};

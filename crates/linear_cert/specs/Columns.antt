@@ -1,6 +1,7 @@
 -- A column of rows: the coefficients of one variable, or the bounds. What multipliers make of it is a sum of whole
 -- numbers.
-use Rattle.std.specs.Prelude.{ℕ, ◌≤◌, ◌==◌, if◌then◌else◌, List, length, take, Option, Some, None, ℤ, pos, ◌*ℤ◌, FitsSigned}
+use Rattle.std.specs.Prelude.{ℕ, ◌≤◌, ◌==◌, if◌then◌else◌, List, length, take, Option, Some, None, ℤ, pos, ◌*ℤ◌}
+use Rattle.std.specs.Prelude.{FitsSigned}
 use Rattle.std.specs.Int.{w128}
 use Rattle.linear_form.specs.declared.form.Term.{Term}
 use Rattle.linear_form.specs.declared.form.Row.{Row}

@@ -1,6 +1,7 @@
 -- The rows that a certificate names by number: those of the system, and then two for each variable, which say its
 -- range.
-use Rattle.std.specs.Prelude.{ℕ, ◌+◌, ◌-◌, ◌*◌, ◌/◌, ◌%◌, ◌<◌, ◌==◌, nat_lt, if◌then◌else◌, List, [], ◌∷◌, length, Option, option_map, slice_get, ℤ, pos, negsuc, neg_ℤ}
+use Rattle.std.specs.Prelude.{ℕ, ◌+◌, ◌-◌, ◌*◌, ◌/◌, ◌%◌, ◌<◌, ◌==◌, nat_lt, if◌then◌else◌, List, [], ◌∷◌, length}
+use Rattle.std.specs.Prelude.{Option, option_map, slice_get, ℤ, pos, negsuc, neg_ℤ}
 use Rattle.linear_form.specs.declared.form.Term.{Term}
 use Rattle.linear_form.specs.declared.form.Row.{Row}
 use Rattle.linear_form.specs.declared.form.Bound.{Bound}

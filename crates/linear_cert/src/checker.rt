@@ -5,7 +5,8 @@ ghost use Rattle.std.specs.Int.{w128};
 ghost use Rattle.linear_form.specs.Solution.{HasNoSolution};
 ghost use Rattle.linear_form.specs.System.{IsSystem};
 ghost use Rattle.linear_cert.specs.Columns.{PartialSumsFit, column_sum, entry, times};
-ghost use Rattle.linear_cert.specs.Right.{BoundIsNegative, CanBeCut, Cancels, IsRight, IsRightLeaf, NoTermIsLeft, cert_tree, part_past, part_up_to};
+ghost use Rattle.linear_cert.specs.Right.{BoundIsNegative, CanBeCut, Cancels, IsRight, IsRightLeaf, NoTermIsLeft};
+ghost use Rattle.linear_cert.specs.Right.{cert_tree, part_past, part_up_to};
 ghost use Rattle.linear_cert.specs.Rows.{NamesRow};
 
 use crate::cert::{Cert, Mult};

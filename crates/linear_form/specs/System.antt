@@ -1,7 +1,8 @@
 -- Which bounds and rows a system may have.
 use Rattle.std.specs.Prelude.{ℕ, ◌<◌, ◌≤◌, ◌≢◌, List, length, map, All, pos, ◌≤ℤ◌, unsigned_abs}
 use Rattle.std.specs.List.Sorted.{IsStrictlyIncreasing}
-use Rattle.sched_base.specs.declared.limits.TheConstants.{MAX_VARIABLES, MAX_ROWS, MAX_END, MAX_ROW_COEFFICIENT, MAX_ROW_BOUND}
+use Rattle.sched_base.specs.declared.limits.TheConstants.{MAX_VARIABLES, MAX_ROWS, MAX_END, MAX_ROW_COEFFICIENT}
+use Rattle.sched_base.specs.declared.limits.TheConstants.{MAX_ROW_BOUND}
 use Rattle.linear_form.specs.declared.form.Term.{Term}
 use Rattle.linear_form.specs.declared.form.Row.{Row}
 use Rattle.linear_form.specs.declared.form.Bound.{Bound}

@@ -1,6 +1,7 @@
 //! Systems: bounds on the variables, and rows that are added one by one.
 
-ghost use Rattle.std.specs.Prelude.{◌≡◌, ◌↔◌, ◌≤◌, [], ◌∷◌, ◌++◌, length, vec_len, IsTrue, OnOk, OnErr, All, SomeIff, ◌<◌, ◌^◌};
+ghost use Rattle.std.specs.Prelude.{◌≡◌, ◌↔◌, ◌≤◌, [], ◌∷◌, ◌++◌, length, vec_len, IsTrue, OnOk, OnErr, All, SomeIff};
+ghost use Rattle.std.specs.Prelude.{◌<◌, ◌^◌};
 ghost use Rattle.linear_form.specs.Difference.{IsDifference};
 ghost use Rattle.linear_form.specs.Points.{points_of};
 ghost use Rattle.linear_form.specs.Solution.{Solves};

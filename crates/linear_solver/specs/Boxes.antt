@@ -1,5 +1,6 @@
 -- What a row may say over a box, the ranges of all variables, and how often a box can be halved.
-use Rattle.std.specs.Prelude.{◌≡◌, ℕ, zero, suc, ◌+◌, ◌*◌, ◌/◌, ◌<◌, ◌==◌, if◌then◌else◌, List, [], ◌∷◌, length, map, All, ℤ, pos, ◌-ℤ◌, ◌*ℤ◌, ◌≤ℤ◌, ◌<ℤ◌, int_lt, unsigned_abs}
+use Rattle.std.specs.Prelude.{◌≡◌, ℕ, zero, suc, ◌+◌, ◌*◌, ◌/◌, ◌<◌, ◌==◌, if◌then◌else◌, List, [], ◌∷◌, length, map}
+use Rattle.std.specs.Prelude.{All, ℤ, pos, ◌-ℤ◌, ◌*ℤ◌, ◌≤ℤ◌, ◌<ℤ◌, int_lt, unsigned_abs}
 use Rattle.linear_form.specs.declared.form.Term.{Term}
 use Rattle.linear_form.specs.declared.form.Row.{Row}
 use Rattle.linear_form.specs.declared.form.Bound.{Bound}

@@ -1,5 +1,6 @@
 -- Lists of numbers times factors, and the factors with which two coefficients cancel.
-use Rattle.std.specs.Prelude.{◌≡◌, ℕ, zero, suc, ◌≤◌, ◌%◌, ◌==◌, ◌&&◌, if◌then◌else◌, List, [], ◌∷◌, All, Option, Some, None, ℤ, pos, ◌+ℤ◌, ◌*ℤ◌, unsigned_abs}
+use Rattle.std.specs.Prelude.{◌≡◌, ℕ, zero, suc, ◌≤◌, ◌%◌, ◌==◌, ◌&&◌, if◌then◌else◌, List, [], ◌∷◌, All, Option, Some}
+use Rattle.std.specs.Prelude.{None, ℤ, pos, ◌+ℤ◌, ◌*ℤ◌, unsigned_abs}
 
 -- the greatest number up to `most` that divides both, and 1 if there is none
 unfoldable pub divisor_up_to : ℕ → ℕ → ℕ → ℕ

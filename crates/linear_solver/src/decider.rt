@@ -3,7 +3,8 @@
 ghost use Rattle.std.specs.Prelude.{◌≡◌, ◌≤◌, ◌^◌, ◌<◌, false, IfOk, IsSomeAnd, IsTrue, ◌↔◌};
 ghost use Rattle.linear_form.specs.Points.{points_of};
 ghost use Rattle.sched_base.specs.declared.limits.TheConstants.{MAX_SPLITS};
-ghost use Rattle.linear_solver.specs.Decides.{Decides, DecidesUnlessOpen, HoldsIfRefuted, HoldsShallowly, IsNumberOfPoints, IsUndecided};
+ghost use Rattle.linear_solver.specs.Decides.{Decides, DecidesUnlessOpen, HoldsIfRefuted, HoldsShallowly};
+ghost use Rattle.linear_solver.specs.Decides.{IsNumberOfPoints, IsUndecided};
 ghost use Rattle.linear_solver.specs.Found.{IsDecided, IsFound};
 
 use crate::answer::Answer;

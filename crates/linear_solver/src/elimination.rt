@@ -1,9 +1,11 @@
 //! Elimination of the variables, one after another (Fourier and Motzkin).
 
-ghost use Rattle.std.specs.Prelude.{◌≡◌, ◌<◌, ◌≤◌, ◌<ℤ◌, [], ◌∷◌, ◌++◌, pos, length, All, IfNone, IfOk, IfSome, MatchOption};
+ghost use Rattle.std.specs.Prelude.{◌≡◌, ◌<◌, ◌≤◌, ◌<ℤ◌, [], ◌∷◌, ◌++◌, pos, length, All, IfNone, IfOk, IfSome};
+ghost use Rattle.std.specs.Prelude.{MatchOption};
 ghost use Rattle.linear_form.specs.System.{IsSystem};
 ghost use Rattle.linear_cert.specs.Right.{IsRightLeaf};
-ghost use Rattle.linear_solver.specs.Elimination.{HasNoContradiction, IsUnrefuted, coef_of, lacks, next_list, sums_in, sums_of, sums_of_pair, sums_with};
+ghost use Rattle.linear_solver.specs.Elimination.{HasNoContradiction, IsUnrefuted, coef_of, lacks, next_list, sums_in};
+ghost use Rattle.linear_solver.specs.Elimination.{sums_of, sums_of_pair, sums_with};
 ghost use Rattle.linear_solver.specs.Shapes.{CanBeAdded, Extends, HasShape, IsList, LeafIn, RefutesAt};
 
 use crate::derived::{Combined, Derived, MAX_DERIVED, Shape, coefficient, combine, has_no_term};

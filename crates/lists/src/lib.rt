@@ -1,7 +1,8 @@
 //! The list type of the product: a vector whose contracts speak of its items alone.
 #![tactic(auto)]
 
-ghost use Rattle.std.specs.Prelude.{◌≡◌, ◌↔◌, ◌^◌, ◌+◌, ◌<◌, IsTrue, List, [], ◌∷◌, ◌++◌, OnErr, OnOk, Some, length, remove, slice_get, slice_index_or, slice_set, take, vec_len};
+ghost use Rattle.std.specs.Prelude.{◌≡◌, ◌↔◌, ◌^◌, ◌+◌, ◌<◌, IsTrue, List, [], ◌∷◌, ◌++◌, OnErr, OnOk, Some, length};
+ghost use Rattle.std.specs.Prelude.{remove, slice_get, slice_index_or, slice_set, take, vec_len};
 
 use std::alloc::AllocError;
 use std::marker::Model;

@@ -6,7 +6,8 @@ use Rattle.round_model.specs.declared.entry.Entry.TheVariants as entry
 use Rattle.round_model.specs.declared.plan.Ending.TheVariants as ending
 use Rattle.round_model.specs.declared.plan.Plan.{Plan}
 use Rattle.round_model.specs.Legal.{LegalNext, Whole}
-use Rattle.model_tests.specs.Histories.{block_and_wake_history, one_core_history, stale_read_history, two_cores_front, two_cores_history}
+use Rattle.model_tests.specs.Histories.{block_and_wake_history, one_core_history, stale_read_history, two_cores_front}
+use Rattle.model_tests.specs.Histories.{two_cores_history}
 use Rattle.model_tests.specs.Plans.{block_and_wake, late, one_core, plan_of, run, stale_read, thread, two_cores}
 use Rattle.fair_policy.specs.Fair.{fair_meaning as fair}
 use Rattle.model_tests.specs.Policies.{basic}

@@ -5,7 +5,8 @@ use Rattle.policy_tree.specs.declared.typed.Event.TheVariants as event
 use Rattle.policy_tree.specs.declared.typed.Put.TheVariants as put
 use Rattle.policy_tree.specs.Trees.{CondTree, always, number, test, times, variable}
 use Rattle.policy_tree.specs.Meaning.{CaseTree, Meaning}
-use Rattle.policy_eval.specs.Obligations.{IdleSeesOverloaded, MeetsObligations, MoveNarrowsGap, NoGap, NoOverlap, VictimIsOverloaded}
+use Rattle.policy_eval.specs.Obligations.{IdleSeesOverloaded, MeetsObligations, MoveNarrowsGap, NoGap, NoOverlap}
+use Rattle.policy_eval.specs.Obligations.{VictimIsOverloaded}
 use Rattle.policy_eval.specs.Resolved.{IsResolved}
 use Rattle.round_model.specs.Fits.{Fits}
 use Rattle.model_tests.specs.Plans.{block_and_wake, eight_threads, plan_of}

@@ -1,6 +1,7 @@
 //! What events do to threads, and what order lines do to serial play.
 
-ghost use Rattle.model_tests.specs.EventRows.{GapsAndOverlaps, OverNumbersArePassedOver, Saturates, TiesGoToTheLowest, YieldGoesToTheQueue};
+ghost use Rattle.model_tests.specs.EventRows.{GapsAndOverlaps, OverNumbersArePassedOver, Saturates, TiesGoToTheLowest};
+ghost use Rattle.model_tests.specs.EventRows.{YieldGoesToTheQueue};
 
 /// A thread that yields goes to the end of the queue.
 pub fn yield_goes_to_the_queue()

@@ -1,6 +1,7 @@
 //! What serial play makes of the worked plans.
 
-ghost use Rattle.model_tests.specs.SerialRows.{EightThreadsSpread, FairBlocksAndWakes, OneCoreTwoUnits, StaleReadFails, TwoCoresOneSteal};
+ghost use Rattle.model_tests.specs.SerialRows.{EightThreadsSpread, FairBlocksAndWakes, OneCoreTwoUnits, StaleReadFails};
+ghost use Rattle.model_tests.specs.SerialRows.{TwoCoresOneSteal};
 
 /// One core runs a thread of two units.
 pub fn one_core_two_units()

@@ -1,5 +1,6 @@
 -- The line of the free nodes, as a pool keeps it. No clause of a call speaks of it.
-use Rattle.std.specs.Prelude.{◌≡◌, ℕ, zero, suc, ◌<◌, ◌^◌, List, length, map, count_by, Option, Some, None, IsSome, is_some, unwrap_or, slice_index_or, slice_set}
+use Rattle.std.specs.Prelude.{◌≡◌, ℕ, zero, suc, ◌<◌, ◌^◌, List, length, map, count_by, Option, Some, None, IsSome}
+use Rattle.std.specs.Prelude.{is_some, unwrap_or, slice_index_or, slice_set}
 use Rattle.node_pool.specs.declared.Held.{Held}
 use Rattle.node_pool.specs.declared.Node.{Node}
 use Rattle.node_pool.specs.declared.Node.TheVariants as node

@@ -1,5 +1,6 @@
 -- A pool as a contract sees it: its nodes by their indexes.
-use Rattle.std.specs.Prelude.{◌≡◌, ℕ, List, Option, Some, None, IsSome, is_none, count_by, option_map, slice_get, slice_index_or, slice_set}
+use Rattle.std.specs.Prelude.{◌≡◌, ℕ, List, Option, Some, None, IsSome, is_none, count_by, option_map, slice_get}
+use Rattle.std.specs.Prelude.{slice_index_or, slice_set}
 use Rattle.node_pool.specs.declared.Held.{Held}
 
 -- the nodes by their indexes. A free node is None

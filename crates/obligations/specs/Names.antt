@@ -1,7 +1,8 @@
 -- The names of the obligations, and the statement that each of them stands for.
 use Rattle.std.specs.Prelude.{ℕ, List, [], ◌∷◌, codes}
 use Rattle.policy_tree.specs.declared.typed.Event.TheVariants as event
-use Rattle.policy_eval.specs.Obligations.{Statement, idle_sees_overloaded, victim_is_overloaded, move_narrows_gap, no_overlap, no_gap}
+use Rattle.policy_eval.specs.Obligations.{Statement, idle_sees_overloaded, victim_is_overloaded, move_narrows_gap}
+use Rattle.policy_eval.specs.Obligations.{no_overlap, no_gap}
 use Rattle.obligations.specs.declared.names.ObName.{ObName}
 use Rattle.obligations.specs.declared.names.ObName.TheVariants as name
 

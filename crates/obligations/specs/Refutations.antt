@@ -5,8 +5,10 @@ use Rattle.policy_tree.specs.declared.trees.Cmp.TheVariants as cmp
 use Rattle.policy_tree.specs.declared.typed.Event.{Event}
 use Rattle.policy_tree.specs.declared.typed.Load.{Load}
 use Rattle.policy_tree.specs.Meaning.{CaseTree, Meaning, cases_on}
-use Rattle.policy_tree.specs.Trees.{CondTree, ExprTree, always, negated, both, either, test, number, variable, plus, times}
-use Rattle.policy_eval.specs.Obligations.{Statement, idle_sees_overloaded, victim_is_overloaded, move_narrows_gap, no_overlap, no_gap}
+use Rattle.policy_tree.specs.Trees.{CondTree, ExprTree, always, negated, both, either, test, number, variable, plus}
+use Rattle.policy_tree.specs.Trees.{times}
+use Rattle.policy_eval.specs.Obligations.{Statement, idle_sees_overloaded, victim_is_overloaded, move_narrows_gap}
+use Rattle.policy_eval.specs.Obligations.{no_overlap, no_gap}
 use Rattle.policy_eval.specs.Ranges.{greatest_weight, least_weight}
 use Rattle.policy_tree.specs.declared.variables.TheConstants.{SELF_NR, SELF_LOAD, OTHER_NR, OTHER_LOAD, WEIGHT}
 

@@ -1,9 +1,11 @@
 -- The systems of an obligation: a solution of one of them is a point at which the obligation fails.
-use Rattle.std.specs.Prelude.{ℕ, zero, suc, pos, ◌*◌, ◌==◌, nat_lt, Bool, true, false, cond, ◌||◌, List, [], ◌∷◌, ◌++◌, map, length, slice_index_or}
+use Rattle.std.specs.Prelude.{ℕ, zero, suc, pos, ◌*◌, ◌==◌, nat_lt, Bool, true, false, cond, ◌||◌, List, [], ◌∷◌, ◌++◌}
+use Rattle.std.specs.Prelude.{map, length, slice_index_or}
 use Rattle.std.specs.List.{list_any}
 use Rattle.sched_base.specs.declared.limits.TheConstants.{MAX_THREADS, MAX_VARIABLES}
 use Rattle.policy_tree.specs.Meaning.{Meaning}
-use Rattle.policy_eval.specs.Obligations.{Statement, idle_sees_overloaded, victim_is_overloaded, move_narrows_gap, no_overlap, no_gap}
+use Rattle.policy_eval.specs.Obligations.{Statement, idle_sees_overloaded, victim_is_overloaded, move_narrows_gap}
+use Rattle.policy_eval.specs.Obligations.{no_overlap, no_gap}
 use Rattle.policy_eval.specs.Ranges.{Range, attribute_ranges, greatest_weight, least_weight, range}
 use Rattle.linear_form.specs.declared.form.Term.{Term}
 use Rattle.linear_form.specs.declared.form.Row.{Row}

@@ -8,7 +8,8 @@ ghost use Rattle.policy_eval.specs.Forms.{EachSide, IsLinear};
 ghost use Rattle.policy_eval.specs.Resolved.{IsWeightRange};
 ghost use Rattle.linear_form.specs.declared.form.Row.{Row};
 ghost use Rattle.obligations.specs.Cases.{cases_of};
-ghost use Rattle.obligations.specs.ChainCases.{IsBelow, IsEnd, IsLinearLink, SplitsOff, along, end_cases, end_nodes, link_cases};
+ghost use Rattle.obligations.specs.ChainCases.{IsBelow, IsEnd, IsLinearLink, SplitsOff, along, end_cases, end_nodes};
+ghost use Rattle.obligations.specs.ChainCases.{link_cases};
 
 use crate::comparisons::{asked, cases_of_test};
 use crate::counts::count;

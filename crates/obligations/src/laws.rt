@@ -1,6 +1,7 @@
 //! Laws of the definitions, each a function without parameters whose contract is the law.
 
-ghost use Rattle.obligations.specs.Laws.{CountsAreCases, NamesAreStatements, RefutationsAreTheirs, SystemsAreStatements};
+ghost use Rattle.obligations.specs.Laws.{CountsAreCases, NamesAreStatements, RefutationsAreTheirs};
+ghost use Rattle.obligations.specs.Laws.{SystemsAreStatements};
 
 /// The names stand for a policy's statements, all of them and in their order.
 pub fn law_names()

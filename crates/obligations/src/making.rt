@@ -1,6 +1,7 @@
 //! The obligations of a policy as systems.
 
-ghost use Rattle.std.specs.Prelude.{◌≡◌, ℕ, ◌↔◌, ◌<◌, ◌≤◌, Err, IfOk, Some, All, None, length, map, nat_lt, slice_index_or, vec_len};
+ghost use Rattle.std.specs.Prelude.{◌≡◌, ℕ, ◌↔◌, ◌<◌, ◌≤◌, Err, IfOk, Some, All, None, length, map, nat_lt};
+ghost use Rattle.std.specs.Prelude.{slice_index_or, vec_len};
 ghost use Rattle.std.specs.List.{AllByRecursion};
 ghost use Rattle.linear_form.specs.System.{IsBound};
 ghost use Rattle.policy_tree.specs.Meaning.{meaning_of};

@@ -1,9 +1,12 @@
 -- How a point is written at which an obligation fails.
-use Rattle.std.specs.Prelude.{◌≡◌, ℕ, ℤ, ◌-◌, ◌==◌, if◌then◌else◌, nat_lt, List, [], ◌++◌, codes, length, map, slice_index_or}
+use Rattle.std.specs.Prelude.{◌≡◌, ℕ, ℤ, ◌-◌, ◌==◌, if◌then◌else◌, nat_lt, List, [], ◌++◌, codes, length, map}
+use Rattle.std.specs.Prelude.{slice_index_or}
 use Rattle.std.specs.Fmt.{signed_decimal}
 use Rattle.std.specs.List.{flat_map, zip}
 use Rattle.policy_tree.specs.declared.typed.Attr.{Attr}
-use Rattle.policy_tree.specs.declared.variables.TheConstants.{FRESH, OTHER_ATTRIBUTES, OTHER_LOAD, OTHER_NR, SELF_ATTRIBUTES, SELF_LOAD, SELF_NR, THREAD_ATTRIBUTES, WEIGHT}
+use Rattle.policy_tree.specs.declared.variables.TheConstants.{FRESH, OTHER_ATTRIBUTES, OTHER_LOAD, OTHER_NR}
+use Rattle.policy_tree.specs.declared.variables.TheConstants.{SELF_ATTRIBUTES, SELF_LOAD, SELF_NR, THREAD_ATTRIBUTES}
+use Rattle.policy_tree.specs.declared.variables.TheConstants.{WEIGHT}
 use Rattle.policy_tree.specs.Meaning.{Meaning}
 use Rattle.obligations.specs.declared.names.ObName.{ObName}
 use Rattle.obligations.specs.Names.{ob_text, statement_of}

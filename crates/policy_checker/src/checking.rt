@@ -8,7 +8,8 @@ ghost use Rattle.obligations.specs.declared.making.ObligeFault.TheVariants as ob
 ghost use Rattle.obligations.specs.declared.names.ObName.{ObName};
 ghost use Rattle.obligations.specs.Counts.{first_crowded};
 ghost use Rattle.obligations.specs.Names.{ob_names};
-ghost use Rattle.policy_checker.specs.Verdicts.{AreAnswers, IsAnswerTo, IsVerdict, policy_of, returned_by, some_fails, some_is_left};
+ghost use Rattle.policy_checker.specs.Verdicts.{AreAnswers, IsAnswerTo, IsVerdict, policy_of, returned_by, some_fails};
+ghost use Rattle.policy_checker.specs.Verdicts.{some_is_left};
 ghost use Rattle.policy_checker.specs.declared.verdict.CheckFault.TheVariants.{Cases};
 
 use crate::accepted::AcceptedPolicy;

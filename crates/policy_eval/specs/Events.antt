@@ -1,5 +1,6 @@
 -- What an event does to the thread that meets it.
-use Rattle.std.specs.Prelude.{ℕ, ◌<◌, ℤ, Bool, List, length, map, filter, fold, slice_get, slice_set, Option, Some, None}
+use Rattle.std.specs.Prelude.{ℕ, ◌<◌, ℤ, Bool, List, length, map, filter, fold, slice_get, slice_set, Option, Some}
+use Rattle.std.specs.Prelude.{None}
 use Rattle.std.specs.Int.{int_max, int_min}
 use Rattle.sched_base.specs.declared.task.Task.{Task}
 use Rattle.policy_tree.specs.declared.typed.Attr.{Attr}

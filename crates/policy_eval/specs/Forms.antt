@@ -1,7 +1,9 @@
 -- The linear form of an expression, what it refers to, and how long it is.
-use Rattle.std.specs.Prelude.{ℕ, ◌+◌, ◌==◌, ℤ, pos, ◌+ℤ◌, ◌-ℤ◌, ◌*ℤ◌, neg_ℤ, Bool, true, false, cond, ◌&&◌, ◌||◌, IsFalse, IsTrue}
+use Rattle.std.specs.Prelude.{ℕ, ◌+◌, ◌==◌, ℤ, pos, ◌+ℤ◌, ◌-ℤ◌, ◌*ℤ◌, neg_ℤ, Bool, true, false, cond, ◌&&◌, ◌||◌}
+use Rattle.std.specs.Prelude.{IsFalse, IsTrue}
 use Rattle.sched_base.specs.declared.limits.TheConstants.{MAX_COEFFICIENT}
-use Rattle.policy_tree.specs.Trees.{ExprTree, number, variable, negation, plus, minus, times, CondTree, always, negated, both, either, test}
+use Rattle.policy_tree.specs.Trees.{ExprTree, number, variable, negation, plus, minus, times, CondTree, always, negated}
+use Rattle.policy_tree.specs.Trees.{both, either, test}
 use Rattle.policy_eval.specs.Ranges.{IsIn, within}
 
 -- whether any variable stands in the expression

@@ -1,7 +1,8 @@
 -- The range of each variable, and the ranges wide enough for every policy.
 use Rattle.std.specs.Prelude.{ℕ, ℤ, pos, neg_ℤ, ◌-◌, ◌≤ℤ◌, List, ◌∷◌, ◌++◌, map, length, replicate}
 use Rattle.std.specs.List.{AllZip}
-use Rattle.sched_base.specs.declared.limits.TheConstants.{MAX_ATTRIBUTE, MAX_ATTRIBUTES, MAX_LOAD, MAX_THREADS, MAX_WEIGHT}
+use Rattle.sched_base.specs.declared.limits.TheConstants.{MAX_ATTRIBUTE, MAX_ATTRIBUTES, MAX_LOAD, MAX_THREADS}
+use Rattle.sched_base.specs.declared.limits.TheConstants.{MAX_WEIGHT}
 use Rattle.policy_tree.specs.declared.typed.Attr.{Attr}
 use Rattle.policy_tree.specs.declared.typed.Load.{Load}
 use Rattle.policy_tree.specs.declared.typed.Load.TheVariants as load

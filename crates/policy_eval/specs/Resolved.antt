@@ -1,6 +1,7 @@
 -- Resolved policies: every reference stands where it may, every expression is linear, every limit is kept.
 use Rattle.std.specs.Prelude.{◌<◌, ◌≤◌, ◌≤ℤ◌, List, length, All, neg_ℤ}
-use Rattle.sched_base.specs.declared.limits.TheConstants.{MAX_ATTRIBUTE, MAX_ATTRIBUTES, MAX_CASES, MAX_COMPARISONS, MAX_KEYS, MAX_OPERATORS, MAX_SETS, MAX_WEIGHT}
+use Rattle.sched_base.specs.declared.limits.TheConstants.{MAX_ATTRIBUTE, MAX_ATTRIBUTES, MAX_CASES, MAX_COMPARISONS}
+use Rattle.sched_base.specs.declared.limits.TheConstants.{MAX_KEYS, MAX_OPERATORS, MAX_SETS, MAX_WEIGHT}
 use Rattle.policy_tree.specs.declared.typed.Attr.{Attr}
 use Rattle.policy_tree.specs.declared.typed.Event.{Event}
 use Rattle.policy_tree.specs.declared.typed.Load.{Load}

@@ -5,7 +5,8 @@ use Rattle.policy_tree.specs.declared.typed.Event.{Event}
 use Rattle.policy_tree.specs.declared.typed.Event.TheVariants as event
 use Rattle.policy_tree.specs.declared.typed.Put.{Put}
 use Rattle.policy_tree.specs.declared.typed.Put.TheVariants as put
-use Rattle.policy_tree.specs.declared.variables.TheConstants.{FRESH, OTHER_ATTRIBUTES, OTHER_LOAD, OTHER_NR, SELF_ATTRIBUTES, THREAD_ATTRIBUTES, WEIGHT}
+use Rattle.policy_tree.specs.declared.variables.TheConstants.{FRESH, OTHER_ATTRIBUTES, OTHER_LOAD, OTHER_NR}
+use Rattle.policy_tree.specs.declared.variables.TheConstants.{SELF_ATTRIBUTES, THREAD_ATTRIBUTES, WEIGHT}
 use Rattle.policy_tree.specs.Meaning.{Meaning}
 
 -- where an expression or a condition of a policy may stand

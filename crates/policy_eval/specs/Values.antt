@@ -1,9 +1,11 @@
 -- The value of an expression, and whether a condition holds, for whole numbers of any size.
-use Rattle.std.specs.Prelude.{ℕ, ℤ, pos, ◌+ℤ◌, ◌-ℤ◌, ◌*ℤ◌, neg_ℤ, Bool, true, not, ◌&&◌, ◌||◌, int_lt, int_le, IsTrue, List, slice_index_or}
+use Rattle.std.specs.Prelude.{ℕ, ℤ, pos, ◌+ℤ◌, ◌-ℤ◌, ◌*ℤ◌, neg_ℤ, Bool, true, not, ◌&&◌, ◌||◌, int_lt, int_le, IsTrue}
+use Rattle.std.specs.Prelude.{List, slice_index_or}
 use Rattle.std.specs.Ordering.{int_eq}
 use Rattle.policy_tree.specs.declared.trees.Cmp.{Cmp}
 use Rattle.policy_tree.specs.declared.trees.Cmp.TheVariants as cmp
-use Rattle.policy_tree.specs.Trees.{ExprTree, number, variable, negation, plus, minus, times, CondTree, always, negated, both, either, test}
+use Rattle.policy_tree.specs.Trees.{ExprTree, number, variable, negation, plus, minus, times, CondTree, always, negated}
+use Rattle.policy_tree.specs.Trees.{both, either, test}
 
 -- the value of each variable, by the variable's number
 abbrev pub Assignment : Type 0

@@ -1,5 +1,6 @@
 -- The limits of a language: which a syntax passes first, in the order of its tokens.
-use Rattle.std.specs.Prelude.{ℕ, zero, suc, ◌+◌, Bool, true, false, nat_lt, if◌then◌else◌, List, [], ◌∷◌, Option, Some, None}
+use Rattle.std.specs.Prelude.{ℕ, zero, suc, ◌+◌, Bool, true, false, nat_lt, if◌then◌else◌, List, [], ◌∷◌, Option, Some}
+use Rattle.std.specs.Prelude.{None}
 use Rattle.policy_tree.specs.declared.syntax.AttrSyntax.{AttrSyntax}
 use Rattle.policy_tree.specs.declared.syntax.PlaceSyntax.{PlaceSyntax}
 use Rattle.policy_tree.specs.declared.syntax.PlaceSyntax.TheVariants as place
@@ -12,7 +13,8 @@ use Rattle.policy_tree.specs.declared.syntax.TimesSyntax.{TimesSyntax}
 use Rattle.policy_tree.specs.declared.syntax.TermSyntax.{TermSyntax}
 use Rattle.policy_tree.specs.declared.syntax.AddedSyntax.{AddedSyntax}
 use Rattle.policy_tree.specs.declared.syntax.ExprSyntax.{ExprSyntax}
-use Rattle.policy_tree.specs.SyntaxTrees.{ConditionTree, always, negated, grouped, all, any, test, ConditionTrees, no_more, more, CaseSyntaxTree, HandlerSyntaxTree, SyntaxTree}
+use Rattle.policy_tree.specs.SyntaxTrees.{ConditionTree, always, negated, grouped, all, any, test, ConditionTrees}
+use Rattle.policy_tree.specs.SyntaxTrees.{no_more, more, CaseSyntaxTree, HandlerSyntaxTree, SyntaxTree}
 use Rattle.policy_grammar.specs.declared.limits.Limits.{Limits}
 use Rattle.policy_grammar.specs.declared.fault.ParseFault.{ParseFault}
 use Rattle.policy_grammar.specs.declared.fault.ParseFault.TheVariants.{Deep, Many}

@@ -14,7 +14,10 @@ use Rattle.policy_tree.specs.declared.syntax.OrderSyntax.{OrderSyntax}
 use Rattle.policy_tree.specs.declared.syntax.SetSyntax.{SetSyntax}
 use Rattle.policy_tree.specs.declared.syntax.ExprSyntax.{ExprSyntax}
 use Rattle.policy_tree.specs.SyntaxTrees.{ConditionTree, CaseSyntaxTree, HandlerSyntaxTree, SyntaxTree}
-use Rattle.policy_grammar.specs.declared.terminal.Terminal.TheVariants.{Policy, Load, Count, Weight, In, Start, Place, Here, Min, Elect, Choose, Steal, On, When, Filter, Task, Name, Dot, Comma, Colon, Begin, Finish, Gets}
+use Rattle.policy_grammar.specs.declared.terminal.Terminal.TheVariants.{Policy, Load, Count, Weight, In, Start, Place}
+use Rattle.policy_grammar.specs.declared.terminal.Terminal.TheVariants.{Here, Min, Elect, Choose, Steal, On, When}
+use Rattle.policy_grammar.specs.declared.terminal.Terminal.TheVariants.{Filter, Task, Name, Dot, Comma, Colon, Begin}
+use Rattle.policy_grammar.specs.declared.terminal.Terminal.TheVariants.{Finish, Gets}
 use Rattle.policy_grammar.specs.declared.terminal.Lexeme.{Lexeme}
 use Rattle.policy_grammar.specs.Terminals.{code, kind_at, word_at, is_word}
 use Rattle.policy_grammar.specs.Words.{attr_word, event_word, put_word}

@@ -1,7 +1,14 @@
 -- The terminals by number, and the lexemes of a text.
 use Rattle.std.specs.Prelude.{ℕ, Bool, nat_le, ◌&&◌, List, slice_get, slice_range, Option, Some, None}
 use Rattle.policy_grammar.specs.declared.terminal.Terminal.{Terminal}
-use Rattle.policy_grammar.specs.declared.terminal.Terminal.TheVariants.{End, Policy, Load, Count, Weight, Core, Thread, In, Start, Place, Here, Min, Max, Elect, Choose, Steal, First, On, Enqueue, Tick, Yield, Block, When, Queue, Keep, Filter, And, Or, Not, Always, Itself, Victim, Task, Reserved, Name, Number, Dot, Range, Comma, Colon, Open, Close, Begin, Finish, Plus, Minus, Star, Gets, Equal, Unequal, Less, AtMost, More, AtLeast}
+use Rattle.policy_grammar.specs.declared.terminal.Terminal.TheVariants.{End, Policy, Load, Count, Weight, Core, Thread}
+use Rattle.policy_grammar.specs.declared.terminal.Terminal.TheVariants.{In, Start, Place, Here, Min, Max, Elect, Choose}
+use Rattle.policy_grammar.specs.declared.terminal.Terminal.TheVariants.{Steal, First, On, Enqueue, Tick, Yield, Block}
+use Rattle.policy_grammar.specs.declared.terminal.Terminal.TheVariants.{When, Queue, Keep, Filter, And, Or, Not, Always}
+use Rattle.policy_grammar.specs.declared.terminal.Terminal.TheVariants.{Itself, Victim, Task, Reserved, Name, Number}
+use Rattle.policy_grammar.specs.declared.terminal.Terminal.TheVariants.{Dot, Range, Comma, Colon, Open, Close, Begin}
+use Rattle.policy_grammar.specs.declared.terminal.Terminal.TheVariants.{Finish, Plus, Minus, Star, Gets, Equal, Unequal}
+use Rattle.policy_grammar.specs.declared.terminal.Terminal.TheVariants.{Less, AtMost, More, AtLeast}
 use Rattle.policy_grammar.specs.declared.terminal.Lexeme.{Lexeme}
 
 -- the number of a terminal

@@ -1,9 +1,12 @@
 -- The classes of bytes, and what a number and a symbol are in bytes.
-use Rattle.std.specs.Prelude.{ℕ, ◌+◌, ◌*◌, ◌==◌, Bool, ◌||◌, ◌&&◌, if◌then◌else◌, List, [], ◌∷◌, fold, Option, Some, None}
+use Rattle.std.specs.Prelude.{ℕ, ◌+◌, ◌*◌, ◌==◌, Bool, ◌||◌, ◌&&◌, if◌then◌else◌, List, [], ◌∷◌, fold, Option, Some}
+use Rattle.std.specs.Prelude.{None}
 use Rattle.std.specs.Char.{is_ascii_alphanumeric, digit_value}
 use Rattle.std.specs.Int.{is_in_range}
 use Rattle.policy_lexer.specs.declared.token.Symbol.{Symbol}
-use Rattle.policy_lexer.specs.declared.token.Symbol.TheVariants.{Dot, Range, Comma, Colon, Open, Close, Begin, Finish, Plus, Minus, Star, Gets, Equal, Unequal, Less, AtMost, More, AtLeast}
+use Rattle.policy_lexer.specs.declared.token.Symbol.TheVariants.{Dot, Range, Comma, Colon, Open, Close, Begin, Finish}
+use Rattle.policy_lexer.specs.declared.token.Symbol.TheVariants.{Plus, Minus, Star, Gets, Equal, Unequal, Less, AtMost}
+use Rattle.policy_lexer.specs.declared.token.Symbol.TheVariants.{More, AtLeast}
 
 -- a letter, a digit or `_`
 abbrev pub is_word_byte : ℕ → Bool

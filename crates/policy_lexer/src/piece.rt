@@ -5,7 +5,8 @@ ghost use Rattle.std.specs.List.{AllPass, prefix_len};
 ghost use Rattle.std.specs.Option.{SomeIff};
 ghost use Rattle.std.specs.Char.{is_ascii_alphabetic, is_ascii_digit};
 ghost use Rattle.sched_base.specs.declared.limits.TheConstants.{MAX_POLICY_BYTES};
-ghost use Rattle.policy_lexer.specs.Bytes.{is_word_byte, is_blank, is_comment_byte, number_of, single_symbol, double_symbol};
+ghost use Rattle.policy_lexer.specs.Bytes.{is_word_byte, is_blank, is_comment_byte, number_of, single_symbol};
+ghost use Rattle.policy_lexer.specs.Bytes.{double_symbol};
 ghost use Rattle.policy_lexer.specs.First.{IsStep, IsFirstFault, IsOther, HasDouble, HasNoDouble};
 
 use crate::fault::LexFault;

@@ -5,7 +5,8 @@ ghost use Rattle.policy_grammar.specs.declared.terminal.Terminal.TheVariants.{On
 ghost use Rattle.policy_grammar.specs.Terminals.{code, kind_at};
 ghost use Rattle.policy_grammar.specs.Words.{put_word, event_word};
 ghost use Rattle.policy_grammar.specs.Policies.{IsCase, IsHandler, IsHandlers, IsSets};
-ghost use Rattle.policy_grammar.specs.Machine.{Symbol, the, actions, case, cases, handlers, is_put, is_event, field, operand, unit, ands, ors, go};
+ghost use Rattle.policy_grammar.specs.Machine.{Symbol, the, actions, case, cases, handlers, is_put, is_event, field};
+ghost use Rattle.policy_grammar.specs.Machine.{operand, unit, ands, ors, go};
 ghost use Rattle.policy_tree.specs.SyntaxTrees.{case_syntax_tree, condition_tree, handler_syntax_tree};
 ghost use Rattle.policy_parser.specs.Answers.{Answers};
 ghost use Rattle.policy_parser.specs.Cases.{Cased};

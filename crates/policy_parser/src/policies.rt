@@ -1,7 +1,9 @@
 //! Reads the declarations of a policy, and its rules of placing and electing.
 
-ghost use Rattle.std.specs.Prelude.{◌≡◌, ◌==◌, ◌<◌, ◌≤◌, ◌+◌, ◌∷◌, ℕ, List, length, IfOk, IfSome, IfNone, IsTrue, false, ◌^◌, ◌-◌};
-ghost use Rattle.policy_grammar.specs.declared.terminal.Terminal.TheVariants.{Core, Thread, Load, Range, In, Start, Name};
+ghost use Rattle.std.specs.Prelude.{◌≡◌, ◌==◌, ◌<◌, ◌≤◌, ◌+◌, ◌∷◌, ℕ, List, length, IfOk, IfSome, IfNone, IsTrue};
+ghost use Rattle.std.specs.Prelude.{false, ◌^◌, ◌-◌};
+ghost use Rattle.policy_grammar.specs.declared.terminal.Terminal.TheVariants.{Core, Thread, Load, Range, In, Start};
+ghost use Rattle.policy_grammar.specs.declared.terminal.Terminal.TheVariants.{Name};
 ghost use Rattle.policy_grammar.specs.Terminals.{code, kind_at, word_at};
 ghost use Rattle.policy_grammar.specs.Words.{attr_word};
 ghost use Rattle.policy_grammar.specs.Expressions.{IsInt, IsRange};

@@ -1,11 +1,13 @@
 //! Reads whole policies, section by section.
 
 ghost use Rattle.std.specs.Prelude.{None, ◌≡◌, ◌<◌, ◌≤◌, ◌+◌, ◌∷◌, [], ℕ, List, length, IfOk, map};
-ghost use Rattle.policy_grammar.specs.declared.terminal.Terminal.TheVariants.{Policy, Name, Load, Filter, Choose, Steal};
+ghost use Rattle.policy_grammar.specs.declared.terminal.Terminal.TheVariants.{Policy, Name, Load, Filter, Choose};
+ghost use Rattle.policy_grammar.specs.declared.terminal.Terminal.TheVariants.{Steal};
 ghost use Rattle.policy_grammar.specs.Terminals.{code, kind_at};
 ghost use Rattle.policy_grammar.specs.Expressions.{IsOrder};
 ghost use Rattle.policy_grammar.specs.Policies.{IsPolicy};
-ghost use Rattle.policy_grammar.specs.Machine.{Symbol, the, load_rule, attrs, place, elect, handlers, condition, order, start, go};
+ghost use Rattle.policy_grammar.specs.Machine.{Symbol, the, load_rule, attrs, place, elect, handlers, condition, order};
+ghost use Rattle.policy_grammar.specs.Machine.{start, go};
 ghost use Rattle.policy_tree.specs.SyntaxTrees.{condition_tree, handler_syntax_tree, syntax_tree};
 ghost use Rattle.policy_parser.specs.Answers.{Answers};
 ghost use Rattle.policy_parser.specs.Sections.{IsHeader, IsRules, IsFront, IsChoices, IsBack};

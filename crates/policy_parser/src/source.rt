@@ -1,6 +1,7 @@
 //! The tokens that are read, and the text that they are of.
 
-ghost use Rattle.std.specs.Prelude.{◌≡◌, ◌==◌, ◌<◌, ◌≤◌, ◌+◌, ◌^◌, ◌∷◌, ℕ, List, length, All, Ok, Err, IfOk, IfErr, IsTrue, true, false};
+ghost use Rattle.std.specs.Prelude.{◌≡◌, ◌==◌, ◌<◌, ◌≤◌, ◌+◌, ◌^◌, ◌∷◌, ℕ, List, length, All, Ok, Err, IfOk, IfErr};
+ghost use Rattle.std.specs.Prelude.{IsTrue, true, false};
 ghost use Rattle.policy_grammar.specs.Terminals.{code, kind_at, lexeme_at, word_at, is_word};
 ghost use Rattle.policy_grammar.specs.Machine.{Symbol, the, go};
 ghost use Rattle.policy_grammar.specs.declared.fault.ParseFault.TheVariants.{Memory, Unexpected};

@@ -2,7 +2,9 @@
 
 ghost use Rattle.std.specs.Prelude.{OnOk};
 ghost use Rattle.policy_printer.specs.Adds.{Prints};
-ghost use Rattle.policy_printer.specs.ExpressionTexts.{negative_texts, int_texts, range_texts, operand_texts, factor_texts, times_texts, term_texts, added_texts, expr_texts, key_texts, further_key_texts, order_texts};
+ghost use Rattle.policy_printer.specs.ExpressionTexts.{negative_texts, int_texts, range_texts, operand_texts};
+ghost use Rattle.policy_printer.specs.ExpressionTexts.{factor_texts, times_texts, term_texts, added_texts, expr_texts};
+ghost use Rattle.policy_printer.specs.ExpressionTexts.{key_texts, further_key_texts, order_texts};
 
 use crate::printer::Printer;
 use crate::words::{key_text, owner_text, sign_text};

@@ -1,7 +1,8 @@
 //! The words and symbols that a syntax has as data.
 
 ghost use Rattle.std.specs.Prelude.{◌≡◌};
-ghost use Rattle.policy_printer.specs.WordTexts.{compare_text, event_text, key_text, kind_text, owner_text, put_text, sign_text};
+ghost use Rattle.policy_printer.specs.WordTexts.{compare_text, event_text, key_text, kind_text, owner_text, put_text};
+ghost use Rattle.policy_printer.specs.WordTexts.{sign_text};
 
 use policy_tree::{Cmp, Event, Owner, Put};
 

@@ -1,7 +1,9 @@
 -- The line that is printed of a fault.
 use Rattle.std.specs.Prelude.{ℕ, List, ◌++◌, codes, decimal}
 use Rattle.policy_reader.specs.declared.fault.FaultKind.{FaultKind}
-use Rattle.policy_reader.specs.declared.fault.FaultKind.TheVariants.{NotAscii, BadByte, LongName, WideNumber, Unexpected, Deep, Many, Unknown, Twice, NotLinear, NotHere, BadRange, Big}
+use Rattle.policy_reader.specs.declared.fault.FaultKind.TheVariants.{NotAscii, BadByte, LongName, WideNumber}
+use Rattle.policy_reader.specs.declared.fault.FaultKind.TheVariants.{Unexpected, Deep, Many, Unknown, Twice, NotLinear}
+use Rattle.policy_reader.specs.declared.fault.FaultKind.TheVariants.{NotHere, BadRange, Big}
 use Rattle.policy_reader.specs.declared.fault.TextFault.{TextFault}
 
 -- the word of a fault

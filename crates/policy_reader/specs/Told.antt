@@ -7,7 +7,9 @@ use Rattle.policy_grammar.specs.declared.fault.ParseFault.{ParseFault}
 use Rattle.policy_grammar.specs.declared.fault.ParseFault.TheVariants as parse
 use Rattle.policy_types.specs.declared.fault.TypeFault.{TypeFault}
 use Rattle.policy_types.specs.declared.fault.TypeFault.TheVariants as type
-use Rattle.policy_reader.specs.declared.fault.FaultKind.TheVariants.{NotAscii, BadByte, LongName, WideNumber, Unexpected, Deep, Many, Unknown, Twice, NotLinear, NotHere, BadRange, Big}
+use Rattle.policy_reader.specs.declared.fault.FaultKind.TheVariants.{NotAscii, BadByte, LongName, WideNumber}
+use Rattle.policy_reader.specs.declared.fault.FaultKind.TheVariants.{Unexpected, Deep, Many, Unknown, Twice, NotLinear}
+use Rattle.policy_reader.specs.declared.fault.FaultKind.TheVariants.{NotHere, BadRange, Big}
 use Rattle.policy_reader.specs.declared.fault.TextFault.{TextFault}
 use Rattle.policy_reader.specs.declared.fault.PolicyFault.{PolicyFault}
 use Rattle.policy_reader.specs.declared.fault.PolicyFault.TheVariants.{Broken, Memory}

@@ -13,7 +13,9 @@ use Rattle.policy_tree.specs.declared.syntax.CaseSyntax.{CaseSyntax}
 use Rattle.policy_tree.specs.declared.syntax.HandlerSyntax.{HandlerSyntax}
 use Rattle.policy_tree.specs.declared.syntax.Syntax.{Syntax}
 use Rattle.policy_tree.specs.declared.syntax.ExprSyntax.{ExprSyntax}
-use Rattle.policy_tree.specs.declared.syntax.ConditionSyntax.{ConditionSyntax, Always, Not', Group', And', Or', Test, Row_of-ConditionSyntax, end_of-ConditionSyntax, more_of-ConditionSyntax}
+use Rattle.policy_tree.specs.declared.syntax.ConditionSyntax.{ConditionSyntax, Always, Not', Group', And', Or', Test}
+use Rattle.policy_tree.specs.declared.syntax.ConditionSyntax.{Row_of-ConditionSyntax, end_of-ConditionSyntax}
+use Rattle.policy_tree.specs.declared.syntax.ConditionSyntax.{more_of-ConditionSyntax}
 
 mutual
   -- a condition: its constructors have the index of the first token, a test that of its symbol

@@ -7,7 +7,8 @@ use Rattle.policy_tree.specs.declared.syntax.OrderSyntax.{OrderSyntax}
 use Rattle.policy_tree.specs.Meaning.{KeyTree}
 use Rattle.policy_tree.specs.Trees as tree
 use Rattle.policy_tree.specs.Trees.{CondTree}
-use Rattle.policy_tree.specs.SyntaxTrees.{ConditionTree, always, negated, grouped, all, any, test, ConditionTrees, no_more, more}
+use Rattle.policy_tree.specs.SyntaxTrees.{ConditionTree, always, negated, grouped, all, any, test, ConditionTrees}
+use Rattle.policy_tree.specs.SyntaxTrees.{no_more, more}
 use Rattle.policy_types.specs.declared.fault.TypeFault.{TypeFault}
 use Rattle.policy_types.specs.declared.scope.Scope.{Scope}
 use Rattle.policy_types.specs.declared.sites.Site.{Site}

@@ -3,7 +3,8 @@ use Rattle.std.specs.Prelude.{ℕ, ◌^◌, ◌<◌, ◌≤◌, List, All, lengt
 use Rattle.policy_tree.specs.SyntaxTrees.{SyntaxTree}
 use Rattle.policy_grammar.specs.Correct.{IsWithin}
 use Rattle.policy_types.specs.declared.fault.TypeFault.{TypeFault}
-use Rattle.policy_types.specs.declared.fault.TypeFault.TheVariants.{Unknown, Twice, NotLinear, NotHere, BadRange, Big, Memory}
+use Rattle.policy_types.specs.declared.fault.TypeFault.TheVariants.{Unknown, Twice, NotLinear, NotHere, BadRange, Big}
+use Rattle.policy_types.specs.declared.fault.TypeFault.TheVariants.{Memory}
 use Rattle.policy_grammar.specs.declared.limits.TheConstants.{POLICY_LIMITS}
 use Rattle.policy_grammar.specs.declared.terminal.Lexeme.{Lexeme}
 

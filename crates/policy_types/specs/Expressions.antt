@@ -1,6 +1,7 @@
 -- The expression that a syntax is, and the rules that it breaks, in the order of the text. `+`, `-` and `*` group to
 -- the left.
-use Rattle.std.specs.Prelude.{ℕ, zero, suc, pos, Bool, true, false, not, ◌&&◌, if◌then◌else◌, List, [], ◌∷◌, ◌++◌, Option, Some, None}
+use Rattle.std.specs.Prelude.{ℕ, zero, suc, pos, Bool, true, false, not, ◌&&◌, if◌then◌else◌, List, [], ◌∷◌, ◌++◌}
+use Rattle.std.specs.Prelude.{Option, Some, None}
 use Rattle.policy_tree.specs.declared.syntax.Owner.{Owner}
 use Rattle.policy_tree.specs.declared.syntax.OperandSyntax.{OperandSyntax}
 use Rattle.policy_tree.specs.declared.syntax.OperandSyntax.TheVariants.{Number, Reference}

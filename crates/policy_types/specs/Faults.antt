@@ -1,7 +1,8 @@
 -- Faults in the order of a text.
 use Rattle.std.specs.Prelude.{ℕ, ◌+◌, ◌-◌, ◌^◌, ◌≡◌, min, Bool, if◌then◌else◌, List, [], ◌∷◌, Option, Some, None}
 use Rattle.policy_types.specs.declared.fault.TypeFault.{TypeFault}
-use Rattle.policy_types.specs.declared.fault.TypeFault.TheVariants.{Unknown, Twice, NotLinear, NotHere, BadRange, Big, Memory}
+use Rattle.policy_types.specs.declared.fault.TypeFault.TheVariants.{Unknown, Twice, NotLinear, NotHere, BadRange, Big}
+use Rattle.policy_types.specs.declared.fault.TypeFault.TheVariants.{Memory}
 
 -- the token that stands so many behind another. No text has a token past the last number of 32 bits
 abbrev pub behind : ℕ → ℕ → ℕ

@@ -1,5 +1,6 @@
 -- The handlers that a syntax is, and the rules that they break, in the order of the text.
-use Rattle.std.specs.Prelude.{ℕ, Bool, true, false, not, ◌||◌, if◌then◌else◌, List, [], ◌∷◌, ◌++◌, map, Option, Some, None, length}
+use Rattle.std.specs.Prelude.{ℕ, Bool, true, false, not, ◌||◌, if◌then◌else◌, List, [], ◌∷◌, ◌++◌, map, Option, Some}
+use Rattle.std.specs.Prelude.{None, length}
 use Rattle.policy_tree.specs.declared.syntax.SetSyntax.{SetSyntax}
 use Rattle.policy_tree.specs.declared.typed.Event.{Event}
 use Rattle.policy_tree.specs.declared.typed.Event.TheVariants as event

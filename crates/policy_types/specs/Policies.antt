@@ -7,7 +7,8 @@ use Rattle.policy_tree.specs.SyntaxTrees.{SyntaxTree}
 use Rattle.policy_types.specs.declared.fault.TypeFault.{TypeFault}
 use Rattle.policy_types.specs.declared.scope.Scope.{Scope}
 use Rattle.policy_types.specs.declared.sites.Site.TheVariants.{Choose, Filter, Placement, Steal}
-use Rattle.policy_types.specs.Conditions.{condition_faults, condition_meaning, elect_faults, elect_meaning, order_faults, order_meaning}
+use Rattle.policy_types.specs.Conditions.{condition_faults, condition_meaning, elect_faults, elect_meaning}
+use Rattle.policy_types.specs.Conditions.{order_faults, order_meaning}
 use Rattle.policy_types.specs.Declarations.{attrs_faults, load_faults, load_meaning, nothing_declared, scope_after}
 use Rattle.policy_types.specs.Expressions.{expr_faults, expr_meaning}
 use Rattle.policy_types.specs.Handlers.{handlers_faults, handlers_meaning}

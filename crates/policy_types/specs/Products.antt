@@ -1,5 +1,6 @@
 -- The linear forms that the code keeps: of a term, a number times at most one variable; of a sum, all coefficients.
-use Rattle.std.specs.Prelude.{◌≡◌, ℕ, ◌≤◌, ◌^◌, ◌*◌, not, ℤ, pos, neg_ℤ, ◌+ℤ◌, cond, ◌==◌, Bool, true, get_or, Option, Some, None, is_some}
+use Rattle.std.specs.Prelude.{◌≡◌, ℕ, ◌≤◌, ◌^◌, ◌*◌, not, ℤ, pos, neg_ℤ, ◌+ℤ◌, cond, ◌==◌, Bool, true, get_or, Option}
+use Rattle.std.specs.Prelude.{Some, None, is_some}
 use Rattle.std.specs.Bool.{beq}
 use Rattle.sched_base.specs.declared.limits.TheConstants.{MAX_VARIABLES}
 use Rattle.policy_tree.specs.Trees.{ExprTree}

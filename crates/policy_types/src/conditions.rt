@@ -4,7 +4,8 @@ ghost use Rattle.std.specs.Prelude.{◌≡◌, IfOk, IfErr, [], None, option_map
 ghost use Rattle.policy_tree.specs.Meaning.{order_tree};
 ghost use Rattle.policy_tree.specs.Trees.{cond_tree};
 ghost use Rattle.policy_tree.specs.SyntaxTrees.{condition_tree, condition_trees};
-ghost use Rattle.policy_types.specs.Conditions.{chain_meaning, condition_faults, condition_meaning, linked, order_faults, order_meaning, parts_faults};
+ghost use Rattle.policy_types.specs.Conditions.{chain_meaning, condition_faults, condition_meaning, linked};
+ghost use Rattle.policy_types.specs.Conditions.{order_faults, order_meaning, parts_faults};
 ghost use Rattle.policy_types.specs.Faults.{IsFirst};
 
 use crate::fault::TypeFault;

@@ -1,7 +1,9 @@
 //! What a syntax declares.
 
 ghost use Rattle.std.specs.Prelude.{◌≡◌, ◌<◌, ◌^◌, ◌++◌, ◌+◌, ◌-◌, [], ◌∷◌, IfOk, IfErr, length, true, unsigned_abs};
-ghost use Rattle.policy_types.specs.Declarations.{attr_faults, attr_meaning, attrs_faults, int_meaning, is_attribute_range, load_faults, load_meaning, nothing_declared, scope_after};
+ghost use Rattle.policy_types.specs.Declarations.{attr_faults, attr_meaning, attrs_faults, int_meaning};
+ghost use Rattle.policy_types.specs.Declarations.{is_attribute_range, load_faults, load_meaning, nothing_declared};
+ghost use Rattle.policy_types.specs.Declarations.{scope_after};
 ghost use Rattle.policy_types.specs.Faults.{IsFirst};
 
 use crate::attributes::Attributes;

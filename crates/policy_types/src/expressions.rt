@@ -2,7 +2,9 @@
 
 ghost use Rattle.std.specs.Prelude.{◌≡◌, IfOk, IfErr, MatchOption, true, false, [], ⊤};
 ghost use Rattle.policy_tree.specs.Trees.{ExprTree, expr_tree, times};
-ghost use Rattle.policy_types.specs.Expressions.{big_faults, expr_faults, expr_meaning, factor_faults, factor_meaning, feature_faults, joined, operand_meaning, product_faults, sum_with, term_faults, term_meaning};
+ghost use Rattle.policy_types.specs.Expressions.{big_faults, expr_faults, expr_meaning, factor_faults, factor_meaning};
+ghost use Rattle.policy_types.specs.Expressions.{feature_faults, joined, operand_meaning, product_faults, sum_with};
+ghost use Rattle.policy_types.specs.Expressions.{term_faults, term_meaning};
 ghost use Rattle.policy_types.specs.Faults.{IsFirst};
 ghost use Rattle.policy_types.specs.Forms.{has_form, has_small_form};
 ghost use Rattle.policy_types.specs.Products.{IsForm, IsKnown, IsProduct};

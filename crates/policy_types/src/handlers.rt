@@ -1,12 +1,15 @@
 //! Which handlers a syntax is.
 
-ghost use Rattle.std.specs.Prelude.{◌≡◌, ◌<◌, ◌^◌, length, [], IfOk, IfErr, Option, map, option_map, is_some, if◌then◌else◌, Some};
+ghost use Rattle.std.specs.Prelude.{◌≡◌, ◌<◌, ◌^◌, length, [], IfOk, IfErr, Option, map, option_map, is_some};
+ghost use Rattle.std.specs.Prelude.{if◌then◌else◌, Some};
 ghost use Rattle.policy_tree.specs.declared.typed.Event.{Event};
 ghost use Rattle.policy_tree.specs.Meaning.{case_tree, handler_trees, set_tree};
 ghost use Rattle.policy_tree.specs.SyntaxTrees.{case_syntax_tree, handler_syntax_tree};
 ghost use Rattle.policy_types.specs.Faults.{IsFirst};
 ghost use Rattle.policy_types.specs.Given.{cases_or, given_cases, given_or_default};
-ghost use Rattle.policy_types.specs.Handlers.{case_faults, case_meaning, cases_faults, default_cases, default_put, handlers_faults, handlers_meaning, same_event, set_faults, set_meaning, sets_faults, target_faults, target_of};
+ghost use Rattle.policy_types.specs.Handlers.{case_faults, case_meaning, cases_faults, default_cases, default_put};
+ghost use Rattle.policy_types.specs.Handlers.{handlers_faults, handlers_meaning, same_event, set_faults, set_meaning};
+ghost use Rattle.policy_types.specs.Handlers.{sets_faults, target_faults, target_of};
 ghost use Rattle.policy_types.specs.References.{feature_among};
 
 use crate::fault::TypeFault;

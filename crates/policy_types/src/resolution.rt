@@ -7,7 +7,8 @@ ghost use Rattle.policy_types.specs.Conditions.{elect_faults, elect_meaning};
 ghost use Rattle.policy_eval.specs.Resolved.{IsResolved};
 ghost use Rattle.policy_types.specs.Correct.{IsLeast, IsOfGrammar};
 ghost use Rattle.policy_types.specs.Faults.{IsFirst};
-ghost use Rattle.policy_types.specs.Policies.{faults_in, meaning_in, place_faults, place_meaning, policy_faults, policy_meaning};
+ghost use Rattle.policy_types.specs.Policies.{faults_in, meaning_in, place_faults, place_meaning, policy_faults};
+ghost use Rattle.policy_types.specs.Policies.{policy_meaning};
 
 use crate::declarations::{attributes, copy_of_name, load};
 use crate::fault::TypeFault;

@@ -1,5 +1,6 @@
 -- What bounds the threads and the numbers of every state that a legal history leaves.
-use Rattle.std.specs.Prelude.{◌≡◌, ◌≢◌, ℕ, ◌+◌, ◌<◌, ◌≤◌, ◌==◌, nat_lt, Bool, ◌&&◌, ◌||◌, List, All, count_by, length, map, sum, IsFalse, IsTrue}
+use Rattle.std.specs.Prelude.{◌≡◌, ◌≢◌, ℕ, ◌+◌, ◌<◌, ◌≤◌, ◌==◌, nat_lt, Bool, ◌&&◌, ◌||◌, List, All, count_by, length}
+use Rattle.std.specs.Prelude.{map, sum, IsFalse, IsTrue}
 use Rattle.std.specs.List.{list_any}
 use Rattle.sched_base.specs.declared.task.Task.{Task}
 use Rattle.policy_tree.specs.Meaning.{Meaning}

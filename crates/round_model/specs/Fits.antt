@@ -1,6 +1,7 @@
 -- Plans that fit a policy.
 use Rattle.std.specs.Prelude.{◌≡◌, ◌≢◌, ℕ, ◌<◌, ◌≤◌, List, [], ◌∷◌, length, All, AllPairs}
-use Rattle.sched_base.specs.declared.limits.TheConstants.{MAX_BLOCK_ROUNDS, MAX_BURSTS, MAX_CORES, MAX_ENTRIES, MAX_ROUNDS, MAX_THREADS, MAX_UNITS}
+use Rattle.sched_base.specs.declared.limits.TheConstants.{MAX_BLOCK_ROUNDS, MAX_BURSTS, MAX_CORES, MAX_ENTRIES}
+use Rattle.sched_base.specs.declared.limits.TheConstants.{MAX_ROUNDS, MAX_THREADS, MAX_UNITS}
 use Rattle.policy_tree.specs.Meaning.{Meaning}
 use Rattle.policy_eval.specs.Fitting.{IsWeight}
 use Rattle.policy_eval.specs.Ranges.{AreIn, attribute_ranges}

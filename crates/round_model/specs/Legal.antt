@@ -1,5 +1,6 @@
 -- Legal and whole histories.
-use Rattle.std.specs.Prelude.{◌≡◌, ℕ, ◌+◌, ◌<◌, ◌==◌, nat_lt, Bool, ◌&&◌, ◌||◌, not, List, take, count_by, IsTrue, IsFalse}
+use Rattle.std.specs.Prelude.{◌≡◌, ℕ, ◌+◌, ◌<◌, ◌==◌, nat_lt, Bool, ◌&&◌, ◌||◌, not, List, take, count_by, IsTrue}
+use Rattle.std.specs.Prelude.{IsFalse}
 use Rattle.std.specs.List.{list_all, list_any}
 use mathlib.Core.Option.{some}
 use lib.ListN.{get_elem?}

@@ -1,5 +1,6 @@
 -- What a core needs to know of a history, so that it can tell whether its next entry is legal.
-use Rattle.std.specs.Prelude.{◌≡◌, ℕ, ◌<◌, ◌==◌, nat_lt, Bool, ◌&&◌, cond, List, length, slice_index, Option, Some, None, IfSome, ◌↔◌}
+use Rattle.std.specs.Prelude.{◌≡◌, ℕ, ◌<◌, ◌==◌, nat_lt, Bool, ◌&&◌, cond, List, length, slice_index, Option, Some}
+use Rattle.std.specs.Prelude.{None, IfSome, ◌↔◌}
 use Rattle.policy_tree.specs.Meaning.{Meaning}
 use Rattle.round_model.specs.declared.entry.Entry.{Entry}
 use Rattle.round_model.specs.declared.plan.Plan.{Plan}

@@ -1,5 +1,6 @@
 -- The programs of threads: what a unit leads to, and how a thread begins.
-use Rattle.std.specs.Prelude.{ℕ, ◌+◌, ◌-◌, ◌==◌, nat_le, ℤ, pos, Bool, true, false, not, ◌&&◌, cond, List, ◌++◌, map, length, replicate, find, slice_get, Option, option_and_then}
+use Rattle.std.specs.Prelude.{ℕ, ◌+◌, ◌-◌, ◌==◌, nat_le, ℤ, pos, Bool, true, false, not, ◌&&◌, cond, List, ◌++◌, map}
+use Rattle.std.specs.Prelude.{length, replicate, find, slice_get, Option, option_and_then}
 use Rattle.sched_base.specs.declared.limits.TheConstants.{MAX_ATTRIBUTES}
 use Rattle.sched_base.specs.declared.task.Place.{Place}
 use Rattle.sched_base.specs.declared.task.Task.{Task}

@@ -10,7 +10,8 @@ ghost use Rattle.policy_eval.specs.Resolved.{IsResolved};
 ghost use Rattle.policy_eval.specs.Sights.{core_values};
 ghost use Rattle.policy_eval.specs.Values.{value_of};
 ghost use Rattle.std.specs.List.{range_with_len};
-ghost use Rattle.round_model.specs.Choices.{choice_of, is_candidate as may_be_victim, IsSeenWidely, is_less, prefers as prefers_core, target_of, values_in};
+ghost use Rattle.round_model.specs.Choices.{choice_of, is_candidate as may_be_victim, IsSeenWidely, is_less};
+ghost use Rattle.round_model.specs.Choices.{prefers as prefers_core, target_of, values_in};
 
 use policy_eval::{CoreValues, Env, better, holds, value};
 use policy_tree::{Expr, PlaceRule, Policy};

@@ -70,8 +70,10 @@ pub enum Entry {
 }
 
 impl Entry {
-    ghost use Rattle.round_model.specs.Entries.{acting_core as core_that_acts, acts as acts_in, reads_of, touches as touches_core};
-    ghost use Rattle.round_model.specs.Kinds.{is_attempt as makes_attempt, is_round as begins_round, is_work as runs_unit};
+    ghost use Rattle.round_model.specs.Entries.{acting_core as core_that_acts, acts as acts_in, reads_of};
+    ghost use Rattle.round_model.specs.Entries.{touches as touches_core};
+    ghost use Rattle.round_model.specs.Kinds.{is_attempt as makes_attempt, is_round as begins_round};
+    ghost use Rattle.round_model.specs.Kinds.{is_work as runs_unit};
 
     /// The core that acts in the entry, `None` where a round begins.
     pub fn acting_core(&self) -> Option<CoreId>

@@ -3,7 +3,8 @@
 ghost use Rattle.round_model.specs.Between.{HasEndedLaw, SameCoreLaw};
 ghost use Rattle.round_model.specs.Bursts.{BurstsLaw};
 ghost use Rattle.round_model.specs.BoundsLaws.{BoundsLaw, OpenRoundLaw};
-ghost use Rattle.round_model.specs.Laws.{ActingLaw, ConstantsLaw, EnteringLaw, LegalGrows, OneMoreLaw, OpeningLaw, PrefixLaw, UntouchedLaw};
+ghost use Rattle.round_model.specs.Laws.{ActingLaw, ConstantsLaw, EnteringLaw, LegalGrows, OneMoreLaw, OpeningLaw};
+ghost use Rattle.round_model.specs.Laws.{PrefixLaw, UntouchedLaw};
 ghost use Rattle.round_model.specs.Local.{LocalLaw};
 ghost use Rattle.round_model.specs.OwedLaws.{NoneFallsDueLaw, OwedBoundLaw, OwedLaw};
 ghost use Rattle.round_model.specs.Room.{EntryBoundLaw, RoomSufficesLaw};

@@ -1,6 +1,7 @@
 //! How threads come to cores and leave them.
 
-ghost use Rattle.std.specs.Prelude.{◌≡◌, ◌<◌, ℕ, All, IsSome, OnErr, OnOk, Some, length, option_map, slice_get, slice_set};
+ghost use Rattle.std.specs.Prelude.{◌≡◌, ◌<◌, ℕ, All, IsSome, OnErr, OnOk, Some, length, option_map, slice_get};
+ghost use Rattle.std.specs.Prelude.{slice_set};
 ghost use Rattle.policy_tree.specs.Meaning.{Meaning, meaning_of};
 ghost use Rattle.policy_eval.specs.Fitting.{IsTask};
 ghost use Rattle.policy_eval.specs.Obligations.{MeetsHandlerObligations};
@@ -9,7 +10,8 @@ ghost use Rattle.round_model.specs.Bounds.{CoreInBounds};
 ghost use Rattle.round_model.specs.Cores.{Cores, listed};
 ghost use Rattle.round_model.specs.declared.state.ModelCore.{ModelCore};
 ghost use Rattle.round_model.specs.Code.Kept.{IsKept};
-ghost use Rattle.round_model.specs.Moves.{admitted, blocked_of, handed, is_blocked_task, is_task, queued_of, received, released, with_task};
+ghost use Rattle.round_model.specs.Moves.{admitted, blocked_of, handed, is_blocked_task, is_task, queued_of, received};
+ghost use Rattle.round_model.specs.Moves.{released, with_task};
 ghost use Rattle.round_model.specs.Code.Units.{IsSmallCore};
 ghost use Rattle.round_model.specs.Code.Updates.{IsFirstPlace, updated};
 

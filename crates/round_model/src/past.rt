@@ -1,6 +1,7 @@
 //! What has to be kept of a history to judge its next entry, and to add it.
 
-ghost use Rattle.std.specs.Prelude.{◌≡◌, ◌+◌, ◌&&◌, ◌<◌, ◌≤◌, ℕ, IfOk, List, [], false, length, nat_lt, not, slice_index_or};
+ghost use Rattle.std.specs.Prelude.{◌≡◌, ◌+◌, ◌&&◌, ◌<◌, ◌≤◌, ℕ, IfOk, List, [], false, length, nat_lt, not};
+ghost use Rattle.std.specs.Prelude.{slice_index_or};
 ghost use Rattle.policy_tree.specs.Meaning.{Meaning};
 ghost use Rattle.round_model.specs.declared.entry.Entry.{Entry};
 ghost use Rattle.round_model.specs.declared.plan.Planned.{Planned};

@@ -1,6 +1,7 @@
 //! What changes in a past as a round begins.
 
-ghost use Rattle.std.specs.Prelude.{◌≡◌, ◌+◌, ◌==◌, ◌<◌, ℕ, List, [], ◌∷◌, IfOk, Some, false, filter, length, map, replicate, slice_get};
+ghost use Rattle.std.specs.Prelude.{◌≡◌, ◌+◌, ◌==◌, ◌<◌, ℕ, List, [], ◌∷◌, IfOk, Some, false, filter, length, map};
+ghost use Rattle.std.specs.Prelude.{replicate, slice_get};
 ghost use Rattle.round_model.specs.declared.state.CountAndLoad.{CountAndLoad};
 ghost use Rattle.round_model.specs.declared.plan.Planned.{Planned};
 ghost use Rattle.round_model.specs.Code.Past.{arrival_of};

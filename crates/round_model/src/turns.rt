@@ -15,7 +15,8 @@ ghost use Rattle.round_model.specs.Code.Past.{IsPastOf, OfEach};
 ghost use Rattle.round_model.specs.Scenes.{has_attempted, own_entries};
 ghost use Rattle.round_model.specs.Code.Progress.{HasLetIn, OwesAttempt};
 ghost use Rattle.round_model.specs.Work.{worked};
-ghost use Rattle.round_model.specs.Code.Turns.{ActsBy, HasWoken, IsLateStepOf, IsStepOf, MayAdd, placement_by, step_of_dids};
+ghost use Rattle.round_model.specs.Code.Turns.{ActsBy, HasWoken, IsLateStepOf, IsStepOf, MayAdd, placement_by};
+ghost use Rattle.round_model.specs.Code.Turns.{step_of_dids};
 
 use crate::attempts::Attempt;
 use crate::entry::Entry;

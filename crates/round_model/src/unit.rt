@@ -10,7 +10,8 @@ ghost use Rattle.round_model.specs.Bounds.{CoreInBounds};
 ghost use Rattle.round_model.specs.Fits.{Fits};
 ghost use Rattle.round_model.specs.Code.Lists.{Lists};
 ghost use Rattle.round_model.specs.Code.UnitSteps.{IsIdleCore, IsMet, Runs};
-ghost use Rattle.round_model.specs.Code.Units.{HasTask, IsSmallCore, IsUnit, Stands, core_after_unit, dids_of_unit, with_listed, without};
+ghost use Rattle.round_model.specs.Code.Units.{HasTask, IsSmallCore, IsUnit, Stands, core_after_unit, dids_of_unit};
+ghost use Rattle.round_model.specs.Code.Units.{with_listed, without};
 
 use crate::directory::{Directory, next_burst_of};
 use crate::election::best_place;

@@ -1,6 +1,14 @@
 -- The numbers of the limits, said a second time, so that none is changed by a slip.
 use Rattle.std.specs.Prelude.{◌≡◌, ◌^◌, pos}
-use Rattle.sched_base.specs.declared.limits.TheConstants.{MAX_CORES, MAX_THREADS, MAX_WEIGHT, MAX_LOAD, MAX_ROUNDS, MAX_ENTRIES, DEFAULT_ENTRIES, MAX_BURSTS, MAX_UNITS, MAX_BLOCK_ROUNDS, MAX_ORDER_CORES, MAX_ATTRIBUTES, MAX_ATTRIBUTE, MAX_CASES, MAX_SETS, MAX_KEYS, MAX_COMPARISONS, MAX_OPERATORS, MAX_NESTING, MAX_COEFFICIENT, MAX_VARIABLES, MAX_SYSTEM_CASES, MAX_ROWS, MAX_END, MAX_ROW_COEFFICIENT, MAX_ROW_BOUND, MAX_SPLITS, CHECK_BUDGET, MAX_NAME_BYTES, MAX_DIGITS, MAX_POLICY_BYTES, MAX_TRACE_BYTES, MAX_HISTORY_BYTES}
+use Rattle.sched_base.specs.declared.limits.TheConstants.{MAX_CORES, MAX_THREADS, MAX_WEIGHT, MAX_LOAD, MAX_ROUNDS}
+use Rattle.sched_base.specs.declared.limits.TheConstants.{MAX_ENTRIES, DEFAULT_ENTRIES, MAX_BURSTS, MAX_UNITS}
+use Rattle.sched_base.specs.declared.limits.TheConstants.{MAX_BLOCK_ROUNDS, MAX_ORDER_CORES, MAX_ATTRIBUTES}
+use Rattle.sched_base.specs.declared.limits.TheConstants.{MAX_ATTRIBUTE, MAX_CASES, MAX_SETS, MAX_KEYS, MAX_COMPARISONS}
+use Rattle.sched_base.specs.declared.limits.TheConstants.{MAX_OPERATORS, MAX_NESTING, MAX_COEFFICIENT, MAX_VARIABLES}
+use Rattle.sched_base.specs.declared.limits.TheConstants.{MAX_SYSTEM_CASES, MAX_ROWS, MAX_END, MAX_ROW_COEFFICIENT}
+use Rattle.sched_base.specs.declared.limits.TheConstants.{MAX_ROW_BOUND, MAX_SPLITS, CHECK_BUDGET, MAX_NAME_BYTES}
+use Rattle.sched_base.specs.declared.limits.TheConstants.{MAX_DIGITS, MAX_POLICY_BYTES, MAX_TRACE_BYTES}
+use Rattle.sched_base.specs.declared.limits.TheConstants.{MAX_HISTORY_BYTES}
 
 -- each limit is this number
 pub record LimitsAreSaid : Type 0 where

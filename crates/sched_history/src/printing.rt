@@ -3,7 +3,8 @@
 ghost use Rattle.std.specs.Prelude.{◌≡◌, ◌+◌, ◌≤◌, [], ◌++◌, All, codes, length};
 ghost use Rattle.sched_io.specs.Puts.{Puts};
 ghost use Rattle.sched_history.specs.Ranges.{IsPrintable};
-ghost use Rattle.sched_history.specs.Spelling.{line_of_entry, lines_of_history, spaced, spaced_number, words_of_entry, words_of_work};
+ghost use Rattle.sched_history.specs.Spelling.{line_of_entry, lines_of_history, spaced, spaced_number, words_of_entry};
+ghost use Rattle.sched_history.specs.Spelling.{words_of_work};
 
 use round_model::{Did, Entry};
 use sched_base::{CoreId, Reads};

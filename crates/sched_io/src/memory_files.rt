@@ -1,10 +1,12 @@
 //! Files in memory.
 
-ghost use Rattle.std.specs.Prelude.{◌≡◌, ℕ, ◌<◌, ◌≤◌, ◌⊎◌, List, [], ◌∷◌, Contains, IfOk, IsErrOf, MatchOption, None, Some, length, map, min, ◌+◌, string_bytes, vec_len};
+ghost use Rattle.std.specs.Prelude.{◌≡◌, ℕ, ◌<◌, ◌≤◌, ◌⊎◌, List, [], ◌∷◌, Contains, IfOk, IsErrOf, MatchOption, None};
+ghost use Rattle.std.specs.Prelude.{Some, length, map, min, ◌+◌, string_bytes, vec_len};
 ghost use Rattle.sched_io.specs.Faults.{Rose};
 ghost use Rattle.sched_io.specs.InMemory.{told_among};
 ghost use Rattle.sched_io.specs.Loads.{AreRequested, load_request};
-ghost use Rattle.sched_io.specs.MemoryFiles.{told_by, faults_of, failing_of, loads_of, requested_of, request_in, requests_in};
+ghost use Rattle.sched_io.specs.MemoryFiles.{told_by, faults_of, failing_of, loads_of, requested_of, request_in};
+ghost use Rattle.sched_io.specs.MemoryFiles.{requests_in};
 ghost use Rattle.sched_io.specs.Told.{IfHolds, missing, holds};
 
 use crate::faults::LoadFault;

@@ -1,6 +1,7 @@
 //! A sink in memory, of which chosen puts fail.
 
-ghost use Rattle.std.specs.Prelude.{◌≡◌, ◌≢◌, ◌+◌, ◌<◌, ◌≤◌, ◌↔◌, [], ◌∷◌, None, Some, IfOk, MatchOption, map, vec_len, vec_capacity};
+ghost use Rattle.std.specs.Prelude.{◌≡◌, ◌≢◌, ◌+◌, ◌<◌, ◌≤◌, ◌↔◌, [], ◌∷◌, None, Some, IfOk, MatchOption, map, vec_len};
+ghost use Rattle.std.specs.Prelude.{vec_capacity};
 ghost use Rattle.sched_io.specs.InMemory.{pieces_in};
 ghost use Rattle.sched_io.specs.Written.{Grows};
 

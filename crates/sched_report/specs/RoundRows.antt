@@ -1,5 +1,6 @@
 -- A row for each round of a history.
-use Rattle.std.specs.Prelude.{ℕ, ◌==◌, nat_lt, nat_le, ◌&&◌, Bool, cond, List, Option, None, Some, count_by, filter_map, take}
+use Rattle.std.specs.Prelude.{ℕ, ◌==◌, nat_lt, nat_le, ◌&&◌, Bool, cond, List, Option, None, Some, count_by, filter_map}
+use Rattle.std.specs.Prelude.{take}
 use Rattle.std.specs.List.{enumerate_from, list_any}
 use Rattle.policy_tree.specs.Meaning.{Meaning}
 use Rattle.round_model.specs.declared.entry.Entry.{Entry}

@@ -6,7 +6,8 @@ ghost use Rattle.sched_base.specs.declared.limits.TheConstants.{MAX_ENTRIES};
 ghost use Rattle.round_model.specs.declared.entry.Entry.{Entry};
 ghost use Rattle.round_model.specs.declared.plan.Plan.{Plan};
 ghost use Rattle.round_model.specs.Code.Past.{IsKeptPosition, IsWindow, StandsFor};
-ghost use Rattle.sched_report.specs.Code.Causes.{AddsFail, AreKept, Causes, Changes, IsFailAfter, IsFailTold, IsFirstCause, MayBeTold};
+ghost use Rattle.sched_report.specs.Code.Causes.{AddsFail, AreKept, Causes, Changes, IsFailAfter, IsFailTold};
+ghost use Rattle.sched_report.specs.Code.Causes.{IsFirstCause, MayBeTold};
 
 use crate::rows::{FailRow, FailRows};
 use round_model::state::CountAndLoad;

@@ -1,6 +1,7 @@
 //! What is told of a round as it opens.
 
-ghost use Rattle.std.specs.Prelude.{◌≡◌, ◌==◌, ◌+◌, ◌<◌, ◌≤◌, ◌++◌, nat_le, All, IfOk, List, count_by, length, map, option_to_list, take};
+ghost use Rattle.std.specs.Prelude.{◌≡◌, ◌==◌, ◌+◌, ◌<◌, ◌≤◌, ◌++◌, nat_le, All, IfOk, List, count_by, length, map};
+ghost use Rattle.std.specs.Prelude.{option_to_list, take};
 ghost use Rattle.std.specs.List.{list_any};
 ghost use Rattle.sched_base.specs.declared.limits.TheConstants.{MAX_ENTRIES, MAX_LOAD};
 ghost use Rattle.round_model.specs.declared.state.ModelCore.{ModelCore};

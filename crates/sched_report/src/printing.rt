@@ -3,7 +3,8 @@
 ghost use Rattle.std.specs.Prelude.{◌≡◌, ◌+◌, ◌*◌, ◌≤◌, ℕ, List, ◌++◌, decimal, length, map};
 ghost use Rattle.sched_io.specs.Puts.{Puts};
 ghost use Rattle.sched_report.specs.declared.printing.TheConstants.{WORD_ROOM};
-ghost use Rattle.sched_report.specs.Lines.{line_of_fail, line_of_round, line_of_still, line_of_total, report_lines, totals_lines};
+ghost use Rattle.sched_report.specs.Lines.{line_of_fail, line_of_round, line_of_still, line_of_total, report_lines};
+ghost use Rattle.sched_report.specs.Lines.{totals_lines};
 
 use crate::rows::{FailRow, FullReport, RoundRow, StillRow, Totals};
 use sched_io::{LINE_ROOM, Line, NUMBER_ROOM, PutFault, Sink, put_all};

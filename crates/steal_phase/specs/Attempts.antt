@@ -1,5 +1,6 @@
 -- The attempt of a core: what it needs, and what comes of it.
-use Rattle.std.specs.Prelude.{◌≡◌, ◌↔◌, ℕ, ◌⊎◌, true, List, [], ◌∷◌, ◌++◌, map, length, IsTrue, IsFalse, IsSomeAnd, Option, Some, None}
+use Rattle.std.specs.Prelude.{◌≡◌, ◌↔◌, ℕ, ◌⊎◌, true, List, [], ◌∷◌, ◌++◌, map, length, IsTrue, IsFalse, IsSomeAnd}
+use Rattle.std.specs.Prelude.{Option, Some, None}
 use Rattle.policy_tree.specs.Meaning.{Meaning}
 use Rattle.policy_eval.specs.Sights.{pair_values}
 use Rattle.policy_eval.specs.Values.{holds}

@@ -1,5 +1,6 @@
 -- The made trace.
-use Rattle.std.specs.Prelude.{◌≡◌, ℕ, zero, suc, ◌+◌, ◌/◌, ◌%◌, ◌==◌, List, [], ◌∷◌, ◌++◌, Result, Ok, Err, nat_lt, ◌||◌, if◌then◌else◌}
+use Rattle.std.specs.Prelude.{◌≡◌, ℕ, zero, suc, ◌+◌, ◌/◌, ◌%◌, ◌==◌, List, [], ◌∷◌, ◌++◌, Result, Ok, Err, nat_lt}
+use Rattle.std.specs.Prelude.{◌||◌, if◌then◌else◌}
 use Rattle.sched_base.specs.declared.limits.TheConstants.{MAX_CORES, MAX_ENTRIES, MAX_THREADS}
 use Rattle.round_model.specs.declared.plan.Burst.{Burst}
 use Rattle.round_model.specs.declared.plan.Ending.TheVariants as ending

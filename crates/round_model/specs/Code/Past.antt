@@ -1,5 +1,6 @@
 -- What a past tells of a history.
-use Rattle.std.specs.Prelude.{◌≡◌, ℕ, ◌+◌, ◌==◌, nat_lt, ◌<◌, ◌≤◌, Bool, false, List, [], filter, length, map, sum_by, count_by, All, slice_index_or}
+use Rattle.std.specs.Prelude.{◌≡◌, ℕ, ◌+◌, ◌==◌, nat_lt, ◌<◌, ◌≤◌, Bool, false, List, [], filter, length, map, sum_by}
+use Rattle.std.specs.Prelude.{count_by, All, slice_index_or}
 use Rattle.sched_base.specs.declared.limits.TheConstants.{MAX_ENTRIES, MAX_THREADS}
 use Rattle.policy_tree.specs.Meaning.{Meaning}
 use Rattle.policy_eval.specs.Fitting.{IsWeight, LoadsFit}

@@ -1,5 +1,6 @@
 -- One core of a state changed, and the first item of a list that passes.
-use Rattle.std.specs.Prelude.{◌≡◌, ℕ, ◌<◌, ◌==◌, Bool, cond, List, length, find, remove, slice_get, Option, None, MatchOption}
+use Rattle.std.specs.Prelude.{◌≡◌, ℕ, ◌<◌, ◌==◌, Bool, cond, List, length, find, remove, slice_get, Option, None}
+use Rattle.std.specs.Prelude.{MatchOption}
 use Rattle.round_model.specs.declared.state.ModelCore.{ModelCore}
 use Rattle.round_model.specs.Cores.{Cores}
 use Rattle.round_model.specs.Moves.{without_first}

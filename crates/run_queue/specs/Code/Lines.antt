@@ -1,5 +1,6 @@
 -- How a line of tasks lies in a pool: each of its nodes is linked to the next. No clause of a queue speaks of it.
-use Rattle.std.specs.Prelude.{◌≡◌, ◌≢◌, ℕ, zero, suc, ◌+◌, ◌<◌, ◌^◌, List, [], ◌∷◌, length, map, Option, Some, None, option_map, unwrap_or, slice_get}
+use Rattle.std.specs.Prelude.{◌≡◌, ◌≢◌, ℕ, zero, suc, ◌+◌, ◌<◌, ◌^◌, List, [], ◌∷◌, length, map, Option, Some, None}
+use Rattle.std.specs.Prelude.{option_map, unwrap_or, slice_get}
 use Rattle.sched_base.specs.declared.task.Task.{Task}
 use Rattle.node_pool.specs.declared.Held.{Held}
 use Rattle.node_pool.specs.Nodes.{Nodes, free_of, held_at, with_link}
