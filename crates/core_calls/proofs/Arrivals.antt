@@ -10,10 +10,7 @@ use Rattle.round_model.specs.declared.plan.Plan.{Plan}
 use Rattle.round_model.specs.declared.plan.Planned.{Planned}
 use Rattle.round_model.specs.Entries.{lets_in}
 use Rattle.round_model.specs.Scenes.{entering_next, is_entering}
-use Rattle.core_table.specs.declared.seat.Seat.{Seat}
-use Rattle.core_table.specs.declared.seat.Table.{Table}
 use Rattle.core_table.specs.declared.views.View.{View}
-use Rattle.core_table.specs.Public.{IsOf, view_of}
 use Rattle.core_table.specs.Told.{IsSeatOf}
 use Rattle.steal_phase.specs.Attempts.{HasAdded, own_entries_in}
 use Rattle.core_calls.specs.Code.Arrivals.{HasDrawn}
@@ -131,10 +128,9 @@ unfolding entering_next
 all_passed v a k passed all = find_none (is_entering v.round a (own_entries_in v)) v.plan.threads (λ j d low. passed.past j d (omega arith))
 
 -- how far the loop over the plan's threads has come
-pub record HasPassed (t : Table) (before : View) (s : Seat) (a k count : ℕ) : Type 0 where
-  pub of : IsOf t s
-  pub drawn : HasDrawn a count before (view_of s)
-  pub passed : ArePassed (view_of s) a k
+pub record HasPassed (before now : View) (a k count : ℕ) : Type 0 where
+  pub drawn : HasDrawn a count before now
+  pub passed : ArePassed now a k
 
 module _ (v : View) (a k : ℕ) (d : Planned) (inside : k < length v.plan.threads) (item : get_or v.plan.threads k d ≡ d) where
   same_item : (e : Planned) → get_or v.plan.threads k e ≡ d
@@ -154,21 +150,20 @@ module _ (v : View) (a k : ℕ) (d : Planned) (inside : k < length v.plan.thread
       never false = refl
 
 -- the thread entered
-pub passed_in : (t : Table) (before : View) (s : Seat) (a k count at : ℕ) (d : Planned) (now : Seat) → HasPassed t before s a k count → IsOf t now → Entered a d.id at (view_of s) (view_of now) → k < length (view_of s).plan.threads
-    → get_or (view_of s).plan.threads k d ≡ d → d.core ≡ a → d.round ≡ (view_of s).round → HasPassed t before now a (suc k) (count + 1)
-passed_in t before s a k count at d now was of entered inside item core round =
-    let v = view_of s in let e : Entry = entry.Enter d.id a entered.to entered.reads in
+pub passed_in : (before v now : View) (a k count at : ℕ) (d : Planned) → HasPassed before v a k count → Entered a d.id at v now → k < length v.plan.threads
+    → get_or v.plan.threads k d ≡ d → d.core ≡ a → d.round ≡ v.round → HasPassed before now a (suc k) (count + 1)
+passed_in before v now a k count at d was entered inside item core round =
+    let e : Entry = entry.Enter d.id a entered.to entered.reads in
     record {
-      of = of;
-      drawn = drawn_more a count at e before v (view_of now) was.drawn entered.adds refl refl (λ id. refl);
-      passed = pass_in v a k was.passed inside (here_by v a k d inside item core round) at entered.to entered.reads (view_of now) d
-          (subst (λ (id : ℕ). HasAdded a at (entry.Enter id a entered.to entered.reads) v (view_of now)) (ap (λ (x : Planned). x.id) (sym item)) entered.adds.added) entered.adds.next.agrees.fits.distinct;
+      drawn = drawn_more a count at e before v now was.drawn entered.adds refl refl (λ id. refl);
+      passed = pass_in v a k was.passed inside (here_by v a k d inside item core round) at entered.to entered.reads now d
+          (subst (λ (id : ℕ). HasAdded a at (entry.Enter id a entered.to entered.reads) v now) (ap (λ (x : Planned). x.id) (sym item)) entered.adds.added) entered.adds.next.agrees.fits.distinct;
     }
 
 -- or didn't
-pub passed_by : (t : Table) (before : View) (s : Seat) (a k count : ℕ) → HasPassed t before s a k count → k < length (view_of s).plan.threads
-    → ((e : Planned) → (eqb (get_or (view_of s).plan.threads k e).core a && eqb (get_or (view_of s).plan.threads k e).round (view_of s).round) ≡ false) → HasPassed t before s a (suc k) count
-passed_by t before s a k count was inside other = record { of = was.of; drawn = was.drawn; passed = pass_over (view_of s) a k was.passed inside other }
+pub passed_by : (before v : View) (a k count : ℕ) → HasPassed before v a k count → k < length v.plan.threads
+    → ((e : Planned) → (eqb (get_or v.plan.threads k e).core a && eqb (get_or v.plan.threads k e).round v.round) ≡ false) → HasPassed before v a (suc k) count
+passed_by before v a k count was inside other = record { drawn = was.drawn; passed = pass_over v a k was.passed inside other }
 
 -- the thread may enter
 pub may_enter_here : (v : View) (a k : ℕ) (d : Planned) → IsSeatOf v a → v.held ≡ [] → ArePassed v a k → k < length v.plan.threads → get_or v.plan.threads k d ≡ d → d.core ≡ a → d.round ≡ v.round → MayEnter v a d.id

@@ -1,5 +1,5 @@
 -- What a step leaves to its seat, and what its draw tells.
-use Rattle.std.proofs.Common.{◌≡◌, ℕ, ◌+◌, ◌<◌, true, List, [], ◌∷◌, ◌++◌, length, MatchOption, Option, Some, None, refl, sym, ap, ◌∙◌, subst}
+use Rattle.std.proofs.Common.{◌≡◌, ℕ, suc, ◌+◌, ◌<◌, ◌≤◌, true, List, [], ◌∷◌, ◌++◌, length, slice_index, MatchOption, Option, Some, None, refl, sym, ap, ◌∙◌, subst}
 use Rattle.std.proofs.lemmas.List.{append_assoc}
 use Rattle.policy_tree.specs.Meaning.{Meaning}
 use Rattle.round_model.specs.declared.entry.Entry.{Entry}
@@ -13,15 +13,16 @@ use Rattle.core_table.specs.declared.views.Role.TheVariants as role
 use Rattle.core_table.specs.declared.views.View.{View}
 use Rattle.core_table.specs.Plays.{Draws}
 use Rattle.core_table.specs.Public.{publishing}
-use Rattle.core_table.specs.Told.{Agrees, IsSeatOf, IsTrueRole}
+use Rattle.core_table.specs.Told.{Agrees, Each, IsSeatOf, IsTrueRole}
 use Rattle.core_table.specs.Views.{giving, holding, meaning_in, note_of_core}
 use Rattle.core_table.proofs.Positions.{above}
-use Rattle.select_phase.specs.Seen.{HasMoreNotes}
+use Rattle.select_phase.specs.Seen.{AreLate, HasMoreNotes}
 use Rattle.select_phase.proofs.Reading.{behind}
 use Rattle.select_phase.proofs.Viewed.{notes_held}
 use Rattle.steal_phase.proofs.Added.{added_one, added_two}
 use Rattle.steal_phase.proofs.Drawn.{agrees_before}
 use Rattle.core_calls.specs.Code.Finishes.{Finished, Glimpsed}
+use Rattle.core_calls.specs.Code.Wakes.{WokenBy}
 use Rattle.core_calls.specs.Steps.{Adds, HasLetAllIn, HasNoneDue, IsNext, MayWake, Woken}
 
 -- what a seat knew before it held a core
@@ -134,12 +135,27 @@ noted_only a v w of_core free more =
     }
 
 -- so a thread woke, or none was due, seen from before
-pub woken_behind : (a : ℕ) (v w : View) → Glimpsed a v w → IsSeatOf v a → (result : Option ℕ) (now : View) → MatchOption result (HasNoneDue a w now) (λ at. Woken a at w now)
-    → MatchOption result (HasNoneDue a v now) (λ at. Woken a at v now)
-woken_behind a v w g of_core None now none = none_behind a v w g of_core now none
-woken_behind a v w g of_core (Some at) now woke = record {
+pub woke_behind : (a : ℕ) (reads : List ℕ) (v w : View) → Glimpsed a v w → IsSeatOf v a → (result : Option ℕ) (now : View) → MatchOption result (HasNoneDue a w now) (λ at. WokenBy a reads at w now)
+    → MatchOption result (HasNoneDue a v now) (λ at. WokenBy a reads at v now)
+woke_behind a reads v w g of_core None now none = none_behind a v w g of_core now none
+woke_behind a reads v w g of_core (Some at) now woke = record {
   thread = woke.thread;
   to = woke.to;
-  reads = woke.reads;
-  adds = adds_behind a v w g of_core at (entry.Wake woke.thread a woke.to woke.reads) now woke.adds;
+  adds = adds_behind a v w g of_core at (entry.Wake woke.thread a woke.to reads) now woke.adds;
 }
+
+-- and the reads were made for it
+pub woke_late : (a : ℕ) (reads : List ℕ) (v : View) → AreLate v reads → (result : Option ℕ) (now : View) → MatchOption result (HasNoneDue a v now) (λ at. WokenBy a reads at v now)
+    → MatchOption result (HasNoneDue a v now) (λ at. Woken a at v now)
+woke_late a reads v late None now none = none
+woke_late a reads v late (Some at) now woke = record { thread = woke.thread; to = woke.to; reads = reads; late = late; adds = woke.adds }
+
+each_behind : {X : Type 0} (P : X → Type 0) (xs ys : List X) → Each P (xs ++ ys) → Each P ys
+each_behind P [] ys all = all
+each_behind P (x ∷ xs) ys all = each_behind P xs ys (λ i y there. all (suc i) y there)
+
+-- what is no earlier than is known of a core now is none earlier than was known before
+pub late_behind : (a : ℕ) (reads : List ℕ) (v w : View) → Glimpsed a v w → AreLate w reads → AreLate v reads
+late_behind a reads v w g late =
+    each_behind (λ x. x.core < length reads → x.at ≤ slice_index reads x.core) g.more v.notes
+    (subst (Each (λ x. x.core < length reads → x.at ≤ slice_index reads x.core)) (ap (λ (x : View). x.notes) g.rest) late)

@@ -1,5 +1,5 @@
 -- The end of a turn, by what its steps left.
-use Rattle.std.proofs.Common.{◌≡◌, ℕ, ◌+◌, ◌||◌, Bool, true, false, length, refl, sym, ap, ◌∙◌, subst, arith}
+use Rattle.std.proofs.Common.{◌≡◌, ℕ, ◌+◌, ◌||◌, IsFalse, IsTrue, Bool, true, false, length, refl, sym, ap, ◌∙◌, subst, arith}
 use Rattle.std.specs.List.{list_any}
 use Rattle.round_model.specs.declared.entry.Did.{Did}
 use Rattle.round_model.specs.declared.entry.Entry.TheVariants as entry
@@ -8,16 +8,18 @@ use Rattle.round_model.specs.Kinds.{is_attempt, is_work}
 use Rattle.round_model.specs.Scenes.{has_attempted, has_worked}
 use Rattle.core_table.specs.declared.views.Role.TheVariants as role
 use Rattle.core_table.specs.declared.views.View.{View}
+use Rattle.core_table.specs.Told.{IsSeatOf}
 use Rattle.select_phase.specs.declared.looks.Look.{Look}
 use Rattle.select_phase.specs.Seen.{HasMoreNotes}
 use Rattle.steal_phase.specs.declared.outcome.Outcome.{Outcome}
 use Rattle.steal_phase.specs.declared.outcome.Outcome.TheVariants as outcome
-use Rattle.steal_phase.specs.Attempts.{HasAdded, entry_of, own_entries_in, position_of}
+use Rattle.steal_phase.specs.Attempts.{HasAdded, MayAttempt, entry_of, own_entries_in, position_of}
 use Rattle.core_calls.specs.declared.turned.Turned.{Turned}
+use Rattle.core_calls.specs.Calls.{LooksAt, MayLook}
 use Rattle.core_calls.specs.Code.Arrivals.{HasDrawn}
 use Rattle.core_calls.specs.Steps.{HasLetAllIn, Worked}
 use Rattle.core_calls.specs.Turns.{HasTurned, is_told}
-use Rattle.core_calls.proofs.Turning.{any_more, count_more, let_in_still, over_by}
+use Rattle.core_calls.proofs.Turning.{any_more, core_is, count_more, let_in_still, over_by}
 
 -- an attempt is no other kind of entry
 module _ (look : Look) where
@@ -58,6 +60,23 @@ module _ (a n : ℕ) (v w x : View) (s : HasDrawn a n v w) (did : Did) (work : W
 
   who_ended : (id : ℕ) → list_any (ends id) (own_entries_in x) ≡ is_ended id did
   who_ended id = any_more (ends id) a work.at (entry.Work a did) w x work.adds.added ∙ ap (λ b. b || is_ended id did) (s.none_ended id)
+
+  -- so the core may look
+  pub may_look : MayLook x
+  may_look = record { of_core = subst (IsSeatOf x) (sym (core_is x a work.adds.added.of_core)) work.adds.added.of_core; worked = has_run; free = work.adds.added.free }
+
+  -- and by its look it may make its attempt
+  pub may_attempt : (y : View) (look : Look) → LooksAt look x y → MayAttempt y look
+  may_attempt y look l = record {
+    of_core = let own = work.adds.added.of_core in record {
+      none_due = own.none_due;
+      role = ap (λ (u : View). u.role) l.read.is ∙ (own.role ∙ ap (λ k. role.Core k own.none_due) (sym (l.by ∙ core_is x a own)));
+    };
+    worked = subst (λ (u : View). IsTrue (has_worked (own_entries_in u))) (sym l.read.is) has_run;
+    first = subst (λ (u : View). IsFalse (has_attempted (own_entries_in u))) (sym l.read.is) none_tried;
+    free = ap (λ (u : View). u.held) l.read.is ∙ work.adds.added.free;
+    looked = l.looked;
+  }
 
   -- the look read, and the attempt was drawn
   module _ (start y z : View) (first : ℕ) (begun : HasDrawn a first start v) (entered : HasLetAllIn w a) (marked : w.role ≡ role.Core a true) (seen : HasMoreNotes x y) (look : Look) (by : look.by ≡ a) (o : Outcome)

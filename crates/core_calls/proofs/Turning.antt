@@ -1,5 +1,5 @@
 -- What a turn's seat knows of its own entries, step by step.
-use Rattle.std.proofs.Common.{◌≡◌, ℕ, ◌+◌, ◌<◌, eqb, ◌||◌, ◌&&◌, not, Bool, true, false, cond, List, [], ◌∷◌, ◌++◌, drop, map, find, length, IsNone, Option, Some, None, refl, sym, ap, ◌∙◌, subst, arith}
+use Rattle.std.proofs.Common.{◌≡◌, ℕ, ◌+◌, ◌<◌, eqb, ◌||◌, ◌&&◌, not, Bool, true, false, cond, List, [], ◌∷◌, ◌++◌, drop, map, find, length, is_some, IsNone, MatchOption, Option, Some, None, refl, sym, ap, ◌∙◌, subst, arith}
 use Rattle.std.specs.List.{list_any}
 use Rattle.std.proofs.lemmas.List.{length-drop, length_push, map-append}
 use Rattle.std.proofs.lemmas.List.Folds.{list_any-append}
@@ -21,9 +21,14 @@ use Rattle.core_table.specs.Told.{IsSeatOf, IsTrueRole}
 use Rattle.core_table.specs.Views.{meaning_in}
 use Rattle.core_table.proofs.Histories.{log_short, own_is}
 use Rattle.steal_phase.specs.Attempts.{HasAdded, own_entries_in}
+use Rattle.core_calls.specs.Calls.{core_by, core_in}
 use Rattle.core_calls.specs.Code.Arrivals.{HasDrawn}
-use Rattle.core_calls.specs.Steps.{Adds, HasLetAllIn, HasNoneDue}
+use Rattle.core_calls.specs.Steps.{Adds, HasLetAllIn, HasNoneDue, Woken}
 use Rattle.core_calls.specs.Turns.{IsFresh, IsOver}
+
+-- the core of a core's seat
+pub core_is : (v : View) (a : ℕ) → IsSeatOf v a → core_in v ≡ a
+core_is v a of_core = ap core_by of_core.role
 
 -- the seat's own entries, once one more was drawn
 pub own_more : (a at : ℕ) (e : Entry) (v w : View) → HasAdded a at e v w → own_entries_in w ≡ own_entries_in v ++ e ∷ []
@@ -94,6 +99,15 @@ drawn_same a n v w x s none =
       rest = none.rest ∙ ((λ i. record w { role = x.role; own = sym own i; notes = sym (ap (λ (u : View). u.notes) none.rest) i; held = sym (ap (λ (u : View). u.held) none.rest) i })
           ∙ ap (λ (u : View). record u { role = x.role; own = x.own; notes = x.notes; held = x.held }) s.rest);
     }
+
+-- a thread woke, or none was due
+pub some_woke : (a : ℕ) (w x : View) (result : Option ℕ) → MatchOption result (HasNoneDue a w x) (λ at. Woken a at w x) → is_some result ≡ true → (at : ℕ) × Woken a at w x
+some_woke a w x None next some = absurd (cc)
+some_woke a w x (Some at) next some = (at, next)
+
+pub none_woke : (a : ℕ) (w x : View) (result : Option ℕ) → MatchOption result (HasNoneDue a w x) (λ at. Woken a at w x) → is_some result ≡ false → HasNoneDue a w x
+none_woke a w x None next none = next
+none_woke a w x (Some at) next none = absurd (cc)
 
 -- who is to enter next depends on who has
 entering_same : (plan : Plan) (round a : ℕ) (own now : List Entry) → ((id : ℕ) → list_any (lets_in id) now ≡ list_any (lets_in id) own) → entering_next plan round a now ≡ entering_next plan round a own

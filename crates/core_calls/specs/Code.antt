@@ -1,3 +1,4 @@
 pub mod Arrivals
 pub mod Finishes
 pub mod Sends
+pub mod Wakes

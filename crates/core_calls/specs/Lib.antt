@@ -1,4 +1,5 @@
 pub mod Actors
+pub mod Calls
 pub mod Code
 pub mod Steps
 pub mod Turns

@@ -12,6 +12,7 @@ use Rattle.core_table.specs.declared.views.View.{View}
 use Rattle.core_table.specs.Above.{IsAbove}
 use Rattle.core_table.specs.Told.{Agrees, IsSeatOf}
 use Rattle.core_table.specs.Views.{meaning_in}
+use Rattle.select_phase.specs.Seen.{AreLate}
 use Rattle.steal_phase.specs.Attempts.{HasAdded, own_entries_in}
 
 -- no thread is left that the core is to let in
@@ -50,17 +51,19 @@ pub record Adds (core at : ℕ) (e : Entry) (before now : View) : Type 0 where
   pub added : HasAdded core at e before now
   pub next : IsNext at e before
 
--- the thread entered by the core, and was placed by these reads
+-- the thread entered by the core, and was placed by these reads, none earlier than it knew its core
 pub record Entered (core thread at : ℕ) (before now : View) : Type 0 where
   pub to : ℕ
   pub reads : List ℕ
+  pub late : AreLate before reads
   pub adds : Adds core at (entry.Enter thread core to reads) before now
 
--- a thread of the core woke, and was placed by these reads
+-- a thread of the core woke, and was placed by these reads, none earlier than it knew its core
 pub record Woken (core at : ℕ) (before now : View) : Type 0 where
   pub thread : ℕ
   pub to : ℕ
   pub reads : List ℕ
+  pub late : AreLate before reads
   pub adds : Adds core at (entry.Wake thread core to reads) before now
 
 -- the core ran its unit, of which this is said

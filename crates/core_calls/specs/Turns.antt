@@ -6,16 +6,24 @@ use Rattle.round_model.specs.Entries.{ends}
 use Rattle.round_model.specs.Scenes.{has_attempted, scene_of}
 use Rattle.round_model.specs.TurnSteps.{over, turn_step_of}
 use Rattle.core_table.specs.declared.views.View.{View}
+use Rattle.core_table.specs.Public.{IsOf, view_of}
 use Rattle.core_table.specs.Told.{Agrees, IsSeatOf}
 use Rattle.core_table.specs.Views.{meaning_in}
 use Rattle.steal_phase.specs.Attempts.{own_entries_in}
+use Rattle.core_calls.specs.declared.seat_calls.SeatCalls.{SeatCalls}
 use Rattle.core_calls.specs.declared.turned.Turned.{Turned}
+use Rattle.core_calls.specs.Actors.{actor_of, core_of, seat_of, table_of}
 
 -- the seat of the core has drawn nothing in the round, and holds nothing
 pub record IsFresh (v : View) (core : ℕ) : Type 0 where
   pub of_core : IsSeatOf v core
   pub own : v.own ≡ []
   pub free : v.held ≡ []
+
+-- the seat is one of the table, and of the core
+pub record IsAtTable (calls : SeatCalls) : Type 0 where
+  pub of : IsOf (table_of (actor_of calls)) (seat_of calls)
+  pub of_core : IsSeatOf (view_of (seat_of calls)) (core_of (actor_of calls))
 
 -- whether this is the thread that is told
 abbrev pub is_told : ℕ → Option ℕ → Bool

@@ -7,7 +7,8 @@ ghost use Rattle.select_phase.specs.Seen.{Placed};
 ghost use Rattle.steal_phase.specs.Taking.{AreTwo};
 ghost use Rattle.core_calls.specs.Actors.{core_of, table_of};
 ghost use Rattle.core_calls.specs.Code.Sends.{Sends};
-ghost use Rattle.core_calls.specs.Steps.{HasNoneDue, MayWake, Woken};
+ghost use Rattle.core_calls.specs.Code.Wakes.{WokenBy};
+ghost use Rattle.core_calls.specs.Steps.{HasNoneDue, MayWake};
 
 use crate::actor::Actor;
 use core_table::{Held, HeldTwo, Seat};
@@ -32,7 +33,7 @@ impl Actor<'_> {
         requires placed { Placed (view_of seat.old) (core_of self.now) at reads }
         ensures seat { IsOf (table_of self.now) seat.new }
         ensures woken { MatchOption result (HasNoneDue (core_of self.now) (view_of seat.old) (view_of seat.new))
-            (λ at. Woken (core_of self.now) at (view_of seat.old) (view_of seat.new)) }
+            (λ at. WokenBy (core_of self.now) reads at (view_of seat.old) (view_of seat.new)) }
     {
         let mut held = self.table.hold_two(rt, seat, self.core, at);
         let Some(thread) = self.send_between(&mut held, round) else {

@@ -10,12 +10,18 @@ mod acting;
 pub mod actor;
 mod arriving;
 mod away;
+mod calling;
+pub mod calls;
 mod entering;
 mod finishing;
+pub mod seat_calls;
 pub mod turned;
 mod turns;
 mod waking;
 mod working;
 
 pub use crate::actor::Actor;
+pub use crate::calls::CoreCalls;
+pub use crate::seat_calls::SeatCalls;
 pub use crate::turned::Turned;
+pub use crate::turns::turn;

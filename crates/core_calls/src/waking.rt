@@ -6,6 +6,7 @@ ghost use Rattle.core_table.specs.Told.{IsSeatOf};
 ghost use Rattle.select_phase.specs.Seen.{Placed};
 ghost use Rattle.core_calls.specs.Actors.{core_of, table_of};
 ghost use Rattle.core_calls.specs.Code.Finishes.{Glimpsed};
+ghost use Rattle.core_calls.specs.Code.Wakes.{WokenBy};
 ghost use Rattle.core_calls.specs.Steps.{HasNoneDue, MayWake, Woken};
 
 use crate::actor::Actor;
@@ -62,7 +63,7 @@ impl Actor<'_> {
         requires placed { Placed (view_of seat.old) (core_of self.now) (core_of self.now) reads }
         ensures seat { IsOf (table_of self.now) seat.new }
         ensures woken { MatchOption result (HasNoneDue (core_of self.now) (view_of seat.old) (view_of seat.new))
-            (λ at. Woken (core_of self.now) at (view_of seat.old) (view_of seat.new)) }
+            (λ at. WokenBy (core_of self.now) reads at (view_of seat.old) (view_of seat.new)) }
     {
         let mut held = self.table.hold(rt, seat, self.core);
         let Some(thread) = held.state.due(round) else {

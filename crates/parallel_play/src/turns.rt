@@ -11,7 +11,7 @@ ghost use Rattle.parallel_play.specs.Tallies.{Adds};
 
 use crate::stage::Stage;
 use crate::sums::Tally;
-use core_calls::{Actor, Turned};
+use core_calls::{SeatCalls, Turned, turn};
 use core_table::Seat;
 use sched_base::CoreId;
 use sched_io::Gate;
@@ -19,24 +19,24 @@ use std::sync::Wait;
 use std::thread::{Threads, join};
 
 /// The turn of the core by its own seat, which is handed over and comes back.
-fn turn<R: Wait, G: Gate + Sync>(
+fn take_turn<R: Wait, G: Gate + Sync>(
     rt: &R,
     stage: &Stage<'_>,
     gate: &G,
-    mut seat: Seat,
+    seat: Seat,
     core: CoreId,
 ) -> (Seat, Turned)
     requires seat { IsOf (table_in stage.now) seat }
     requires fresh { IsFresh (view_of seat) core }
     requires core { core < (plan_of (table_in stage.now)).cores }
     requires round { stage.now.round ≡ (view_of seat).round }
-    requires gate { (c r : ℕ) → IsTrue (G.admits gate.now c r) }
+    requires gate { IsTrue (G.admits gate.now core stage.now.round) }
     ensures seat { IsOf (table_in stage.now) result.0 }
     ensures turned { HasTurned core result.1 (view_of seat) (view_of result.0) }
 {
-    let actor = Actor::new(stage.table, stage.policy, stage.plan, core);
-    let turned = actor.turn(rt, &mut seat, stage.round, gate);
-    (seat, turned)
+    let mut calls = SeatCalls::new(stage.table, seat, stage.policy, stage.plan, core);
+    let turned = turn(rt, &mut calls, stage.plan, core, stage.round, gate);
+    (calls.into_seat(), turned)
 }
 
 /// A seat for the core, and the opening seat without it.
@@ -85,7 +85,7 @@ pub(crate) fn play_from<R: Threads + Wait + Sync, G: Gate + Sync>(
     requires seat { IsOf (table_in stage.now) seat }
     requires idle { IdleFrom core (view_of seat) }
     requires round { stage.now.round ≡ (view_of seat).round }
-    requires gate { (c r : ℕ) → IsTrue (G.admits gate.now c r) }
+    requires gate { (c : ℕ) → IsTrue (G.admits gate.now c stage.now.round) }
     ensures seat { IsOf (table_in stage.now) result.0 }
     ensures played { Played core tally result.1 (view_of seat) (view_of result.0) }
 {
@@ -107,10 +107,10 @@ pub(crate) fn play_from<R: Threads + Wait + Sync, G: Gate + Sync>(
             requires { IsSync R.row × IsSync G.row × IsOf table.now own × IsFresh (view_of own) core
                 × (core < (plan_of table.now).cores) × (policy.now ≡ policy_of table.now)
                 × (plan.now ≡ plan_of table.now) × (round ≡ (view_of own).round)
-                × ((c r : ℕ) → IsTrue (G.admits gate.now c r)) }
+                × ((c : ℕ) → IsTrue (G.admits gate.now c round)) }
             ensures { IsOf table.entry.now result.0 × HasTurned core result.1 (view_of own) (view_of result.0) }
         {
-            turn(
+            take_turn(
                 rt,
                 &Stage {
                     table,
@@ -127,7 +127,7 @@ pub(crate) fn play_from<R: Threads + Wait + Sync, G: Gate + Sync>(
             requires { IsSync R.row × IsSync G.row × IsOf table.now left × IdleFrom next (view_of left)
                 × (policy.now ≡ policy_of table.now)
                 × (plan.now ≡ plan_of table.now) × (round ≡ (view_of left).round)
-                × ((c r : ℕ) → IsTrue (G.admits gate.now c r)) }
+                × ((c : ℕ) → IsTrue (G.admits gate.now c round)) }
             ensures { IsOf table.entry.now result.0
                 × Played next tally result.1 (view_of left) (view_of result.0) }
         {
@@ -161,7 +161,7 @@ pub(crate) fn play_round<R: Threads + Wait + Sync, G: Gate + Sync>(
     requires back { HasAllBack (view_of seat) }
     requires free { (view_of seat).held ≡ [] }
     requires may { MayBeginRound (view_of seat) stage.now.round }
-    requires gate { (c r : ℕ) → IsTrue (G.admits gate.now c r) }
+    requires gate { (c : ℕ) → IsTrue (G.admits gate.now c stage.now.round) }
     ensures seat { IsOf (table_in stage.now) result.0 }
     ensures played { BeganAndPlayed stage.now.round tally result.1 (view_of seat) (view_of result.0) }
 {

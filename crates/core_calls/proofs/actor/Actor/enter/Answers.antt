@@ -108,6 +108,7 @@ returns-clause-entered g c =
     record {
       to = at;
       reads = reads;
+      late = c.place-at.ensures.late;
       adds = adds_behind self.core v w seen may.of_core c.finish.result (entry.Enter thread self.core at reads) (view_of c.finish.new.seat)
           (adds_one w self.core c.finish.result (entry.Enter thread self.core at reads) seen.of_core seen.free at y low
           (view_of c.hold-held.new.seat) (view_of c.finish.new.seat) e.view c.hold-held.result.core c.finish.ensures.finished);

@@ -81,7 +81,6 @@ returns-clause-woken g c =
     record {
       thread = thread;
       to = at;
-      reads = reads;
       adds = adds_two v self.core c.draw_two-position.result (entry.Wake thread self.core at reads) may.of_core may.free (min self.core at) (max self.core at) held.low.state held.high.state (omega arith) (omega arith)
           last.low.core last.high.core last.low.state last.high.state (view_of c.hold_two-held.new.seat) (view_of c.draw_two-position.new.seat) (view_of c.publish_two.new.seat) (view_of c.release_two-2.new.seat)
           e.held.view c.draw_two-position.ensures.drawn c.publish_two.ensures.seen.view c.release_two-2.ensures.home.view c.release_two-2.ensures.free;

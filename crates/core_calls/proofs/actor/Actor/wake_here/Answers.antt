@@ -92,7 +92,6 @@ returns-clause-woken g c =
     record {
       thread = thread;
       to = self.core;
-      reads = c.args.reads;
       adds = adds_one v self.core c.finish.result (entry.Wake thread self.core self.core c.args.reads) may.of_core may.free self.core y low
           (view_of c.hold-held.new.seat) (view_of c.finish.new.seat) e.view c.hold-held.result.core c.finish.ensures.finished;
     }

@@ -1,0 +1,38 @@
+-- The calls of a core in its turn: what each needs that no other file says, and what comes of it.
+use Rattle.std.specs.Prelude.{◌≡◌, ℕ, [], IsTrue}
+use Rattle.round_model.specs.Scenes.{has_worked}
+use Rattle.core_table.specs.declared.views.Role.{Role}
+use Rattle.core_table.specs.declared.views.Role.TheVariants as role
+use Rattle.core_table.specs.declared.views.View.{View}
+use Rattle.core_table.specs.Told.{IsSeatOf}
+use Rattle.select_phase.specs.declared.looks.Look.{Look}
+use Rattle.select_phase.specs.Seen.{AreLate, HasMoreNotes, Looked}
+use Rattle.steal_phase.specs.declared.outcome.Outcome.{Outcome}
+use Rattle.steal_phase.specs.Attempts.{Attempted, HasAdded, entry_of, own_entries_in, position_of}
+
+-- the core that knows this. What is no core's is of no account
+abbrev pub core_by : Role → ℕ
+core_by (role.Opening merged turns) = 0
+core_by (role.Core core none_due) = core
+core_by role.Spent = 0
+
+abbrev pub core_in : View → ℕ
+core_in v = core_by v.role
+
+-- the core may look at all cores: it has run its unit, and holds nothing
+pub record MayLook (v : View) : Type 0 where
+  pub of_core : IsSeatOf v (core_in v)
+  pub worked : IsTrue (has_worked (own_entries_in v))
+  pub free : v.held ≡ []
+
+-- the core looked: it read each core once, none earlier than it knew it before, and chose by that. It did nothing else
+pub record LooksAt (look : Look) (before now : View) : Type 0 where
+  pub by : look.by ≡ core_in before
+  pub looked : Looked now look
+  pub late : AreLate before look.reads
+  pub read : HasMoreNotes before now
+
+-- the core made its attempt by the look, and it came to this
+pub record Tries (look : Look) (outcome : Outcome) (before now : View) : Type 0 where
+  pub added : HasAdded look.by (position_of outcome) (entry_of look outcome) before now
+  pub attempted : Attempted look outcome before
