@@ -1,6 +1,7 @@
 pub mod Dealing
 pub mod Fitting
 pub mod Joined
+pub mod Judged
 pub mod Letting
 pub mod Moments
 pub mod Orders

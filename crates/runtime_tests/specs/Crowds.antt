@@ -22,7 +22,8 @@ pub record IsMember (cores number : ℕ) (t : Planned) : Type 0 where
 
 -- the threads are numbered by their places, from 1
 abbrev pub AreMembers : ℕ → List Planned → Type 0
-AreMembers cores threads = (k : ℕ) (d : Planned) → k < length threads → IsMember cores (k + 1) (slice_index_or threads k d)
+AreMembers cores threads = (k : ℕ) (d : Planned) → k < length threads →
+    IsMember cores (k + 1) (slice_index_or threads k d)
 
 -- a plan of one round, a few cores and a few such threads
 pub record IsCrowd (plan : Plan) : Type 0 where

@@ -1,6 +1,6 @@
 -- A table as it is played: its opening seat as it deals the cores' seats and takes them back, and a core's turn.
 use Rattle.std.specs.Prelude.{◌≡◌, ◌==◌, ◌&&◌, ℕ, ◌+◌, ◌<◌, ◌≤◌, Bool, true, false, List, [], length, IsFalse, IsTrue}
-use Rattle.std.specs.Prelude.{slice_index_or}
+use Rattle.std.specs.Prelude.{◌↔◌, slice_index_or}
 use Rattle.std.specs.List.{list_any}
 use mathlib.Core.Option.{some}
 use lib.ListN.{get_elem?}
@@ -61,7 +61,12 @@ lets core t = (t.core == core) && (t.round == 1)
 
 -- it is to let in none of these threads from the one place to the other
 abbrev pub LetsNone : ℕ → List Planned → (from to : ℕ) → Type 0
-LetsNone core threads from to = (k : ℕ) (d : Planned) → from ≤ k → k < to → k < length threads → IsFalse (lets core (slice_index_or threads k d))
+LetsNone core threads from to = (k : ℕ) (d : Planned) → from ≤ k → k < to → k < length threads →
+    IsFalse (lets core (slice_index_or threads k d))
+
+-- the answer is yes exactly where that holds
+abbrev pub IsWhether : Type 0 → Bool → Type 0
+IsWhether P answer = IsTrue answer ↔ P
 
 -- the next that it is to let in stands at that place
 pub record LetsNext (core : ℕ) (threads : List Planned) (from at : ℕ) : Type 0 where

@@ -1,10 +1,14 @@
 //! A table as it is played: the cores' seats are dealt in round 1 and taken back, and the histories are judged.
 
-ghost use Rattle.std.specs.Prelude.{◌≡◌, ◌+◌, ◌<◌, IfOk, length};
+ghost use Rattle.std.specs.Prelude.{◌≡◌, ◌+◌, ◌<◌, ◌≤◌, IfOk, length};
+ghost use Rattle.sched_base.specs.declared.limits.TheConstants.{MAX_ENTRIES};
 ghost use Rattle.policy_tree.specs.Meaning.{meaning_of};
-ghost use Rattle.core_table.specs.Public.{plan_of, policy_of};
+ghost use Rattle.round_model.specs.Legal.{Legal};
+ghost use Rattle.core_table.specs.Ends.{IsClosed};
+ghost use Rattle.core_table.specs.Public.{plan_of, policy_of, view_of};
+ghost use Rattle.core_table.specs.Told.{Agrees};
 ghost use Rattle.runtime_tests.specs.Crowds.{IsCrowd, IsTried};
-ghost use Rattle.runtime_tests.specs.Games.{IsDealing, IsTable, IsTaking, PlayAll, Plays, table_in};
+ghost use Rattle.runtime_tests.specs.Games.{IsDealing, IsTable, IsTaking, IsWhether, PlayAll, Plays, table_in};
 ghost use Rattle.runtime_tests.specs.Tables.{HasLogsOf, IsFree, IsUnbegun};
 
 use crate::game::Game;
@@ -109,7 +113,8 @@ impl<'a> Game<'a> {
 /// The cores and the logs at the end.
 pub fn closed(table: Table, seat: Seat) -> Closed
     requires { IsFree table seat }
-    ensures { HasLogsOf result }
+    ensures logs { HasLogsOf result }
+    ensures closed { IsClosed (view_of seat) result }
 {
     table.close(seat)
 }
@@ -117,13 +122,14 @@ pub fn closed(table: Table, seat: Seat) -> Closed
 /// The history, back from the logs at the end.
 pub fn history_of(alloc: Global, table: Table, seat: Seat) -> Result<History, HistoryMemory>
     requires { IsFree table seat }
+    ensures { IfOk result (Agrees (view_of seat)) }
 {
     let closed = closed(table, seat);
     let history = merge(alloc, &closed)?;
     Ok(history)
 }
 
-/// Whether the model finds each entry legal behind those before it.
+/// Whether the model finds each entry legal behind those before it, and there are no more than a history may have.
 pub fn is_legal(
     alloc: Global,
     policy: &Policy,
@@ -132,6 +138,8 @@ pub fn is_legal(
 ) -> Result<bool, ModelMemory>
     requires policy { IsTried (meaning_of policy.now) }
     requires plan { IsCrowd plan.now }
+    ensures { IfOk result
+        (IsWhether ((length entries.now ≤ MAX_ENTRIES) × Legal (meaning_of policy.now) plan.now entries.now)) }
 {
     if entries.len() > MAX_ENTRIES as usize {
         return Ok(false);

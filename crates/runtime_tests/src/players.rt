@@ -4,7 +4,7 @@ ghost use Rattle.std.specs.Prelude.{◌≡◌, ◌<◌, MatchOption, length};
 ghost use Rattle.core_table.specs.Public.{plan_of};
 ghost use Rattle.core_calls.specs.Actors.{core_of, table_of};
 ghost use Rattle.runtime_tests.specs.declared.players.Stage.TheVariants as stage_of;
-ghost use Rattle.runtime_tests.specs.Games.{IsAt, LetsNext, LetsNone, Plays, table_in};
+ghost use Rattle.runtime_tests.specs.Games.{IsAt, IsWhether, LetsNext, LetsNone, Plays, table_in};
 
 use crate::game::Game;
 use core_calls::Actor;
@@ -42,7 +42,9 @@ pub struct Player {
 
 impl Player {
     /// Whether the turn is over.
-    pub fn is_over(&self) -> bool {
+    pub fn is_over(&self) -> bool
+        ensures { IsWhether (self.now.stage ≡ stage_of.Over) result }
+    {
         matches!(self.stage, Stage::Over)
     }
 }
