@@ -40,8 +40,9 @@ use Rattle.core_table.proofs.FirstRound.{back_first}
 use Rattle.core_table.proofs.Histories.{entry_at, own_is}
 use Rattle.parallel_play.specs.declared.sums.Tally.{Tally}
 use Rattle.parallel_play.specs.Playing.{BeganAndPlayed, IsPlayed, entries_in, entries_of, log_in, merged_in}
-use Rattle.parallel_play.specs.Runs.{AreLeftBy, RunsFull, RunsWhole}
+use Rattle.parallel_play.specs.Runs.{AreLeftBy, HadRoom, RunsFull, RunsWhole}
 use Rattle.parallel_play.specs.Tallies.{IsEmpty, due_by, flag_of}
+use Rattle.parallel_play.proofs.Beginnings.{none_had, one_had}
 use Rattle.parallel_play.proofs.Seating.{begun_idle, played_back}
 use Rattle.parallel_play.proofs.Summing.{all_numbers, any_by_number, any_same, entries_split, sums_by_number}
 
@@ -51,6 +52,7 @@ pub record IsCounted (plan : Plan) (h : List Entry) (begun : ℕ) (t : Tally) : 
   pub complete : IsComplete plan h
   pub entries : length h ≡ t.entries
   pub ended : (p : Planned) → p.id ≤ MAX_THREADS → has_ended h p ≡ flag_of t p.id
+  pub roomy : HadRoom plan h
 
 -- between two rounds
 pub record IsBetween (begun : ℕ) (t : Tally) (v : View) : Type 0 where
@@ -86,6 +88,7 @@ module _ (policy : Policy) (plan : Plan) (t : Tally) (empty : IsEmpty t) where
         complete = ap (λ n. (n == 0) || list_all (λ c. has_attempted (own_entries h c)) (core_numbers plan)) none;
         entries = long ∙ sym empty.entries;
         ended = λ q low. ap (λ (l : List Entry). has_ended l q) (none_there h long) ∙ sym (empty.ended q.id);
+        roomy = subst (HadRoom plan) (sym (none_there h long)) (none_had plan);
       }
     where
       all_nothing : (n : ℕ) → entries_of (all_idle n) ≡ 0
@@ -128,7 +131,7 @@ module _ (begun : ℕ) (t : Tally) (v : View) (between : IsBetween begun t v) wh
       }
 
   -- and once the cores have played, one more round is over
-  module _ (now : Tally) (w : View) (b : BeganAndPlayed (begun + 1) t now v w) where
+  module _ (now : Tally) (w : View) (b : BeganAndPlayed (begun + 1) t now v w) (room : RoundFits v.plan t.entries) where
     abbrev h₀ : List Entry
     h₀ = b.begins.history
 
@@ -191,6 +194,8 @@ module _ (begun : ℕ) (t : Tally) (v : View) (between : IsBetween begun t v) wh
             ∙ (ap (λ (l : List Entry). has_ended l q || list_any (λ c. list_any (ends q.id) (own_entries g c)) (core_numbers w.plan)) (sym opening.is_merged)
             ∙ (ap (λ x. x || list_any (λ c. list_any (ends q.id) (own_entries g c)) (core_numbers w.plan)) (list_any-append (ends q.id) h₀ (entry.Round (begun + 1) ∷ []) ∙ (or_false (has_ended h₀ q) ∙ (before.ended q low ∙ ap (λ (l : List Bool). get_or l q.id false) (sym b.same))))
             ∙ (ap (λ x. flag_of b.counted q.id || x) (sym (any_total q.id)) ∙ sym (b.played.ended q.id low))));
+        roomy = one_had w.plan h₀ g (begun + 1) opening.is_merged (subst (λ (x : Plan). HadRoom x h₀) (sym plan_same) before.roomy)
+            (subst (λ (x : Plan). RoundFits x (length h₀)) (sym plan_same) (subst (RoundFits v.plan) (sym before.entries) room));
       }
         where
           or_true : (x : Bool) → (x || true) ≡ true
@@ -219,6 +224,9 @@ module _ (begun : ℕ) (t : Tally) (v : View) (between : IsBetween begun t v) wh
     ag : Agrees v ends_so.history
     ag = ends_so.known
 
+    counted_now : IsCounted plan ends_so.history begun t
+    counted_now = subst (λ (x : Plan). IsCounted x ends_so.history begun t) is_plan (between.counted ends_so.history ag)
+
     left_by : AreLeftBy p plan ends_so.history closed
     left_by =
         let legal = of_these (λ q pl. Legal q pl ends_so.history) ag.legal in
@@ -228,11 +236,9 @@ module _ (begun : ℕ) (t : Tally) (v : View) (between : IsBetween begun t v) wh
           legal = legal;
           count = of_these (λ q pl. length closed.cores ≡ pl.cores) ends_so.count;
           few = of_these (λ q pl. length ends_so.history ≤ pl.limit) (let room = ag.reserve in omega arith);
+          roomy = counted_now.roomy;
           keeps = main_theorem p meets plan ends_so.history (of_these Fits ag.fits) legal;
         }
-
-    counted_now : IsCounted plan ends_so.history begun t
-    counted_now = subst (λ (x : Plan). IsCounted x ends_so.history begun t) is_plan (between.counted ends_so.history ag)
 
     due_now : is_due plan ends_so.history ≡ due_by plan begun t
     due_now = due_known plan ends_so.history begun t (ids_few p plan (of_these Fits ag.fits)) counted_now

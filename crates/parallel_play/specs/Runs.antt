@@ -1,16 +1,23 @@
 -- What a run of all cores side by side comes to.
 use Rattle.std.specs.Prelude.{◌≡◌, ℕ, ◌≤◌, List, length, slice_get, Some}
+use mathlib.Core.Option.{some}
+use lib.ListN.{get_elem?}
 use Rattle.policy_tree.specs.Meaning.{Meaning}
 use Rattle.round_laws.specs.MainTheorem.{KeepsLaws}
 use Rattle.round_model.specs.declared.entry.Entry.{Entry}
+use Rattle.round_model.specs.declared.entry.Entry.TheVariants as entry
 use Rattle.round_model.specs.declared.plan.Plan.{Plan}
 use Rattle.round_model.specs.After.{after}
 use Rattle.round_model.specs.Legal.{IsComplete, Legal, Whole}
-use Rattle.round_model.specs.SerialEnds.{IsFull}
+use Rattle.round_model.specs.SerialEnds.{IsFull, RoundFits}
 use Rattle.core_state.specs.Logs.{LogsOf}
 use Rattle.core_state.specs.Views.{ClosedView, CoreView}
 use Rattle.parallel_play.specs.declared.fault.RunFault.{RunFault}
 use Rattle.parallel_play.specs.declared.fault.RunFault.TheVariants as fault
+
+-- each round of the history began where all that it may add fitted the plan's limit
+abbrev pub HadRoom : Plan → List Entry → Type 0
+HadRoom plan history = (at number : ℕ) → get_elem? history at ≡ some (entry.Round number) → RoundFits plan at
 
 -- cores and logs are those of the history, which is legal and keeps the laws of every interleaving
 pub record AreLeftBy (p : Meaning) (plan : Plan) (history : List Entry) (closed : ClosedView) : Type 0 where
@@ -19,6 +26,7 @@ pub record AreLeftBy (p : Meaning) (plan : Plan) (history : List Entry) (closed 
   pub legal : Legal p plan history
   pub count : length closed.cores ≡ plan.cores
   pub few : length history ≤ plan.limit
+  pub roomy : HadRoom plan history
   pub keeps : KeepsLaws p plan history
 
 -- so it is of a whole history

@@ -40,7 +40,11 @@ loop-begun-preserved g c =
     let i = c.loop-begun.invariant in let t = c.loop-begun.tally in let v = view_of c.loop-begun.seat in let k = c.loop-begun.begun in
     let p = meaning_of c.args.policy.now in let plan = c.args.plan.now in
     let is_p : meaning_in v ≡ p = ap meaning_of (i.of.opening.policy ∙ sym c.requires.opened.0) in let is_plan : v.plan ≡ plan = i.of.opening.plan ∙ sym c.requires.opened.1 in
-    record { of = c.play_round.ensures.seat; between = next_between k t v i.between c.play_round.result.1 (view_of c.play_round.result.0) c.play_round.ensures.played }
+    record {
+      of = c.play_round.ensures.seat;
+      between = next_between k t v i.between c.play_round.result.1 (view_of c.play_round.result.0) c.play_round.ensures.played
+          (subst (λ (x : Plan). RoundFits x t.entries) (sym is_plan) (c.round_fits.ensures.0 c.if-not-round_fits.false));
+    }
 
 pub returns-clause-whole : goal.returns-clause-whole
 returns-clause-whole g c =
