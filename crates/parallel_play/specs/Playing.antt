@@ -83,7 +83,7 @@ pub record Played (c : ℕ) (before after : Tally) (v w : View) : Type 0 where
   pub entries : after.entries ≡ min (before.entries + entries_of (drop c turns)) MAX_COUNT
   pub ended : (id : ℕ) → id ≤ MAX_THREADS →
       flag_of after id ≡ (flag_of before id
-        || list_any (λ (t : Turn). list_any (ends id) (entries_in t)) (drop c turns))
+      || list_any (λ (t : Turn). list_any (ends id) (entries_in t)) (drop c turns))
   pub rest : w ≡ record v { role = w.role }
   pub known : c < v.plan.cores → IsKnown w
 
