@@ -29,6 +29,7 @@ pub fn turn<R: Wait, C: CoreCalls, G: Gate>(
     requires gate { IsTrue (G.admits gate.now core round) }
     ensures ready { C.ready calls.new × C.follows calls.old calls.new }
     ensures turned { HasTurned core result (C.view calls.old) (C.view calls.new) }
+    ensures passed { G.passed gate.now core round }
 {
     let entered = enter_all(rt, calls, plan, core, round);
     let drawn = wake_all(rt, calls, round, entered);
