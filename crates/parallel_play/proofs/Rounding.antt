@@ -39,8 +39,8 @@ use Rattle.core_table.proofs.Beginning.{idle_at}
 use Rattle.core_table.proofs.FirstRound.{back_first}
 use Rattle.core_table.proofs.Histories.{entry_at, own_is}
 use Rattle.parallel_play.specs.declared.sums.Tally.{Tally}
-use Rattle.parallel_play.specs.Playing.{BeganAndPlayed, IsPlayed, entries_in, entries_of, log_in, merged_in}
-use Rattle.parallel_play.specs.Runs.{AreLeftBy, HadRoom, RunsFull, RunsWhole}
+use Rattle.parallel_play.specs.Playing.{BeganAndPlayed, HavePassed, IsPlayed, entries_in, entries_of, log_in, merged_in}
+use Rattle.parallel_play.specs.Runs.{AllPassed, AreLeftBy, HadRoom, RunsFull, RunsWhole}
 use Rattle.parallel_play.specs.Tallies.{IsEmpty, due_by, flag_of}
 use Rattle.parallel_play.proofs.Beginnings.{none_had, one_had}
 use Rattle.parallel_play.proofs.Seating.{begun_idle, played_back}
@@ -217,7 +217,8 @@ module _ (begun : ℕ) (t : Tally) (v : View) (between : IsBetween begun t v) wh
         }
 
   -- how a run ends
-  module _ (p : Meaning) (plan : Plan) (is_p : meaning_in v ≡ p) (is_plan : v.plan ≡ plan) (meets : MeetsObligations p) (closed : ClosedView) (ends_so : IsClosed v closed) where
+  module _ (p : Meaning) (plan : Plan) (is_p : meaning_in v ≡ p) (is_plan : v.plan ≡ plan) (meets : MeetsObligations p) (closed : ClosedView) (ends_so : IsClosed v closed)
+      (Passed : ℕ → ℕ → Type 0) (gone : AllPassed Passed plan begun) where
     of_these : (P : Meaning → Plan → Type 0) → P (meaning_in v) v.plan → P p plan
     of_these P holds = subst (λ (x : Meaning × Plan). P x.0 x.1) (λ i. (is_p i, is_plan i)) holds
 
@@ -227,7 +228,7 @@ module _ (begun : ℕ) (t : Tally) (v : View) (between : IsBetween begun t v) wh
     counted_now : IsCounted plan ends_so.history begun t
     counted_now = subst (λ (x : Plan). IsCounted x ends_so.history begun t) is_plan (between.counted ends_so.history ag)
 
-    left_by : AreLeftBy p plan ends_so.history closed
+    left_by : AreLeftBy p plan Passed ends_so.history closed
     left_by =
         let legal = of_these (λ q pl. Legal q pl ends_so.history) ag.legal in
         record {
@@ -237,20 +238,21 @@ module _ (begun : ℕ) (t : Tally) (v : View) (between : IsBetween begun t v) wh
           count = of_these (λ q pl. length closed.cores ≡ pl.cores) ends_so.count;
           few = of_these (λ q pl. length ends_so.history ≤ pl.limit) (let room = ag.reserve in omega arith);
           roomy = counted_now.roomy;
+          passed = λ c r inside early. gone c r inside (let count = counted_now.rounds in omega arith);
           keeps = main_theorem p meets plan ends_so.history (of_these Fits ag.fits) legal;
         }
 
     due_now : is_due plan ends_so.history ≡ due_by plan begun t
     due_now = due_known plan ends_so.history begun t (ids_few p plan (of_these Fits ag.fits)) counted_now
 
-    pub ends_whole : due_by plan begun t ≡ false → RunsWhole p plan closed
+    pub ends_whole : due_by plan begun t ≡ false → RunsWhole p plan Passed closed
     ends_whole none = record {
       history = ends_so.history;
       left = left_by;
       whole = record { legal = left_by.legal; complete = counted_now.complete; finished = due_now ∙ none };
     }
 
-    pub ends_full : due_by plan begun t ≡ true → (RoundFits plan t.entries → ⊥) → RunsFull p plan closed
+    pub ends_full : due_by plan begun t ≡ true → (RoundFits plan t.entries → ⊥) → RunsFull p plan Passed closed
     ends_full due full = record {
       history = ends_so.history;
       left = left_by;
@@ -263,3 +265,11 @@ pub due_stops : (plan : Plan) (begun : ℕ) (t : Tally) → plan.rounds ≤ begu
 due_stops plan begun t over =
     let none : nat_lt begun plan.rounds ≡ false = grind (arith, over, nat_tests) in
     ap (λ b. b && list_any (λ (p : Planned). not (flag_of t p.id)) plan.threads) none
+
+-- once each core has passed the gate in one more round
+pub passed_more : (Passed : ℕ → ℕ → Type 0) (plan : Plan) (begun : ℕ) → AllPassed Passed plan begun → HavePassed Passed plan 0 (begun + 1) → AllPassed Passed plan (begun + 1)
+passed_more Passed plan begun before now c r inside early = by (nat_lt r begun) refl
+  where
+    by : (b : Bool) → nat_lt r begun ≡ b → Passed c (r + 1)
+    by true less = before c r inside (grind (arith, less, nat_tests))
+    by false most = let same : begun ≡ r = grind (arith, most, early, nat_tests) in subst (λ k. Passed c (k + 1)) same (now c (omega arith) inside)

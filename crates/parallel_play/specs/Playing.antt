@@ -5,6 +5,7 @@ use mathlib.Core.Option.{some}
 use lib.ListN.{get_elem?}
 use Rattle.sched_base.specs.declared.limits.TheConstants.{MAX_THREADS}
 use Rattle.round_model.specs.declared.entry.Entry.{Entry}
+use Rattle.round_model.specs.declared.plan.Plan.{Plan}
 use Rattle.round_model.specs.Entries.{ends}
 use Rattle.round_model.specs.Scenes.{has_attempted}
 use Rattle.core_state.specs.declared.logged.Logged.{Logged}
@@ -96,3 +97,7 @@ pub record BeganAndPlayed (number : ℕ) (before after : Tally) (v w : View) : T
   pub more : counted.entries ≡ min (before.entries + 1) MAX_COUNT
   pub same : counted.ended ≡ before.ended
   pub played : Played 0 counted after opened w
+
+-- the plan's cores from c on passed the gate in the round of that number
+abbrev pub HavePassed : (Passed : ℕ → ℕ → Type 0) → Plan → (c round : ℕ) → Type 0
+HavePassed Passed plan c round = (d : ℕ) → c ≤ d → d < plan.cores → Passed d round

@@ -40,8 +40,8 @@ pub fn run_rounds<R: Threads + Wait + Sync, G: Gate + Sync>(
     requires opened { (policy.now ≡ policy_of table) × (plan.now ≡ plan_of table) }
     requires seat { Becomes table seat (first_view policy.now plan.now) }
     requires gate { (c r : ℕ) → IsTrue (G.admits gate.now c r) }
-    ensures whole { IfOk result (RunsWhole (meaning_of policy.now) plan.now) }
-    ensures fault { IfErr result (IsFaultOf (meaning_of policy.now) plan.now) }
+    ensures whole { IfOk result (RunsWhole (meaning_of policy.now) plan.now (G.passed gate.now)) }
+    ensures fault { IfErr result (IsFaultOf (meaning_of policy.now) plan.now (G.passed gate.now)) }
 {
     run_under(rt, policy.policy(), plan, table, seat, gate)
 }
@@ -60,8 +60,8 @@ fn run_under<R: Threads + Wait + Sync, G: Gate + Sync>(
     requires opened { (policy.now ≡ policy_of table) × (plan.now ≡ plan_of table) }
     requires seat { Becomes table seat (first_view policy.now plan.now) }
     requires gate { (c r : ℕ) → IsTrue (G.admits gate.now c r) }
-    ensures whole { IfOk result (RunsWhole (meaning_of policy.now) plan.now) }
-    ensures fault { IfErr result (IsFaultOf (meaning_of policy.now) plan.now) }
+    ensures whole { IfOk result (RunsWhole (meaning_of policy.now) plan.now (G.passed gate.now)) }
+    ensures fault { IfErr result (IsFaultOf (meaning_of policy.now) plan.now (G.passed gate.now)) }
 {
     let mut tally = Tally::new();
     for begun in 0..plan.rounds {

@@ -5,7 +5,7 @@ ghost use Rattle.std.specs.Thread.{IsSync};
 ghost use Rattle.core_table.specs.Public.{IsOf, plan_of, policy_of, view_of};
 ghost use Rattle.core_table.specs.Told.{HasAllBack, MayBeginRound};
 ghost use Rattle.core_calls.specs.Turns.{HasTurned, IsFresh};
-ghost use Rattle.parallel_play.specs.Playing.{BeganAndPlayed, IdleFrom, Joins, Leaves, Played, TakesBack};
+ghost use Rattle.parallel_play.specs.Playing.{BeganAndPlayed, HavePassed, IdleFrom, Joins, Leaves, Played, TakesBack};
 ghost use Rattle.parallel_play.specs.Stages.{table_in};
 ghost use Rattle.parallel_play.specs.Tallies.{Adds};
 
@@ -33,6 +33,7 @@ fn take_turn<R: Wait, G: Gate + Sync>(
     requires gate { IsTrue (G.admits gate.now core stage.now.round) }
     ensures seat { IsOf (table_in stage.now) result.0 }
     ensures turned { HasTurned core result.1 (view_of seat) (view_of result.0) }
+    ensures passed { G.passed gate.now core stage.now.round }
 {
     let mut calls = SeatCalls::new(stage.table, seat, stage.policy, stage.plan, core);
     let turned = turn(rt, &mut calls, stage.plan, core, stage.round, gate);
@@ -88,6 +89,7 @@ pub(crate) fn play_from<R: Threads + Wait + Sync, G: Gate + Sync>(
     requires gate { (c : ℕ) → IsTrue (G.admits gate.now c stage.now.round) }
     ensures seat { IsOf (table_in stage.now) result.0 }
     ensures played { Played core tally result.1 (view_of seat) (view_of result.0) }
+    ensures passed { HavePassed (G.passed gate.now) (plan_of (table_in stage.now)) core stage.now.round }
 {
     if core >= stage.table.cores() {
         return (seat, tally);
@@ -108,7 +110,8 @@ pub(crate) fn play_from<R: Threads + Wait + Sync, G: Gate + Sync>(
                 × (core < (plan_of table.now).cores) × (policy.now ≡ policy_of table.now)
                 × (plan.now ≡ plan_of table.now) × (round ≡ (view_of own).round)
                 × ((c : ℕ) → IsTrue (G.admits gate.now c round)) }
-            ensures { IsOf table.entry.now result.0 × HasTurned core result.1 (view_of own) (view_of result.0) }
+            ensures { IsOf table.entry.now result.0 × HasTurned core result.1 (view_of own) (view_of result.0)
+                × G.passed gate.entry.now core round }
         {
             take_turn(
                 rt,
@@ -129,7 +132,8 @@ pub(crate) fn play_from<R: Threads + Wait + Sync, G: Gate + Sync>(
                 × (plan.now ≡ plan_of table.now) × (round ≡ (view_of left).round)
                 × ((c : ℕ) → IsTrue (G.admits gate.now c round)) }
             ensures { IsOf table.entry.now result.0
-                × Played next tally result.1 (view_of left) (view_of result.0) }
+                × Played next tally result.1 (view_of left) (view_of result.0)
+                × HavePassed (G.passed gate.entry.now) (plan_of table.entry.now) next round }
         {
             play_from(
                 rt,
@@ -164,6 +168,7 @@ pub(crate) fn play_round<R: Threads + Wait + Sync, G: Gate + Sync>(
     requires gate { (c : ℕ) → IsTrue (G.admits gate.now c stage.now.round) }
     ensures seat { IsOf (table_in stage.now) result.0 }
     ensures played { BeganAndPlayed stage.now.round tally result.1 (view_of seat) (view_of result.0) }
+    ensures passed { HavePassed (G.passed gate.now) (plan_of (table_in stage.now)) 0 stage.now.round }
 {
     stage.table.draw_round(rt, &mut seat, stage.round);
     tally.count_round();
