@@ -10,6 +10,7 @@ use Rattle.round_model.specs.Fits.{Fits}
 use Rattle.core_state.specs.Logs.{LogsOf}
 use Rattle.core_state.specs.Views.{ClosedView}
 use Rattle.history_merge.proofs.Walks.{one_history}
+use Rattle.parallel_play.proofs.Beginnings.{nothing_begun}
 use Rattle.parallel_play.specs.Runs.{IsFaultOf, RunsWhole}
 use Rattle.parallel_play.specs.declared.fault.RunFault.{RunFault}
 use Rattle.parallel_play.specs.declared.fault.RunFault.TheVariants as fault
@@ -20,11 +21,11 @@ use Rattle.trace_run.specs.Runs.{IsRun, Left, RunEnds, RunStops}
 
 pub merged_whole : (p : Meaning) (plan : Plan) (closed : ClosedView) (merged : List Entry) → RunsWhole p plan closed → LogsOf merged closed → RunEnds p plan merged
 merged_whole p plan closed merged run logs =
-    subst (RunEnds p plan) (one_history closed run.history merged run.left.logs logs) (record { whole = run.whole; few = run.left.few })
+    subst (RunEnds p plan) (one_history closed run.history merged run.left.logs logs) (record { whole = run.whole; few = run.left.few; roomy = run.left.roomy })
 
 pub merged_full : (p : Meaning) (plan : Plan) (why : RunFault) (left : ClosedView) (merged : List Entry) → IsFaultOf p plan why → Left why left → LogsOf merged left → RunStops p plan merged
 merged_full p plan (fault.HistoryFull closed) left merged run is logs =
-    subst (RunStops p plan) (one_history closed run.history merged run.left.logs (subst (LogsOf merged) is logs)) (record { legal = run.left.legal; complete = run.complete; full = run.full; few = run.left.few })
+    subst (RunStops p plan) (one_history closed run.history merged run.left.logs (subst (LogsOf merged) is logs)) (record { legal = run.left.legal; complete = run.complete; full = run.full; few = run.left.few; roomy = run.left.roomy; at_once = nothing_begun p plan run.history run.left.legal run.left.roomy })
 
 within : (p : Meaning) (plan : Plan) (history : List Entry) → Fits p plan → length history ≤ plan.limit → length history ≤ MAX_ENTRIES
 within p plan history fits few = let most = fits.few_entries in omega arith

@@ -1,5 +1,5 @@
 -- What a run of a trace's text comes to, where all cores play side by side.
-use Rattle.std.specs.Prelude.{◌≡◌, ℕ, ◌≤◌, List, length}
+use Rattle.std.specs.Prelude.{◌≡◌, ℕ, ◌≤◌, List, [], length}
 use Rattle.policy_tree.specs.Meaning.{Meaning}
 use Rattle.round_model.specs.declared.entry.Entry.{Entry}
 use Rattle.round_model.specs.declared.plan.Plan.{Plan}
@@ -9,6 +9,7 @@ use Rattle.round_model.specs.Fits.{Fits}
 use Rattle.round_model.specs.Legal.{IsComplete, Legal, Whole}
 use Rattle.round_model.specs.SerialEnds.{IsFull}
 use Rattle.core_state.specs.Views.{ClosedView}
+use Rattle.parallel_play.specs.Runs.{HadRoom}
 use Rattle.parallel_play.specs.declared.fault.RunFault.{RunFault}
 use Rattle.parallel_play.specs.declared.fault.RunFault.TheVariants as fault
 use Rattle.job_trace.specs.declared.trace.Numbered.{Numbered}
@@ -18,18 +19,22 @@ use Rattle.trace_play.specs.declared.answer.PlayAnswer.{PlayAnswer}
 use Rattle.trace_play.specs.declared.answer.PlayAnswer.TheVariants as answer
 use Rattle.trace_play.specs.Plays.{HasFault}
 
--- the run came to its end: the history is whole
+-- the run came to its end: the history is whole, and each of its rounds had room
 pub record RunEnds (p : Meaning) (plan : Plan) (history : List Entry) : Type 0 where
   pub whole : Whole p plan history
   pub few : length history ≤ plan.limit
+  pub roomy : HadRoom plan history
 
--- the run stopped before a round that might not fit: behind complete rounds of a legal history one is due that may
--- have more entries than the plan's limit still allows
+-- the run stopped before the first round that might not fit: behind complete rounds of a legal history, which had room,
+-- one is due that may have more entries than the plan's limit still allows
 pub record RunStops (p : Meaning) (plan : Plan) (history : List Entry) : Type 0 where
   pub legal : Legal p plan history
   pub complete : IsComplete plan history
   pub full : IsFull plan history
   pub few : length history ≤ plan.limit
+  pub roomy : HadRoom plan history
+  -- where the first round might not fit, nothing was played
+  pub at_once : IsFull plan [] → history ≡ []
 
 -- what a run comes to
 abbrev pub IsRun : Meaning → Plan → Played → Type 0
