@@ -1,5 +1,5 @@
 -- The history that is merged is the one that was run.
-use Rattle.std.proofs.Common.{◌≤◌, All, List, arith, length, subst}
+use Rattle.std.proofs.Common.{ℕ, ◌≤◌, All, List, arith, length, subst}
 use Rattle.sched_base.specs.declared.limits.TheConstants.{MAX_ENTRIES}
 use Rattle.policy_tree.specs.Meaning.{Meaning}
 use Rattle.round_model.specs.declared.entry.Entry.{Entry}
@@ -19,12 +19,12 @@ use Rattle.sched_history.proofs.Printable.{legal_is_printable}
 use Rattle.trace_play.specs.Plays.{history_of}
 use Rattle.trace_run.specs.Runs.{IsRun, Left, RunEnds, RunStops}
 
-pub merged_whole : (p : Meaning) (plan : Plan) (closed : ClosedView) (merged : List Entry) → RunsWhole p plan closed → LogsOf merged closed → RunEnds p plan merged
-merged_whole p plan closed merged run logs =
+pub merged_whole : (p : Meaning) (plan : Plan) (Passed : ℕ → ℕ → Type 0) (closed : ClosedView) (merged : List Entry) → RunsWhole p plan Passed closed → LogsOf merged closed → RunEnds p plan merged
+merged_whole p plan Passed closed merged run logs =
     subst (RunEnds p plan) (one_history closed run.history merged run.left.logs logs) (record { whole = run.whole; few = run.left.few; roomy = run.left.roomy })
 
-pub merged_full : (p : Meaning) (plan : Plan) (why : RunFault) (left : ClosedView) (merged : List Entry) → IsFaultOf p plan why → Left why left → LogsOf merged left → RunStops p plan merged
-merged_full p plan (fault.HistoryFull closed) left merged run is logs =
+pub merged_full : (p : Meaning) (plan : Plan) (Passed : ℕ → ℕ → Type 0) (why : RunFault) (left : ClosedView) (merged : List Entry) → IsFaultOf p plan Passed why → Left why left → LogsOf merged left → RunStops p plan merged
+merged_full p plan Passed (fault.HistoryFull closed) left merged run is logs =
     subst (RunStops p plan) (one_history closed run.history merged run.left.logs (subst (LogsOf merged) is logs)) (record { legal = run.left.legal; complete = run.complete; full = run.full; few = run.left.few; roomy = run.left.roomy; at_once = nothing_begun p plan run.history run.left.legal run.left.roomy })
 
 within : (p : Meaning) (plan : Plan) (history : List Entry) → Fits p plan → length history ≤ plan.limit → length history ≤ MAX_ENTRIES

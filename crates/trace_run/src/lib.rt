@@ -2,7 +2,7 @@
 //! from the logs of the cores.
 //!
 //! The answers are those of serial play, `PlayAnswer`. What they promise is less: the history is legal and whole, or
-//! stops before a round that might not fit, but which of them comes isn't said.
+//! stops before the first round that might not fit. Which of the legal histories comes isn't said.
 #![tactic(auto)]
 
 mod running;

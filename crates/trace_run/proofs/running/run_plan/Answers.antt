@@ -11,8 +11,8 @@ open-requires-clause-handlers g c =
 
 pub returns-in_ok-merge-in-Ok-run_rounds : goal.returns-in_ok-merge-in-Ok-run_rounds
 returns-in_ok-merge-in-Ok-run_rounds g c =
-    merged_whole (meaning_of c.args.policy.now) c.args.plan.now c.in-Ok-run_rounds.closed c.in_ok-merge-in-Ok-run_rounds.field-0 c.in-Ok-run_rounds.ensures.whole c.in_ok-merge-in-Ok-run_rounds.ensures
+    merged_whole (meaning_of c.args.policy.now) c.args.plan.now (g.G.Gate.passed c.args.gate.now) c.in-Ok-run_rounds.closed c.in_ok-merge-in-Ok-run_rounds.field-0 c.in-Ok-run_rounds.ensures.whole c.in_ok-merge-in-Ok-run_rounds.ensures
 
 pub returns-in_ok-merge-in-Err : goal.returns-in_ok-merge-in-Err
 returns-in_ok-merge-in-Err g c =
-    merged_full (meaning_of c.args.policy.now) c.args.plan.now c.in-Err.fault c.left_by.result.now c.in_ok-merge-in-Err.field-0 c.in-Err.ensures.fault c.left_by.ensures c.in_ok-merge-in-Err.ensures
+    merged_full (meaning_of c.args.policy.now) c.args.plan.now (g.G.Gate.passed c.args.gate.now) c.in-Err.fault c.left_by.result.now c.in_ok-merge-in-Err.field-0 c.in-Err.ensures.fault c.left_by.ensures c.in_ok-merge-in-Err.ensures
