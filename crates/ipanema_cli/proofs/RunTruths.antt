@@ -8,6 +8,7 @@ use Rattle.policy_tree.specs.Meaning.{Meaning}
 use Rattle.round_model.specs.declared.entry.Entry.{Entry}
 use Rattle.round_model.specs.declared.plan.Plan.{Plan}
 use Rattle.round_model.specs.declared.serial.Played.TheVariants as played
+use Rattle.round_model.specs.Legal.{Whole}
 use Rattle.round_model.specs.Room.{HasRoomForRounds}
 use Rattle.round_model.proofs.EntryBounds.{room_suffices}
 use Rattle.round_laws.proofs.MainTheorem.{main_theorem}
@@ -15,6 +16,8 @@ use Rattle.sched_history.specs.Spelling.{text_of_history}
 use Rattle.trace_play.specs.declared.answer.PlayAnswer.{PlayAnswer}
 use Rattle.trace_play.specs.declared.answer.PlayAnswer.TheVariants as play_answer
 use Rattle.trace_play.specs.Plays as plays
+use Rattle.parallel_play.specs.Runs.{HadRoom}
+use Rattle.parallel_play.proofs.Beginnings.{never_whole}
 use Rattle.trace_run.specs.Runs.{IsRunOf, RunEnds, RunStops, RunsText}
 use Rattle.ipanema_cli.specs.Answers.{AnswersPlay, play_status}
 use Rattle.ipanema_cli.specs.Causes.{OneOf}
@@ -23,12 +26,14 @@ use Rattle.ipanema_cli.specs.Status.{code_of}
 use Rattle.ipanema_cli.specs.Truths.{DoPlay, MustAnswer, MustRun, RunsTruly}
 use Rattle.ipanema_cli.specs.declared.answers.Answer.{Answer}
 use Rattle.ipanema_cli.proofs.CheckTruths.{Stopped}
-use Rattle.ipanema_cli.proofs.TraceTruths.{Read, broken_trace, held_play, may_play, others_played, same_plan, stopped_trace, traces_truly, weaker_0, weaker_both}
+use Rattle.ipanema_cli.proofs.TraceTruths.{Read, broken_trace, held_play, may_play, others_played, same_plan, stopped_trace, traces_truly, weaker_0, weaker_8, weaker_both}
 
 must_of : (policy trace : Told) (code : ℕ) → ((p : Meaning) (plan : Plan) → DoPlay policy trace p plan → OneOf (3 ∷ 4 ∷ 5 ∷ 6 ∷ []) code) → MustAnswer policy trace code → MustRun policy trace code
 must_of policy trace code low others = record {
   ends = λ p plan held. weaker_both code (low p plan held);
   reaches_end = λ p plan held room. weaker_0 code (low p plan held);
+  stops_full = λ p plan held none. weaker_8 code (low p plan held);
+  stops_at_once = λ p plan held full. weaker_8 code (low p plan held);
   others = others;
 }
 
@@ -45,11 +50,20 @@ ran_whole policy trace text jobs p history before after code read made own added
   must = record {
     ends = λ other plan held. rw own refl;
     reaches_end = λ other plan held room. rw own refl;
+    stops_full = λ other plan held none. absurd (not_whole other plan held none);
+    stops_at_once = λ other plan held full. absurd (not_whole other plan held (λ h whole roomy. never_whole other plan h whole roomy full));
     others = others_played policy trace text jobs p made.trace made.plan code read made.spells made.means (λ three. omega arith);
   };
   lines = λ low. absurd (let bad = rw own at low in cc);
   bad_text = λ h. absurd (omega arith);
 }
+  where
+    -- it is a whole history of what the files hold, in which each round had room
+    not_whole : (other : Meaning) (plan : Plan) → DoPlay policy trace other plan → ((h : List Entry) → Whole other plan h → HadRoom plan h → ⊥) → ⊥
+    not_whole other plan held none =
+        let s = held_play policy trace text jobs p other plan read held in
+        let is_plan = same_plan p jobs made.trace held.lines made.plan plan made.spells made.means s.spells s.means in
+        none history (subst (λ (q : Meaning). Whole q plan history) s.policy (subst (λ (x : Plan). Whole p x history) is_plan made.ran.whole)) (subst (λ (x : Plan). HadRoom x history) is_plan made.ran.roomy)
 
 ran_full : (policy trace : Told) (text jobs : List ℕ) (p : Meaning) (history : List Entry) (before after : Option (List ℕ)) (code : ℕ) → Read policy trace text jobs p
     → RunsText p jobs (played.Full history) → code ≡ 8 → Adds (text_of_history history) before after → RunsTruly policy trace before after code
@@ -64,6 +78,8 @@ ran_full policy trace text jobs p history before after code read made own added 
             let s = held_play policy trace text jobs p other plan read held in
             let is_plan = same_plan p jobs made.trace held.lines made.plan plan made.spells made.means s.spells s.means in
             absurd (room_suffices p made.plan history made.fits (handler_obligations p may.meets) (subst HasRoomForRounds (sym is_plan) room) made.ran.legal made.ran.full);
+        stops_full = λ other plan held none. rw own refl;
+        stops_at_once = λ other plan held full. rw own refl;
         others = others_played policy trace text jobs p made.trace made.plan code read made.spells made.means (λ three. omega arith);
       };
       lines = λ low. absurd (let bad = rw own at low in cc);

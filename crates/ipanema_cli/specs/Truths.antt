@@ -45,6 +45,7 @@ use Rattle.round_model.specs.SerialEnds.{EndsWhole, IsFull, StopsFull}
 use Rattle.trace_maker.specs.Made.{made}
 use Rattle.trace_printer.specs.Printed.{trace_text}
 use Rattle.trace_play.specs.declared.fault.LineFault.{LineFault}
+use Rattle.parallel_play.specs.Runs.{HadRoom}
 use Rattle.trace_run.specs.Runs.{RunEnds, RunStops}
 use Rattle.sched_report.specs.declared.rows.FullReport.{FullReport}
 use Rattle.sched_report.specs.Lines.{report_lines}
@@ -219,8 +220,8 @@ pub record BadTrace (policy trace : Told) (before after : Option (List ℕ)) : T
   pub has : plays.HasFault p jobs fault
   pub written : Adds (trace_faults.fault_line fault) before after
 
--- When each status of a command that plays a trace must come that isn't of its play, if the outside lets it be. A policy
--- with an open system may be left undecided.
+-- When each status of a command that plays a trace must come that isn't of its play, if the outside lets it be. A
+-- policy with an open system may be left undecided.
 pub record MustAnswer (policy trace : Told) (code : ℕ) : Type 0 where
   -- a trace that can't be played gets its fault
   pub faulty : (p : Meaning) (jobs : List ℕ) (fault : LineFault) → DoHold policy trace p jobs →
@@ -250,6 +251,13 @@ pub record MustRun (policy trace : Told) (code : ℕ) : Type 0 where
   -- and to the end where the limit has room for all rounds
   pub reaches_end : (p : Meaning) (plan : Plan) → DoPlay policy trace p plan → HasRoomForRounds plan →
       OneOf (0 ∷ 3 ∷ 4 ∷ 5 ∷ 6 ∷ []) code
+  -- but not to the end where no whole history has room for each of its rounds
+  pub stops_full : (p : Meaning) (plan : Plan) → DoPlay policy trace p plan →
+      ((history : List Entry) → Whole p plan history → HadRoom plan history → ⊥) →
+      OneOf (3 ∷ 4 ∷ 5 ∷ 6 ∷ 8 ∷ []) code
+  -- so it is where the first round might not fit
+  pub stops_at_once : (p : Meaning) (plan : Plan) → DoPlay policy trace p plan → IsFull plan [] →
+      OneOf (3 ∷ 4 ∷ 5 ∷ 6 ∷ 8 ∷ []) code
   pub others : MustAnswer policy trace code
 
 -- The text of a history was written with which play ended so, of an accepted policy and a trace that means a plan. It
@@ -277,7 +285,7 @@ PlaysTruly policy trace before after code =
     TracesTruly EndsWhole StopsFull (MustPlay policy trace) policy trace before after code
 
 -- What `run` says is true: what is written is a whole history, or complete rounds of a legal one behind which a round
--- is due that might not fit the limit.
+-- is due that might not fit the limit. No round was begun that might not.
 abbrev pub RunsTruly : (policy trace : Told) (before after : Option (List ℕ)) (code : ℕ) → Type 0
 RunsTruly policy trace before after code =
     TracesTruly RunEnds RunStops (MustRun policy trace) policy trace before after code

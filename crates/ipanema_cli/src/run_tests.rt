@@ -54,6 +54,8 @@ impl Meeting {
 impl Gate for Meeting {
     ghost admits = { λ _ _ _. true };
 
+    ghost passed = { λ _ _ _. Unit {0} };
+
     fn pass<R: Wait>(&self, rt: &R, core: u32, _round: u32) {
         let (own, other) = if core == 0 { (0, 1) } else { (1, 0) };
         let _first = self.came[own].set(rt, true);
