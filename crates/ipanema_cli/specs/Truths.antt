@@ -255,7 +255,7 @@ pub record MustRun (policy trace : Told) (code : ℕ) : Type 0 where
   pub stops_full : (p : Meaning) (plan : Plan) → DoPlay policy trace p plan →
       ((history : List Entry) → Whole p plan history → HadRoom plan history → ⊥) →
       OneOf (3 ∷ 4 ∷ 5 ∷ 6 ∷ 8 ∷ []) code
-  -- so it is where the first round might not fit
+  -- and so not where the first round might not fit
   pub stops_at_once : (p : Meaning) (plan : Plan) → DoPlay policy trace p plan → IsFull plan [] →
       OneOf (3 ∷ 4 ∷ 5 ∷ 6 ∷ 8 ∷ []) code
   pub others : MustAnswer policy trace code
