@@ -1,0 +1,62 @@
+-- The next step of a core of a history in memory, and what its entry says.
+use Rattle.std.specs.Prelude.{◌≡◌, ℕ, List, Option, Some, None}
+use Rattle.round_model.specs.declared.entry.Did.{Did}
+use Rattle.round_model.specs.declared.entry.Entry.{Entry}
+use Rattle.round_model.specs.declared.entry.Entry.TheVariants as entry
+use Rattle.round_model.specs.declared.turns.NextStep.{NextStep}
+use Rattle.round_model.specs.declared.turns.NextStep.TheVariants as next
+use Rattle.round_model.specs.Serial.{SerialState, step_of}
+use Rattle.round_model.specs.Code.Turns.{with_step}
+use Rattle.steal_phase.specs.declared.outcome.Outcome.{Outcome}
+use Rattle.steal_phase.specs.declared.outcome.Outcome.TheVariants as outcome
+use Rattle.turn_tests.specs.declared.memory_calls.MemoryCalls.{MemoryCalls}
+use Rattle.turn_tests.specs.Memory.{core_of, fresh_of, history_of, meaning_in_memory, plan_of}
+
+-- the moment of serial play in which each core keeps that look or none
+abbrev pub moment_of : MemoryCalls → Option (List ℕ) → SerialState
+moment_of it look = record { history = history_of it; looks = λ c. look }
+
+-- the step is the one of serial play
+abbrev pub IsNextStep : MemoryCalls → Option (List ℕ) → NextStep → Type 0
+IsNextStep it look step = step_of (meaning_in_memory it) (plan_of it) (moment_of it look) (core_of it)
+    ≡ with_step (moment_of it look) (core_of it) (fresh_of (plan_of it) (history_of it)) step
+
+abbrev pub wake_or_none : Entry → Option Entry
+wake_or_none (entry.Round number) = None
+wake_or_none (entry.Enter thread by at reads) = None
+wake_or_none (entry.Wake thread by at reads) = Some (entry.Wake thread by at reads)
+wake_or_none (entry.Work by what) = None
+wake_or_none (entry.Steal by from thread reads) = None
+wake_or_none (entry.Fail by from reads) = None
+wake_or_none (entry.Pass by reads) = None
+
+-- the entry by which a thread wakes
+abbrev pub woken_in : NextStep → Option Entry
+woken_in (next.Adds e) = wake_or_none e
+woken_in next.Looks = None
+woken_in next.Over = None
+
+abbrev pub did_or_none : Entry → Option Did
+did_or_none (entry.Round number) = None
+did_or_none (entry.Enter thread by at reads) = None
+did_or_none (entry.Wake thread by at reads) = None
+did_or_none (entry.Work by what) = Some what
+did_or_none (entry.Steal by from thread reads) = None
+did_or_none (entry.Fail by from reads) = None
+did_or_none (entry.Pass by reads) = None
+
+-- what became of the thread that ran
+abbrev pub did_in : NextStep → Option Did
+did_in (next.Adds e) = did_or_none e
+did_in next.Looks = None
+did_in next.Over = None
+
+-- what an attempt came to
+abbrev pub outcome_in : ℕ → Entry → Outcome
+outcome_in at (entry.Round number) = outcome.Passed at
+outcome_in at (entry.Enter thread by to reads) = outcome.Passed at
+outcome_in at (entry.Wake thread by to reads) = outcome.Passed at
+outcome_in at (entry.Work by what) = outcome.Passed at
+outcome_in at (entry.Steal by from thread reads) = outcome.Stole at thread
+outcome_in at (entry.Fail by from reads) = outcome.Failed at
+outcome_in at (entry.Pass by reads) = outcome.Passed at
