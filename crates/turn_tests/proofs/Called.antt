@@ -1,8 +1,8 @@
 -- What the calls of a core in memory come to, by the entry that was added.
-use Rattle.std.proofs.Common.{◌≡◌, ◌≢◌, ℕ, ◌<◌, ◌⊎◌, ⊎_elim, true, Bool, cond, List, [], ◌∷◌, ◌++◌, length, Option, Some, None, refl, sym, ap, ◌∙◌, subst, arith, ne_eqb}
+use Rattle.std.proofs.Common.{◌≡◌, ◌≢◌, ℕ, ◌⊎◌, ⊎_elim, true, cond, List, [], ◌∷◌, ◌++◌, length, Option, Some, None, refl, sym, ap, ◌∙◌, subst, arith, ne_eqb}
 use Rattle.std.specs.Prelude.{IsNone, IsSomeAnd}
 use Rattle.std.proofs.lemmas.List.{append-nil}
-use Rattle.policy_tree.specs.Meaning.{Meaning, meaning_of}
+use Rattle.policy_tree.specs.Meaning.{Meaning}
 use Rattle.round_model.specs.declared.entry.Did.{Did}
 use Rattle.round_model.specs.declared.entry.Entry.{Entry}
 use Rattle.round_model.specs.declared.entry.Entry.TheVariants as entry
@@ -13,20 +13,19 @@ use Rattle.round_model.specs.declared.turns.NextStep.TheVariants as next
 use Rattle.round_model.specs.After.{after, round_of}
 use Rattle.round_model.specs.Code.Turns.{ActsBy, HasWoken, MayAdd}
 use Rattle.round_model.specs.Entries.{acting_core}
-use Rattle.round_model.specs.Legal.{Legal, LegalNext}
+use Rattle.round_model.specs.Legal.{LegalNext}
 use Rattle.round_model.specs.Rows.{Row}
 use Rattle.round_model.specs.Scenes.{scene_of, waking_next}
 use Rattle.round_model.proofs.Added.{acts_is, no_round}
 use Rattle.round_model.proofs.OwedTotals.{room_for}
 use Rattle.core_state.specs.Logs.{logged}
-use Rattle.core_table.specs.declared.views.View.{View}
 use Rattle.core_table.specs.Logs.{own_log}
 use Rattle.core_table.proofs.Histories.{own_grows}
-use Rattle.core_calls.specs.Steps.{Adds, Entered, HasLetAllIn, HasNoneDue, MayEnter, MayWork, Woken, Worked}
+use Rattle.core_calls.specs.Steps.{Adds, Entered, HasLetAllIn, MayEnter, MayWork, Woken}
 use Rattle.turn_tests.specs.declared.memory_calls.MemoryCalls.{MemoryCalls}
 use Rattle.turn_tests.specs.Follows.{IsSame}
-use Rattle.turn_tests.specs.Memory.{HasGrown, IsNext, IsReady, core_of, fresh_of, history_of, meaning_in_memory, none_due_in, past_of, plan_of, policy_of, view_of}
-use Rattle.turn_tests.specs.Steps.{IsNextStep, did_in, did_or_none, wake_or_none, woken_in}
+use Rattle.turn_tests.specs.Memory.{HasGrown, IsNext, IsReady, core_of, history_of, meaning_in_memory, none_due_in, past_of, plan_of, policy_of, view_of}
+use Rattle.turn_tests.specs.Steps.{IsNextStep, did_in, wake_or_none, woken_in}
 use Rattle.turn_tests.proofs.Growing.{adds_one, longer_told, told}
 use Rattle.turn_tests.proofs.Stepping.{Wakes, arrives, placed_late, rests, wakes_to, woken_or_none, works_by}
 

@@ -1,8 +1,8 @@
 -- What a core's view tells of a history in memory, and how both grow.
-use Rattle.std.proofs.Common.{◌≡◌, ℕ, ◌+◌, ◌<◌, ◌≤◌, true, false, Bool, cond, List, [], ◌∷◌, ◌++◌, find, count_by, length, Some, None, IsTrue, refl, sym, ap, ◌∙◌, subst, arith, eq-eqb}
-use Rattle.std.specs.Prelude.{IsNone, is_some}
+use Rattle.std.proofs.Common.{◌≡◌, ℕ, ◌+◌, ◌<◌, ◌≤◌, true, false, Bool, cond, List, [], ◌∷◌, ◌++◌, find, count_by, length, Some, IsTrue, refl, sym, ap, ◌∙◌, subst, arith, eq-eqb}
+use Rattle.std.specs.Prelude.{IsNone}
 use Rattle.std.proofs.lemmas.List.Sums.{sum_by-cons}
-use mathlib.Core.Option.{some, some-ne-none}
+use mathlib.Core.Option.{some-ne-none}
 use Rattle.policy_tree.specs.declared.typed.Policy.{Policy}
 use Rattle.policy_tree.specs.Meaning.{Meaning, meaning_of}
 use Rattle.policy_eval.specs.Obligations.{MeetsHandlerObligations}
@@ -10,12 +10,10 @@ use Rattle.round_model.specs.declared.entry.Entry.{Entry}
 use Rattle.round_model.specs.declared.plan.Plan.{Plan}
 use Rattle.round_model.specs.After.{after, round_of}
 use Rattle.round_model.specs.Code.Turns.{HasWoken}
-use Rattle.round_model.specs.Entries.{acting_core, acts}
+use Rattle.round_model.specs.Entries.{acting_core}
 use Rattle.round_model.specs.Fits.{Fits}
-use Rattle.round_model.specs.Kinds.{is_round}
 use Rattle.round_model.specs.Legal.{Legal, LegalNext, rounds_begun}
 use Rattle.round_model.specs.Owed.{owed_total}
-use Rattle.round_model.specs.Reads.{round_start}
 use Rattle.round_model.specs.Scenes.{is_due_blocked, waking_next}
 use Rattle.round_model.proofs.Added.{acts_is, no_round, round_stays}
 use Rattle.round_model.proofs.BegunBounds.{counted}
@@ -25,7 +23,6 @@ use Rattle.round_model.proofs.Longer.{begun_more, round_of_more, start_stays}
 use Rattle.round_model.proofs.OwedTotals.{reserve_kept, room_for}
 use Rattle.round_model.proofs.Owing.{none_found}
 use Rattle.core_state.specs.Logs.{logged}
-use Rattle.core_table.specs.declared.views.View.{View}
 use Rattle.core_table.specs.Logs.{own_log}
 use Rattle.core_table.specs.Told.{Agrees}
 use Rattle.core_table.proofs.Histories.{longer, own_grows}

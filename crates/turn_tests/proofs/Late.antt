@@ -1,6 +1,6 @@
 -- Where a core has run its unit no thread is left that it is to let in or to wake, and who has made its attempt has run
 -- its unit.
-use Rattle.std.proofs.Common.{◌≡◌, ℕ, ◌+◌, eqb, ◌||◌, ◌&&◌, ◌⊎◌, inl, inr, ⊎_elim, not, Bool, true, false, cond, List, [], ◌∷◌, ◌++◌, filter, find, length, take, Some, None, refl, sym, ap, ◌∙◌, subst, arith, take_all}
+use Rattle.std.proofs.Common.{◌≡◌, ℕ, eqb, ◌||◌, ◌&&◌, ◌⊎◌, inl, inr, ⊎_elim, not, Bool, true, false, cond, List, [], ◌∷◌, ◌++◌, find, length, Some, refl, sym, ap, ◌∙◌, subst, arith, take_all}
 use Rattle.std.specs.Prelude.{IsNone}
 use Rattle.std.specs.List.{list_any}
 use Rattle.std.proofs.lemmas.Bool.Decides.{nat_tests}
@@ -21,7 +21,7 @@ use Rattle.round_model.specs.Scenes.{entering_next, has_attempted, has_worked, i
 use Rattle.round_model.proofs.Added.{no_round}
 use Rattle.round_model.proofs.Grows.{legal_grows, legal_prefix}
 use Rattle.round_model.proofs.Longer.{done_more, own_more, own_none}
-use Rattle.core_table.proofs.Histories.{bool_cases, by_last, early}
+use Rattle.core_table.proofs.Histories.{by_last, early}
 use Rattle.turn_tests.proofs.Growing.{due_stays, round_same}
 
 -- what finds nothing finds nothing where fewer pass

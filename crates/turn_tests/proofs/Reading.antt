@@ -1,8 +1,7 @@
 -- What a core in memory reads of all cores.
-use Rattle.std.proofs.Common.{◌≡◌, ℕ, ◌+◌, ◌<◌, List, set, length, slice_index, refl, sym, ap, ◌∙◌, subst, arith}
+use Rattle.std.proofs.Common.{◌≡◌, ℕ, ◌+◌, ◌<◌, List, set, length, slice_index, sym, ap, ◌∙◌, subst, arith}
 use mathlib.Core.Logic.{dite}
 use mathlib.Core.Option.{some}
-use lib.ListN.{get_elem?}
 use native.Mathlib.Decide.{ℕ_discrete}
 use Rattle.sched_base.specs.declared.limits.TheConstants.{MAX_CORES}
 use Rattle.policy_tree.specs.Meaning.{Meaning}
@@ -14,10 +13,10 @@ use Rattle.round_model.specs.Choices.{values_in}
 use Rattle.round_model.specs.Cores.{consts_of}
 use Rattle.round_model.specs.Reads.{value_read, values_of}
 use Rattle.core_table.specs.Views.{noted}
-use Rattle.select_phase.specs.Glances.{AreGlanced, seen_in}
+use Rattle.select_phase.specs.Glances.{AreGlanced}
 use Rattle.select_phase.proofs.Reading.{seen_before, seen_now}
 use Rattle.turn_tests.specs.declared.memory_calls.MemoryCalls.{MemoryCalls}
-use Rattle.turn_tests.specs.Memory.{fresh_of, history_of, meaning_in_memory, notes_of, plan_of, view_of}
+use Rattle.turn_tests.specs.Memory.{fresh_of, history_of, meaning_in_memory, plan_of, view_of}
 use Rattle.turn_tests.proofs.Rows.{fresh_each, fresh_noted}
 
 -- of each core below that one the values are those that these reads saw

@@ -1,5 +1,5 @@
 -- What a core in memory has read: its notes are true, no later than a look just now, and grow with each entry.
-use Rattle.std.proofs.Common.{◌≡◌, ℕ, zero, suc, ◌+◌, ◌-◌, ◌<◌, ◌≤◌, max, min, true, false, cond, List, [], ◌∷◌, ◌++◌, length, map, take, slice_index, refl, sym, ap, ap₂, ◌∙◌, subst, arith, take_all, length-take}
+use Rattle.std.proofs.Common.{◌≡◌, ℕ, zero, suc, ◌+◌, ◌-◌, ◌<◌, ◌≤◌, max, true, false, cond, List, [], ◌∷◌, ◌++◌, length, map, take, slice_index, refl, sym, ap, ap₂, ◌∙◌, subst, arith, take_all, length-take}
 use Rattle.std.specs.List.{range_with_len}
 use Rattle.std.proofs.lemmas.List.{append-nil}
 use Rattle.std.proofs.lemmas.List.FromFn.{get_or-map-range_with_len, length-map-range_with_len}

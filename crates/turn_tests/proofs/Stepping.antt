@@ -1,55 +1,45 @@
 -- What serial play's next step is, by what may be called.
-use Rattle.std.proofs.Common.{◌≡◌, ◌≢◌, ℕ, ◌+◌, ◌<◌, max, true, false, Bool, cond, List, [], ◌∷◌, ◌++◌, length, map, slice_index, Option, Some, None, option_map, IfSome, IsSome, IsTrue, refl, sym, ap, ap₂, ◌∙◌, subst, arith}
-use Rattle.std.specs.Prelude.{IsFalse, IsNone, IsSomeAnd}
+use Rattle.std.proofs.Common.{◌≡◌, ℕ, ◌<◌, true, false, Bool, List, [], ◌∷◌, ◌++◌, length, slice_index, Option, Some, None, option_map, refl, sym, ap, ap₂, ◌∙◌, subst, arith}
+use Rattle.std.specs.Prelude.{IsNone, IsSomeAnd}
 use Rattle.std.proofs.lemmas.List.{append_cancel_left, length-append}
-use Rattle.sched_base.specs.declared.task.Task.{Task}
-use Rattle.policy_tree.specs.Meaning.{Meaning, PlaceTree, here, least, meaning_of}
-use Rattle.policy_eval.specs.Orders.{best_of}
-use Rattle.policy_eval.specs.Sights.{pair_values}
-use Rattle.policy_eval.specs.Values.{holds}
+use Rattle.policy_tree.specs.Meaning.{Meaning, PlaceTree, here, least}
 use Rattle.round_model.specs.declared.entry.Did.{Did}
 use Rattle.round_model.specs.declared.entry.Entry.{Entry}
 use Rattle.round_model.specs.declared.entry.Entry.TheVariants as entry
-use Rattle.round_model.specs.declared.past.Past.{Past}
 use Rattle.round_model.specs.declared.plan.Plan.{Plan}
 use Rattle.round_model.specs.declared.plan.Planned.{Planned}
 use Rattle.round_model.specs.declared.state.Blocked.{Blocked}
 use Rattle.round_model.specs.declared.turns.NextStep.{NextStep}
 use Rattle.round_model.specs.declared.turns.NextStep.TheVariants as next
 use Rattle.round_model.specs.After.{after, round_of}
-use Rattle.round_model.specs.Attempts.{attempt_of, attempt_on, attempt_with, present_values, steal_or_fail}
+use Rattle.round_model.specs.Attempts.{attempt_of, attempt_with}
 use Rattle.round_model.specs.Choices.{choice_of}
-use Rattle.round_model.specs.Code.Outcomes.{ReadIn, entry_with, values_at}
-use Rattle.round_model.specs.Code.Past.{StandsFor}
-use Rattle.round_model.specs.Code.Progress.{HasLetIn}
-use Rattle.round_model.specs.Code.Turns.{HasWoken, IsLateStepOf, IsStepOf, placement_by, step_of_dids, with_step}
-use Rattle.round_model.specs.Cores.{Cores}
+use Rattle.round_model.specs.Code.Outcomes.{ReadIn, values_at}
+use Rattle.round_model.specs.Code.Turns.{HasWoken, IsLateStepOf, placement_by, step_of_dids, with_step}
 use Rattle.round_model.specs.FreshReads.{fresh_reads}
-use Rattle.round_model.specs.Reads.{value_read, values_of}
+use Rattle.round_model.specs.Reads.{values_of}
 use Rattle.round_model.specs.Scenes.{entering_next, has_attempted, has_worked, own_entries, scene_of, waking_next}
 use Rattle.round_model.specs.Serial.{SerialState, step_of, with_entry}
-use Rattle.round_model.specs.Work.{before, worked}
+use Rattle.round_model.specs.Work.{worked}
 use Rattle.round_model.proofs.Bounded.{bounds_law}
 use Rattle.round_model.proofs.Bursts.{have_bursts}
 use Rattle.round_model.proofs.Keeping.{bounds_hold}
 use Rattle.round_model.proofs.Outcomes.{choice_same}
 use Rattle.round_model.proofs.SerialSteps.{one_word, target_some}
 use Rattle.round_model.proofs.Turning.{enters, is_late, late_entry, late_work, wakes}
-use Rattle.core_state.specs.declared.logged.Logged.{Logged}
 use Rattle.core_table.specs.declared.views.Role.{Role}
 use Rattle.core_table.specs.declared.views.Role.TheVariants as role
 use Rattle.core_table.specs.declared.views.View.{View}
-use Rattle.core_table.specs.Logs.{own_log}
 use Rattle.core_table.specs.Told.{IsTrueNote}
 use Rattle.core_table.specs.Views.{noted}
 use Rattle.core_table.proofs.Histories.{own_is}
 use Rattle.core_calls.specs.Calls.{core_by}
-use Rattle.core_calls.specs.Steps.{HasLetAllIn, MayEnter, MayWake, MayWork}
+use Rattle.core_calls.specs.Steps.{HasLetAllIn, MayEnter, MayWork}
 use Rattle.select_phase.specs.declared.looks.Look.{Look}
-use Rattle.select_phase.specs.Seen.{AreLate, HasReadAll, Looked, values_read}
+use Rattle.select_phase.specs.Seen.{AreLate, values_read}
 use Rattle.steal_phase.specs.Attempts.{MayAttempt}
 use Rattle.turn_tests.specs.declared.memory_calls.MemoryCalls.{MemoryCalls}
-use Rattle.turn_tests.specs.Memory.{IsReady, core_of, fresh_of, history_of, meaning_in_memory, none_due_in, past_of, plan_of, policy_of, view_of, viewed}
+use Rattle.turn_tests.specs.Memory.{IsReady, core_of, fresh_of, history_of, meaning_in_memory, past_of, plan_of, view_of}
 use Rattle.turn_tests.specs.Steps.{IsNextStep, moment_of}
 use Rattle.turn_tests.proofs.Late.{attempted_worked, worked_late}
 use Rattle.turn_tests.proofs.Rows.{notes_late, notes_true}
@@ -131,9 +121,11 @@ module _ (it : MemoryCalls) (ready : IsReady it) where
   pub arrives : (thread : ℕ) (step : NextStep) → MayEnter (view_of it) a thread → IsNextStep it None step → (at : ℕ) × (step ≡ next.Adds (entry.Enter thread a at reads))
   arrives thread step may is =
       let target = target_some p plan.cores (values_at p plan h reads) a there in
-      let found = subst (λ (own : List Entry). IsSomeAnd (entering_next plan (round_of h) a own) (λ (t : Planned). t.id ≡ thread)) (own_is a h) may.next in
-      (target.0, adds_by None step (entry.Enter thread a target.0 reads)
-      (enters p plan h a (λ c. None) fresh reads thread target.0 (fresh_same p plan h a) refl (named_entering (entering_next plan (round_of h) a (own_entries h a)) thread found) target.1) is)
+      let found = subst (λ (own : List Entry). IsSomeAnd (entering_next plan (round_of h) a own) (λ (t : Planned). t.id ≡ thread)) (own_is a h) may.next in (
+        target.0,
+        adds_by None step (entry.Enter thread a target.0 reads)
+            (enters p plan h a (λ c. None) fresh reads thread target.0 (fresh_same p plan h a) refl (named_entering (entering_next plan (round_of h) a (own_entries h a)) thread found) target.1) is,
+      )
 
   -- a thread wakes, or none is due
   pub data Wakes (step : NextStep) : Type 0 where
@@ -144,9 +136,11 @@ module _ (it : MemoryCalls) (ready : IsReady it) where
   wakes_by : (b : Blocked) (step : NextStep) → waking_next (round_of h) (after p plan h a) ≡ Some b → HasLetAllIn (view_of it) a → IsNextStep it None step
       → (at : ℕ) × (step ≡ next.Adds (entry.Wake b.task.id a at reads))
   wakes_by b step found entered is =
-      let target = target_some p plan.cores (values_at p plan h reads) a there in
-      (target.0, adds_by None step (entry.Wake b.task.id a target.0 reads)
-      (wakes p plan h a (λ c. None) fresh reads b.task.id target.0 (fresh_same p plan h a) refl (let_in entered) (sym (ap (option_map (λ (x : Blocked). x.task.id)) found)) target.1) is)
+      let target = target_some p plan.cores (values_at p plan h reads) a there in (
+        target.0,
+        adds_by None step (entry.Wake b.task.id a target.0 reads)
+            (wakes p plan h a (λ c. None) fresh reads b.task.id target.0 (fresh_same p plan h a) refl (let_in entered) (sym (ap (option_map (λ (x : Blocked). x.task.id)) found)) target.1) is,
+      )
 
   pub woken_or_none : (step : NextStep) (found : Option Blocked) → waking_next (round_of h) (after p plan h a) ≡ found → HasLetAllIn (view_of it) a → IsNextStep it None step → Wakes step
   woken_or_none step None none entered is = rests (none_is (waking_next (round_of h) (after p plan h a)) none)
@@ -173,9 +167,11 @@ module _ (it : MemoryCalls) (ready : IsReady it) where
       let word = unit_word in
       let none = subst (λ (own : List Entry). has_worked own ≡ false) (own_is a h) may.first in
       let marked = ap (λ (r : Role). is_marked r) may.marked in
-      let woken = none_of (waking_next (round_of h) (after p plan h a)) (ready.agrees.role.due marked) in
-      (word.0, late_adds None step (entry.Work a word.0) (let_in may.entered) woken
-      (subst (λ (dids : List Did). IsLateStepOf p plan h a None (step_of_dids a dids)) word.1 (late_work p plan h a None (unattempted none) none)) is)
+      let woken = none_of (waking_next (round_of h) (after p plan h a)) (ready.agrees.role.due marked) in (
+        word.0,
+        late_adds None step (entry.Work a word.0) (let_in may.entered) woken
+            (subst (λ (dids : List Did). IsLateStepOf p plan h a None (step_of_dids a dids)) word.1 (late_work p plan h a None (unattempted none) none)) is,
+      )
 
   -- The attempt.
   module _ (look : Look) (may : MayAttempt (view_of it) look) where

@@ -1,5 +1,5 @@
 -- What an attempt comes to, by its entry.
-use Rattle.std.proofs.Common.{◌≡◌, ℕ, ◌<◌, Bool, true, false, cond, List, [], ◌∷◌, ◌++◌, length, Option, Some, None, refl, sym, ap, ◌∙◌, subst}
+use Rattle.std.proofs.Common.{◌≡◌, ℕ, ◌<◌, Bool, true, false, cond, length, Option, Some, None, refl, sym, ap, ◌∙◌, subst}
 use Rattle.sched_base.specs.declared.task.Task.{Task}
 use Rattle.policy_eval.specs.Orders.{best_of}
 use Rattle.policy_eval.specs.Sights.{pair_values}
@@ -22,7 +22,6 @@ use Rattle.core_table.specs.declared.views.View.{View}
 use Rattle.core_table.proofs.Positions.{above}
 use Rattle.core_calls.specs.Calls.{Tries}
 use Rattle.select_phase.specs.declared.looks.Look.{Look}
-use Rattle.steal_phase.specs.declared.outcome.Outcome.TheVariants as outcome
 use Rattle.steal_phase.specs.Attempts.{HasAdded, IsDrawn, MayAttempt, victim_in}
 use Rattle.steal_phase.proofs.Ending.{fails_at, passes, steals_at}
 use Rattle.turn_tests.specs.declared.memory_calls.MemoryCalls.{MemoryCalls}

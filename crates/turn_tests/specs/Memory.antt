@@ -1,5 +1,5 @@
 -- What a core of a history in memory knows, and what it rests on.
-use Rattle.std.specs.Prelude.{◌≡◌, ◌≢◌, ℕ, zero, suc, ◌+◌, ◌-◌, ◌<◌, ◌≤◌, max, Bool, false, List, [], ◌∷◌, ◌++◌, length, map, take}
+use Rattle.std.specs.Prelude.{◌≡◌, ℕ, zero, suc, ◌+◌, ◌-◌, ◌<◌, ◌≤◌, max, Bool, List, [], ◌∷◌, ◌++◌, length, map, take}
 use Rattle.sched_base.specs.declared.limits.TheConstants.{MAX_ENTRIES}
 use Rattle.policy_tree.specs.declared.typed.Policy.{Policy}
 use Rattle.policy_tree.specs.Meaning.{Meaning, meaning_of}
@@ -8,7 +8,7 @@ use Rattle.round_model.specs.declared.entry.Entry.{Entry}
 use Rattle.round_model.specs.declared.entry.Entry.TheVariants as entry
 use Rattle.round_model.specs.declared.past.Past.{Past}
 use Rattle.round_model.specs.declared.plan.Plan.{Plan}
-use Rattle.round_model.specs.After.{after, round_of}
+use Rattle.round_model.specs.After.{round_of}
 use Rattle.round_model.specs.Cores.{core_numbers}
 use Rattle.round_model.specs.Fits.{Fits}
 use Rattle.round_model.specs.FreshReads.{touched_from}
@@ -17,7 +17,6 @@ use Rattle.round_model.specs.Owed.{owed_total}
 use Rattle.round_model.specs.Reads.{round_start, value_read}
 use Rattle.round_model.specs.SerialEnds.{RoundFits}
 use Rattle.round_model.specs.Code.Past.{IsPastOf, StandsFor}
-use Rattle.core_state.specs.declared.logged.Logged.{Logged}
 use Rattle.core_table.specs.declared.views.Note.{Note}
 use Rattle.core_table.specs.declared.views.Role.TheVariants as role
 use Rattle.core_table.specs.declared.views.View.{View}

@@ -43,10 +43,7 @@ impl CoreCalls for MemoryCalls<'_> {
     fn work<R: Wait>(&mut self, rt: &R, _round: u32) -> Did {
         match did(self.next(None)) {
             Some(did) => {
-                let entry = Entry::Work {
-                    by: self.core,
-                    did,
-                };
+                let entry = Entry::Work { by: self.core, did };
                 self.add(rt, &entry);
                 did
             }
@@ -60,11 +57,7 @@ impl CoreCalls for MemoryCalls<'_> {
         Look {
             by: self.core,
             reads,
-            choice: choice(
-                self.policy,
-                &values[..self.plan.cores as usize],
-                self.core,
-            ),
+            choice: choice(self.policy, &values[..self.plan.cores as usize], self.core),
         }
     }
 

@@ -6,9 +6,15 @@ mod calling;
 mod making;
 pub mod memory_calls;
 mod outcomes;
+mod playing;
 mod reads;
 mod steps;
 #[cfg(test)]
 mod tests;
+#[cfg(test)]
+mod texts;
+#[cfg(test)]
+mod turnstile;
 
 pub use crate::memory_calls::MemoryCalls;
+pub use crate::playing::play_all;

@@ -1,11 +1,14 @@
 //! A history in memory from its beginning on: the rounds that begin, and whose turn it is.
 
-ghost use Rattle.std.specs.Prelude.{◌≡◌, ◌<◌, [], IfOk, IsTrue};
+ghost use Rattle.std.specs.Prelude.{◌≡◌, ◌<◌, ◌≤◌, [], IfOk, IsTrue, length};
+ghost use Rattle.sched_base.specs.declared.limits.TheConstants.{MAX_ENTRIES};
 ghost use Rattle.policy_tree.specs.Meaning.{meaning_of};
 ghost use Rattle.policy_eval.specs.Obligations.{MeetsHandlerObligations};
+ghost use Rattle.round_model.specs.After.{round_of};
 ghost use Rattle.round_model.specs.Fits.{Fits};
+ghost use Rattle.round_model.specs.Legal.{Legal};
 ghost use Rattle.turn_tests.specs.Memory.{HasBegun, IsKept, IsReady, IsSameMemory, MayBegin, core_of, history_of};
-ghost use Rattle.turn_tests.specs.Memory.{plan_of, policy_of};
+ghost use Rattle.turn_tests.specs.Memory.{meaning_in_memory, plan_of, policy_of};
 
 use crate::memory_calls::MemoryCalls;
 use policy_tree::Policy;
@@ -84,10 +87,21 @@ impl<'a> MemoryCalls<'a> {
         self.none_due = false;
     }
 
-    /// The entries so far.
-    pub fn history(&self) -> &History
-        ensures { result.now ≡ history_of self.now }
+    /// The number of the open round.
+    pub fn round(&self) -> u32
+        requires { IsKept self.now }
+        ensures { result ≡ round_of (history_of self.now) }
     {
-        &self.history
+        self.past.rounds()
+    }
+
+    /// The entries, which are a legal history.
+    pub fn into_history(self) -> History
+        requires { IsKept self }
+        ensures history { result ≡ history_of self.entry }
+        ensures legal { Legal (meaning_in_memory self.entry) (plan_of self.entry) result }
+        ensures few { length result ≤ MAX_ENTRIES }
+    {
+        self.history
     }
 }

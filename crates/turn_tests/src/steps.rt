@@ -21,14 +21,7 @@ impl MemoryCalls<'_> {
         ensures acts { ActsBy (core_of self.now) result }
     {
         let fresh = fresh_reads(self.plan, &self.history);
-        next_step(
-            self.policy,
-            self.plan,
-            &self.past,
-            self.core,
-            &fresh,
-            look,
-        )
+        next_step(self.policy, self.plan, &self.past, self.core, &fresh, look)
     }
 }
 

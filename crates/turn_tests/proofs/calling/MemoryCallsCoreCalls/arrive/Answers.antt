@@ -1,5 +1,3 @@
-use Rattle.std.proofs.Common.{ℕ}
-use Rattle.turn_tests.specs.Memory.{IsReady, view_of}
 use Rattle.turn_tests.proofs.Called.{has_entered, next_at, no_other, step_ready}
 use Rattle.turn_tests.proofs.Stepping.{arrives}
 use Rattle.turn_tests.proofs.calling.MemoryCallsCoreCalls.arrive.Goals as goal

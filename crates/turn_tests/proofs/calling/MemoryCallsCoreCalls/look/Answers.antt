@@ -1,6 +1,4 @@
-use Rattle.std.proofs.Common.{◌≡◌, ℕ, List, [], refl, sym, subst}
-use Rattle.core_table.specs.Told.{IsKnown}
-use Rattle.policy_tree.specs.Meaning.{meaning_of}
+use Rattle.std.proofs.Common.{[], refl, sym, subst}
 use Rattle.select_phase.specs.Seen.{AreLate}
 use Rattle.select_phase.proofs.Deciding.{all_fit, has_looked}
 use Rattle.turn_tests.specs.Memory.{core_of, meaning_in_memory, plan_of, view_of}

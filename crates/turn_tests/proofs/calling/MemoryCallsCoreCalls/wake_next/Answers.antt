@@ -18,6 +18,7 @@ returns-in-Some-clause-woken g c =
 
 pub returns-in-None-clause-ready : goal.returns-in-None-clause-ready
 returns-in-None-clause-ready g c =
-    let it = c.args.self.now in let ready = c.requires.ready in
-    (marked_ready it ready (none_woken it ready c.next.result c.requires.may.entered c.next.ensures.step (sym c.woken.ensures ∙ c.in-None.is)),
-    record { policy = refl; plan = refl; core = refl; others = λ core apart. refl })
+    let it = c.args.self.now in let ready = c.requires.ready in (
+      marked_ready it ready (none_woken it ready c.next.result c.requires.may.entered c.next.ensures.step (sym c.woken.ensures ∙ c.in-None.is)),
+      record { policy = refl; plan = refl; core = refl; others = λ core apart. refl },
+    )

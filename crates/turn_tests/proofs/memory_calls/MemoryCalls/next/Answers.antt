@@ -1,6 +1,6 @@
-use Rattle.std.proofs.Common.{◌∙◌, List, ℕ, Option, None, sym, ap, subst, refl}
+use Rattle.std.proofs.Common.{◌∙◌, List, ℕ, sym, ap, subst, refl}
 use Rattle.round_model.specs.Code.Outcomes.{ReadIn}
-use Rattle.turn_tests.specs.Memory.{core_of, fresh_of, history_of, meaning_in_memory, plan_of}
+use Rattle.turn_tests.specs.Memory.{core_of, history_of, meaning_in_memory, plan_of}
 use Rattle.turn_tests.specs.Steps.{moment_of}
 use Rattle.round_model.specs.Code.Turns.{with_step}
 use Rattle.turn_tests.proofs.Rows.{fresh_read}

@@ -1,4 +1,4 @@
-use Rattle.std.proofs.Common.{◌≡◌, ◌<◌, ◌≤◌, ℕ, List, slice_index, length, ap, sym, subst, ◌∙◌, arith}
+use Rattle.std.proofs.Common.{sym, subst, arith}
 use Rattle.turn_tests.specs.Memory.{history_of, meaning_in_memory, plan_of}
 use Rattle.round_model.specs.Code.Outcomes.{ReadIn}
 use Rattle.turn_tests.proofs.Reading.{glanced}
