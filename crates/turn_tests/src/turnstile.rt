@@ -29,6 +29,8 @@ impl Turnstile {
 impl Gate for Turnstile {
     ghost admits = { λ _ _ _. true };
 
+    ghost passed = { λ _ _ _. Unit {0} };
+
     fn pass<R: Wait>(&self, _rt: &R, core: u32, _round: u32) {
         let before = self.passed.load(Ordering::SeqCst);
         let now = before.wrapping_mul(10).wrapping_add(core).wrapping_add(1);
