@@ -1,4 +1,5 @@
 pub mod Assigning
+mod Beside
 pub mod Best
 pub mod Bounds
 pub mod Evaluable

@@ -19,6 +19,10 @@ unfoldable pub pair_values : CoreValues → CoreValues → Assignment
 pair_values own victim =
     assigned own.nr own.load victim.nr victim.load 1 0 own.consts victim.consts no_attributes
 
+-- what filter and choice see of the acting core, before they are asked about another
+unfoldable pub own_values : CoreValues → Assignment
+own_values own = assigned own.nr own.load 0 0 1 0 own.consts no_attributes no_attributes
+
 -- what placement sees of a core
 unfoldable pub core_values : CoreValues → Assignment
 core_values core = assigned 0 0 core.nr core.load 1 0 no_attributes core.consts no_attributes

@@ -1,7 +1,8 @@
 //! The values under which a part of a policy is evaluated.
 
 ghost use Rattle.std.specs.Prelude.{◌≡◌, ◌+◌, ◌≤◌, ◌++◌, pos, map, take, drop};
-ghost use Rattle.policy_eval.specs.Sights.{core_values, event_values, pair_values, thread_values};
+ghost use Rattle.policy_eval.specs.declared.env.CoreValues.{CoreValues};
+ghost use Rattle.policy_eval.specs.Sights.{core_values, event_values, own_values, pair_values, thread_values};
 
 use policy_tree::variables;
 use sched_base::{MAX_ATTRIBUTES, MAX_LOAD, MAX_VARIABLES, Task};
@@ -32,6 +33,32 @@ impl Env {
     {
         let numbers = [own.nr, own.load as u32, victim.nr, victim.load as u32, 1, 0];
         assigned(&numbers, &own.consts, &victim.consts, &NO_ATTRIBUTES)
+    }
+
+    /// What filter and choice see of the acting core, before they are asked about another.
+    pub fn of_own(own: &CoreValues) -> Env
+        requires { own.now.load ≤ MAX_LOAD }
+        ensures { result.vals ≡ own_values own.now }
+    {
+        let numbers = [own.nr, own.load as u32, 0, 0, 1, 0];
+        assigned(&numbers, &own.consts, &NO_ATTRIBUTES, &NO_ATTRIBUTES)
+    }
+
+    /// What filter and choice see where the acting core, of which this tells, is asked about that other core. The
+    /// acting core's part stays as it lies, so that many cores may be asked about one after the other.
+    pub fn with_victim(&self, victim: &CoreValues) -> Env
+        requires { victim.now.load ≤ MAX_LOAD }
+        ensures { (own : CoreValues) → self.now.vals ≡ own_values own → result.vals ≡ pair_values own victim.now }
+    {
+        let mut vals = self.vals;
+        vals[variables::OTHER_NR as usize] = i64::from(victim.nr);
+        vals[variables::OTHER_LOAD as usize] = i64::from(victim.load as u32);
+        fill(
+            &mut vals,
+            variables::OTHER_ATTRIBUTES as usize,
+            &victim.consts,
+        );
+        Env { vals }
     }
 
     /// What placement sees of a core.

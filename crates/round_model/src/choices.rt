@@ -7,7 +7,7 @@ ghost use Rattle.policy_eval.specs.Fitting.{CoreFits};
 ghost use Rattle.policy_eval.specs.Evaluable.{IsEvaluable};
 ghost use Rattle.policy_eval.specs.Orders.{best_of};
 ghost use Rattle.policy_eval.specs.Resolved.{IsResolved};
-ghost use Rattle.policy_eval.specs.Sights.{core_values};
+ghost use Rattle.policy_eval.specs.Sights.{core_values, own_values};
 ghost use Rattle.policy_eval.specs.Values.{value_of};
 ghost use Rattle.std.specs.List.{range_with_len};
 ghost use Rattle.round_model.specs.Choices.{choice_of, is_candidate as may_be_victim, IsSeenWidely, is_less};
@@ -27,12 +27,13 @@ pub fn choice(policy: &Policy, values: &[CoreValues], own: CoreId) -> Option<Cor
     ensures choice { result ≡ choice_of (meaning_of policy.now) (length values.now) (values_in values.now) own }
     ensures there { IfSome result (λ core. core < length values.now) }
 {
+    let alone = Env::of_own(&values[own as usize]);
     let mut chosen = None;
     for at in (0..values.len()).rev() {
         let core = at as CoreId;
-        if is_candidate(policy, values, own, core) {
+        if is_candidate(policy, values, own, &alone, core) {
             chosen = Some(match chosen {
-                Some(later) if prefers(policy, values, own, later, core) => later,
+                Some(later) if prefers(policy, values, own, &alone, later, core) => later,
                 _ => core,
             });
         }
@@ -40,43 +41,48 @@ pub fn choice(policy: &Policy, values: &[CoreValues], own: CoreId) -> Option<Cor
     chosen
 }
 
-/// Whether the core `own` may steal from `core`.
-fn is_candidate(policy: &Policy, values: &[CoreValues], own: CoreId, core: CoreId) -> bool
+/// Whether the core `own`, of which `alone` tells, may steal from `core`.
+fn is_candidate(
+    policy: &Policy,
+    values: &[CoreValues],
+    own: CoreId,
+    alone: &Env,
+    core: CoreId,
+) -> bool
     requires policy { IsResolved (meaning_of policy.now) }
     requires values { All (CoreFits (meaning_of policy.now)) values.now }
     requires own { own < length values.now }
+    requires alone { alone.now.vals ≡ own_values (values_in values.now own) }
     requires core { core < length values.now }
     ensures { result ≡ may_be_victim (meaning_of policy.now) (values_in values.now) own core }
 {
     if own == core {
         return false;
     }
-    holds(
-        &policy.filter,
-        &Env::of_pair(&values[own as usize], &values[core as usize]),
-    )
+    holds(&policy.filter, &alone.with_victim(&values[core as usize]))
 }
 
-/// Whether the core `own` prefers the core `first` to the core `second`.
+/// Whether the core `own`, of which `alone` tells, prefers the core `first` to the core `second`.
 fn prefers(
     policy: &Policy,
     values: &[CoreValues],
     own: CoreId,
+    alone: &Env,
     first: CoreId,
     second: CoreId,
 ) -> bool
     requires policy { IsResolved (meaning_of policy.now) }
     requires values { All (CoreFits (meaning_of policy.now)) values.now }
     requires own { own < length values.now }
+    requires alone { alone.now.vals ≡ own_values (values_in values.now own) }
     requires first { first < length values.now }
     requires second { second < length values.now }
     ensures { result ≡ prefers_core (meaning_of policy.now) (values_in values.now) own first second }
 {
-    let own = &values[own as usize];
     better(
         &policy.choose,
-        &Env::of_pair(own, &values[first as usize]),
-        &Env::of_pair(own, &values[second as usize]),
+        &alone.with_victim(&values[first as usize]),
+        &alone.with_victim(&values[second as usize]),
     )
 }
 

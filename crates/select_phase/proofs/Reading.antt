@@ -1,5 +1,6 @@
 -- What each read adds to what a seat has read.
 use Rattle.std.proofs.Common.{◌≡◌, ℕ, suc, ◌+◌, ◌<◌, ◌≤◌, List, [], ◌∷◌, ◌++◌, length, set, get_or, take, slice_get, Some, sym, ap, ◌∙◌, subst, arith, get_or-set_same, get_or-set_other, slice_index}
+use Rattle.std.proofs.lemmas.List.{length_push}
 use Rattle.std.proofs.Math.ListN.{get_or-append}
 use Rattle.std.proofs.Math.Seq.{get_or-append_seam}
 use Rattle.std.proofs.lemmas.Option.{get_or_from_slice_get}
@@ -21,7 +22,7 @@ use Rattle.core_table.specs.declared.views.Note.{Note}
 use Rattle.core_table.specs.declared.views.View.{View}
 use Rattle.core_table.specs.Views.{meaning_in, noted, noting}
 use Rattle.core_table.specs.Told.{Agrees, Each}
-use Rattle.select_phase.specs.Seen.{HasMoreNotes, HasRead}
+use Rattle.select_phase.specs.Seen.{AreAll, HasMoreNotes, HasRead}
 use Rattle.select_phase.specs.Glances.{seen_in}
 
 pub one_more : (v v1 v2 : View) (x : Note) → HasMoreNotes v v1 → v2 ≡ noting x v1 → HasMoreNotes v v2
@@ -104,3 +105,8 @@ late_more v0 v reads longer k at pushed count m late latest i x there low = dite
     let below : x.core < k = omega arith in
     let position : slice_index longer x.core ≡ slice_index reads x.core = ap (λ (l : List ℕ). slice_index l x.core) pushed ∙ read_at reads x.core at (omega arith) in
     let before = late i x there below in omega arith)
+
+-- each read is told
+pub all_more : (v0 v w : View) (x : Note) (reads longer : List ℕ) (at : ℕ) → w ≡ noting x v → longer ≡ reads ++ at ∷ [] → AreAll v0 v reads → AreAll v0 w longer
+all_more v0 v w x reads longer at is pushed all =
+    ap (λ (u : View). length u.notes) is ∙ (let count : suc (length v.notes) ≡ length longer + length v0.notes = omega (arith, ap length pushed, length_push reads at, all) in count)

@@ -1,5 +1,5 @@
 -- What a seat has read of all cores, and what follows from it.
-use Rattle.std.specs.Prelude.{◌≡◌, ◌≢◌, ◌↔◌, ℕ, ◌<◌, ◌≤◌, List, [], ◌++◌, length, slice_index, IfSome, None, Some}
+use Rattle.std.specs.Prelude.{◌≡◌, ◌≢◌, ◌↔◌, ℕ, ◌+◌, ◌<◌, ◌≤◌, List, [], ◌++◌, length, slice_index, IfSome, None, Some}
 use mathlib.Core.Option.{some}
 use lib.ListN.{get_elem?}
 use Rattle.policy_tree.specs.Meaning.{PlaceTree, here, least}
@@ -31,6 +31,10 @@ pub record HasReadAll (v : View) (reads : List ℕ) (seen : ℕ → CountAndLoad
 -- no read is earlier than what the seat knew of its core before
 abbrev pub AreLate : View → List ℕ → Type 0
 AreLate before reads = Each (λ x. x.core < length reads → x.at ≤ slice_index reads x.core) before.notes
+
+-- no more was read than these
+abbrev pub AreAll : (before now : View) → List ℕ → Type 0
+AreAll before now reads = length now.notes ≡ length reads + length before.notes
 
 -- what a policy may ask of each core, by what was read
 abbrev pub values_read : View → (ℕ → CountAndLoad) → ℕ → CoreValues

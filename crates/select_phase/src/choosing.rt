@@ -2,9 +2,9 @@
 
 ghost use Rattle.std.specs.Prelude.{◌≡◌, ◌<◌};
 ghost use Rattle.core_table.specs.Public.{IsOf, plan_of, policy_of, view_of};
-ghost use Rattle.select_phase.specs.Seen.{AreLate, HasMoreNotes, Looked};
+ghost use Rattle.select_phase.specs.Seen.{AreAll, AreLate, HasMoreNotes, Looked};
 
-use crate::glances::glance;
+use crate::glances::{NOTHING_READ, glance};
 use crate::looks::Look;
 use core_table::{Seat, Table};
 use policy_tree::Policy;
@@ -20,12 +20,14 @@ pub fn look(table: &Table, seat: &mut Seat, policy: &Policy, core: CoreId) -> Lo
     ensures by { result.by ≡ core }
     ensures looked { Looked (view_of seat.new) result }
     ensures late { AreLate (view_of seat.old) result.reads }
+    ensures all { AreAll (view_of seat.old) (view_of seat.new) result.reads }
 {
-    let seen = glance(table, seat);
-    let values = &seen.values[..table.cores() as usize];
+    let mut values = NOTHING_READ;
+    let reads = glance(table, seat, &mut values);
+    let values = &values[..table.cores() as usize];
     Look {
         by: core,
-        reads: seen.reads,
+        reads,
         choice: choice(policy, values, core),
     }
 }

@@ -3,31 +3,25 @@
 ghost use Rattle.std.specs.Prelude.{◌≤◌};
 ghost use Rattle.core_table.specs.Public.{IsOf, plan_of, view_of};
 ghost use Rattle.core_table.specs.Told.{IsKnown};
-ghost use Rattle.select_phase.specs.Seen.{AreLate, HasMoreNotes};
+ghost use Rattle.select_phase.specs.Seen.{AreAll, AreLate, HasMoreNotes};
 ghost use Rattle.select_phase.specs.Glances.{AreGlanced};
 
 use core_table::{Seat, Table};
 use policy_eval::CoreValues;
 use sched_base::{MAX_ATTRIBUTES, MAX_CORES, Reads};
 
-/// Of each core the position at which it was read, and what the policy may ask of it by that.
-#[derive(Drop)]
-pub(crate) struct Glances {
-    pub(crate) reads: Reads,
-    pub(crate) values: [CoreValues; MAX_CORES],
-}
-
-/// Reads each core once, in the order of their numbers.
-pub(crate) fn glance(table: &Table, seat: &mut Seat) -> Glances
+/// Reads each core once, in the order of their numbers: of each the position at which it was read, and in its place
+/// what the policy may ask of it by that.
+pub(crate) fn glance(table: &Table, seat: &mut Seat, values: &mut [CoreValues; MAX_CORES]) -> Reads
     requires seat { IsOf table.now seat.old }
     requires some { 1 ≤ (plan_of table.now).cores }
     ensures seat { IsOf table.now seat.new × HasMoreNotes (view_of seat.old) (view_of seat.new) }
     ensures known { IsKnown (view_of seat.new) }
-    ensures seen { AreGlanced (view_of seat.new) result.reads result.values }
-    ensures late { AreLate (view_of seat.old) result.reads }
+    ensures seen { AreGlanced (view_of seat.new) result values.new }
+    ensures late { AreLate (view_of seat.old) result }
+    ensures all { AreAll (view_of seat.old) (view_of seat.new) result }
 {
     let mut reads = Reads::empty();
-    let mut values = [NO_VALUES; MAX_CORES];
     for core in 0..table.cores() {
         let read = table.read(seat, core);
         reads.push(read.at);
@@ -37,8 +31,11 @@ pub(crate) fn glance(table: &Table, seat: &mut Seat) -> Glances
             consts: *table.consts(core),
         };
     }
-    Glances { reads, values }
+    reads
 }
+
+/// What is known of all cores before any is read.
+pub(crate) const NOTHING_READ: [CoreValues; MAX_CORES] = [NO_VALUES; MAX_CORES];
 
 /// What is known of a core that isn't there.
 const NO_VALUES: CoreValues = CoreValues {

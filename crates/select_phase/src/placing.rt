@@ -2,9 +2,9 @@
 
 ghost use Rattle.std.specs.Prelude.{◌≡◌, ◌<◌};
 ghost use Rattle.core_table.specs.Public.{IsOf, plan_of, policy_of, view_of};
-ghost use Rattle.select_phase.specs.Seen.{AreLate, HasMoreNotes, Placed};
+ghost use Rattle.select_phase.specs.Seen.{AreAll, AreLate, HasMoreNotes, Placed};
 
-use crate::glances::glance;
+use crate::glances::{NOTHING_READ, glance};
 use core_table::{Seat, Table};
 use policy_tree::{PlaceRule, Policy};
 use round_model::target;
@@ -19,13 +19,15 @@ pub fn place(table: &Table, seat: &mut Seat, policy: &Policy, core: CoreId) -> (
     ensures seat { IsOf table.now seat.new × HasMoreNotes (view_of seat.old) (view_of seat.new) }
     ensures placed { Placed (view_of seat.new) core result.0 result.1 }
     ensures late { AreLate (view_of seat.old) result.1 }
+    ensures all { AreAll (view_of seat.old) (view_of seat.new) result.1 }
 {
     match &policy.place {
         PlaceRule::Here => (core, Reads::empty()),
         PlaceRule::Least(_) => {
-            let seen = glance(table, seat);
-            let values = &seen.values[..table.cores() as usize];
-            (target(policy, values, core), seen.reads)
+            let mut values = NOTHING_READ;
+            let reads = glance(table, seat, &mut values);
+            let values = &values[..table.cores() as usize];
+            (target(policy, values, core), reads)
         }
     }
 }
