@@ -63,7 +63,7 @@ module _ (a n : ℕ) (v w x : View) (s : HasDrawn a n v w) (did : Did) (work : W
 
   -- so the core may look
   pub may_look : MayLook x
-  may_look = record { of_core = subst (IsSeatOf x) (sym (core_is x a work.adds.added.of_core)) work.adds.added.of_core; worked = has_run; free = work.adds.added.free }
+  may_look = record { of_core = subst (IsSeatOf x) (sym (core_is x a work.adds.added.of_core)) work.adds.added.of_core; worked = has_run; first = none_tried; free = work.adds.added.free }
 
   -- and by its look it may make its attempt
   pub may_attempt : (y : View) (look : Look) → LooksAt look x y → MayAttempt y look

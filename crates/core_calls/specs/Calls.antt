@@ -1,6 +1,6 @@
 -- The calls of a core in its turn: what each needs that no other file says, and what comes of it.
-use Rattle.std.specs.Prelude.{◌≡◌, ℕ, [], IsTrue}
-use Rattle.round_model.specs.Scenes.{has_worked}
+use Rattle.std.specs.Prelude.{◌≡◌, ℕ, [], IsFalse, IsTrue}
+use Rattle.round_model.specs.Scenes.{has_attempted, has_worked}
 use Rattle.core_table.specs.declared.views.Role.{Role}
 use Rattle.core_table.specs.declared.views.Role.TheVariants as role
 use Rattle.core_table.specs.declared.views.View.{View}
@@ -19,13 +19,15 @@ core_by role.Spent = 0
 abbrev pub core_in : View → ℕ
 core_in v = core_by v.role
 
--- the core may look at all cores: it has run its unit, and holds nothing
+-- the core may look at all cores: it has run its unit, has made no attempt in the round, and holds nothing
 pub record MayLook (v : View) : Type 0 where
   pub of_core : IsSeatOf v (core_in v)
   pub worked : IsTrue (has_worked (own_entries_in v))
+  pub first : IsFalse (has_attempted (own_entries_in v))
   pub free : v.held ≡ []
 
--- the core looked: it read each core once, none earlier than it knew it before, and chose by that. It did nothing else
+-- the core looked: it has a read of each core, none earlier than it knew it before, and chose by these. Nothing but
+-- notes of reads came to it
 pub record LooksAt (look : Look) (before now : View) : Type 0 where
   pub by : look.by ≡ core_in before
   pub looked : Looked now look

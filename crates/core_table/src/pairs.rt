@@ -15,8 +15,8 @@ use sched_base::{CoreId, Pos};
 use std::sync::Wait;
 
 impl Table {
-    /// Two different cores, in any order. The one with the lower number is taken first, so that no two threads wait
-    /// for each other.
+    /// Two different cores, in any order. The one with the lower number is taken first. Where all threads do so, no two
+    /// of them wait for each other; no clause says either.
     pub fn hold_two<R: Wait>(&self, rt: &R, seat: &mut Seat, a: CoreId, b: CoreId) -> HeldTwo
         requires seat { IsOf self.now seat.old }
         requires different { a ≢ b }

@@ -73,8 +73,8 @@ fn take_back(
     (seat, tally)
 }
 
-/// The cores from this one on take their turns, each in a thread of its own. What they come to is counted on the way
-/// back.
+/// The cores from this one on take their turns, each in a thread of its own where one can be started. What they come to
+/// is counted on the way back.
 pub(crate) fn play_from<R: Threads + Wait + Sync, G: Gate + Sync>(
     rt: &R,
     stage: &Stage<'_>,
