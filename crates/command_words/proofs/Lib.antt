@@ -1,4 +1,3 @@
 pub mod NamesFound
 pub mod Sizes
 pub mod Walks
-pub mod Verbs

@@ -1,7 +1,9 @@
 pub mod BenchTruths
 pub mod CauseLemmas
 pub mod CheckTruths
+mod Concluding
 pub mod ExplainTruths
+mod GatedAnswers
 pub mod LoadLemmas
 pub mod LongLemmas
 pub mod JudgeTruths

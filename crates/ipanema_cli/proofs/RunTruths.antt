@@ -7,8 +7,9 @@ use Rattle.policy_eval.proofs.Statements.{handler_obligations}
 use Rattle.policy_tree.specs.Meaning.{Meaning}
 use Rattle.round_model.specs.declared.entry.Entry.{Entry}
 use Rattle.round_model.specs.declared.plan.Plan.{Plan}
+use Rattle.round_model.specs.declared.serial.Played.{Played}
 use Rattle.round_model.specs.declared.serial.Played.TheVariants as played
-use Rattle.round_model.specs.Legal.{Whole}
+use Rattle.round_model.specs.Legal.{Whole, rounds_begun}
 use Rattle.round_model.specs.Room.{HasRoomForRounds}
 use Rattle.round_model.proofs.EntryBounds.{room_suffices}
 use Rattle.round_laws.proofs.MainTheorem.{main_theorem}
@@ -16,9 +17,9 @@ use Rattle.sched_history.specs.Spelling.{text_of_history}
 use Rattle.trace_play.specs.declared.answer.PlayAnswer.{PlayAnswer}
 use Rattle.trace_play.specs.declared.answer.PlayAnswer.TheVariants as play_answer
 use Rattle.trace_play.specs.Plays as plays
-use Rattle.parallel_play.specs.Runs.{HadRoom}
+use Rattle.parallel_play.specs.Runs.{AllPassed, HadRoom}
 use Rattle.parallel_play.proofs.Beginnings.{never_whole}
-use Rattle.trace_run.specs.Runs.{IsRunOf, RunEnds, RunStops, RunsText}
+use Rattle.trace_run.specs.Runs.{GatedEnds, GatedStops, HavePassedFor, IsGatedRunOf, RunsText}
 use Rattle.ipanema_cli.specs.Answers.{AnswersPlay, play_status}
 use Rattle.ipanema_cli.specs.Causes.{OneOf}
 use Rattle.ipanema_cli.specs.Ends.{Writes}
@@ -37,62 +38,70 @@ must_of policy trace code low others = record {
   others = others;
 }
 
-pub stopped_run : (policy trace : Told) (before after : Option (List ℕ)) (code : ℕ) → Stopped code → RunsTruly policy trace before after code
-stopped_run policy trace before after code stop = stopped_trace RunEnds RunStops MustRun must_of policy trace before after code stop
+-- the plan is the one whose cores passed the gate
+past_by : (Passed : ℕ → ℕ → Type 0) (p : Meaning) (jobs : List ℕ) (play : Played) → HavePassedFor Passed p jobs (play_answer.Played play) → (made : RunsText p jobs play)
+    → AllPassed Passed made.plan (rounds_begun (plays.history_of play))
+past_by Passed p jobs play past made =
+    subst (λ (plan : Plan). AllPassed Passed plan (rounds_begun (plays.history_of play)))
+    (same_plan p jobs past.1.trace made.trace past.0 made.plan past.1.spells past.1.means made.spells made.means) past.2
 
-ran_whole : (policy trace : Told) (text jobs : List ℕ) (p : Meaning) (history : List Entry) (before after : Option (List ℕ)) (code : ℕ) → Read policy trace text jobs p
-    → RunsText p jobs (played.Whole history) → code ≡ 0 → Adds (text_of_history history) before after → RunsTruly policy trace before after code
-ran_whole policy trace text jobs p history before after code read made own added = record {
-  whole = λ h.
+module _ (Passed : ℕ → ℕ → Type 0) where
+  pub stopped_run : (policy trace : Told) (before after : Option (List ℕ)) (code : ℕ) → Stopped code → RunsTruly Passed policy trace before after code
+  stopped_run policy trace before after code stop = stopped_trace (GatedEnds Passed) (GatedStops Passed) MustRun must_of policy trace before after code stop
+
+  ran_whole : (policy trace : Told) (text jobs : List ℕ) (p : Meaning) (history : List Entry) (before after : Option (List ℕ)) (code : ℕ) → Read policy trace text jobs p
+      → RunsText p jobs (played.Whole history) → HavePassedFor Passed p jobs (play_answer.Played (played.Whole history)) → code ≡ 0 → Adds (text_of_history history) before after → RunsTruly Passed policy trace before after code
+  ran_whole policy trace text jobs p history before after code read made past own added = record {
+    whole = λ h.
+        let may = may_play policy trace text jobs p made.trace made.plan read made.spells made.means made.fits in
+        (p, made.plan, history, may, (made.ran, past_by Passed p jobs (played.Whole history) past made), main_theorem p may.meets made.plan history made.fits made.ran.whole.legal, added);
+    full = λ h. absurd (omega arith);
+    must = record {
+      ends = λ other plan held. rw own refl;
+      reaches_end = λ other plan held room. rw own refl;
+      stops_full = λ other plan held none. absurd (not_whole other plan held none);
+      stops_at_once = λ other plan held full. absurd (not_whole other plan held (λ h whole roomy. never_whole other plan h whole roomy full));
+      others = others_played policy trace text jobs p made.trace made.plan code read made.spells made.means (λ three. omega arith);
+    };
+    lines = λ low. absurd (let bad = rw own at low in cc);
+    bad_text = λ h. absurd (omega arith);
+  }
+    where
+      -- it is a whole history of what the files hold, in which each round had room
+      not_whole : (other : Meaning) (plan : Plan) → DoPlay policy trace other plan → ((h : List Entry) → Whole other plan h → HadRoom plan h → ⊥) → ⊥
+      not_whole other plan held none =
+          let s = held_play policy trace text jobs p other plan read held in
+          let is_plan = same_plan p jobs made.trace held.lines made.plan plan made.spells made.means s.spells s.means in
+          none history (subst (λ (q : Meaning). Whole q plan history) s.policy (subst (λ (x : Plan). Whole p x history) is_plan made.ran.whole)) (subst (λ (x : Plan). HadRoom x history) is_plan made.ran.roomy)
+
+  ran_full : (policy trace : Told) (text jobs : List ℕ) (p : Meaning) (history : List Entry) (before after : Option (List ℕ)) (code : ℕ) → Read policy trace text jobs p
+      → RunsText p jobs (played.Full history) → HavePassedFor Passed p jobs (play_answer.Played (played.Full history)) → code ≡ 8 → Adds (text_of_history history) before after → RunsTruly Passed policy trace before after code
+  ran_full policy trace text jobs p history before after code read made past own added =
       let may = may_play policy trace text jobs p made.trace made.plan read made.spells made.means made.fits in
-      (p, made.plan, history, may, made.ran, main_theorem p may.meets made.plan history made.fits made.ran.whole.legal, added);
-  full = λ h. absurd (omega arith);
-  must = record {
-    ends = λ other plan held. rw own refl;
-    reaches_end = λ other plan held room. rw own refl;
-    stops_full = λ other plan held none. absurd (not_whole other plan held none);
-    stops_at_once = λ other plan held full. absurd (not_whole other plan held (λ h whole roomy. never_whole other plan h whole roomy full));
-    others = others_played policy trace text jobs p made.trace made.plan code read made.spells made.means (λ three. omega arith);
-  };
-  lines = λ low. absurd (let bad = rw own at low in cc);
-  bad_text = λ h. absurd (omega arith);
-}
-  where
-    -- it is a whole history of what the files hold, in which each round had room
-    not_whole : (other : Meaning) (plan : Plan) → DoPlay policy trace other plan → ((h : List Entry) → Whole other plan h → HadRoom plan h → ⊥) → ⊥
-    not_whole other plan held none =
-        let s = held_play policy trace text jobs p other plan read held in
-        let is_plan = same_plan p jobs made.trace held.lines made.plan plan made.spells made.means s.spells s.means in
-        none history (subst (λ (q : Meaning). Whole q plan history) s.policy (subst (λ (x : Plan). Whole p x history) is_plan made.ran.whole)) (subst (λ (x : Plan). HadRoom x history) is_plan made.ran.roomy)
+      record {
+        whole = λ h. absurd (omega arith);
+        full = λ h. (p, made.plan, history, may, (made.ran, past_by Passed p jobs (played.Full history) past made), main_theorem p may.meets made.plan history made.fits made.ran.legal, added);
+        must = record {
+          ends = λ other plan held. rw own refl;
+          reaches_end = λ other plan held room.
+              let s = held_play policy trace text jobs p other plan read held in
+              let is_plan = same_plan p jobs made.trace held.lines made.plan plan made.spells made.means s.spells s.means in
+              absurd (room_suffices p made.plan history made.fits (handler_obligations p may.meets) (subst HasRoomForRounds (sym is_plan) room) made.ran.legal made.ran.full);
+          stops_full = λ other plan held none. rw own refl;
+          stops_at_once = λ other plan held full. rw own refl;
+          others = others_played policy trace text jobs p made.trace made.plan code read made.spells made.means (λ three. omega arith);
+        };
+        lines = λ low. absurd (let bad = rw own at low in cc);
+        bad_text = λ h. absurd (omega arith);
+      }
 
-ran_full : (policy trace : Told) (text jobs : List ℕ) (p : Meaning) (history : List Entry) (before after : Option (List ℕ)) (code : ℕ) → Read policy trace text jobs p
-    → RunsText p jobs (played.Full history) → code ≡ 8 → Adds (text_of_history history) before after → RunsTruly policy trace before after code
-ran_full policy trace text jobs p history before after code read made own added =
-    let may = may_play policy trace text jobs p made.trace made.plan read made.spells made.means made.fits in
-    record {
-      whole = λ h. absurd (omega arith);
-      full = λ h. (p, made.plan, history, may, made.ran, main_theorem p may.meets made.plan history made.fits made.ran.legal, added);
-      must = record {
-        ends = λ other plan held. rw own refl;
-        reaches_end = λ other plan held room.
-            let s = held_play policy trace text jobs p other plan read held in
-            let is_plan = same_plan p jobs made.trace held.lines made.plan plan made.spells made.means s.spells s.means in
-            absurd (room_suffices p made.plan history made.fits (handler_obligations p may.meets) (subst HasRoomForRounds (sym is_plan) room) made.ran.legal made.ran.full);
-        stops_full = λ other plan held none. rw own refl;
-        stops_at_once = λ other plan held full. rw own refl;
-        others = others_played policy trace text jobs p made.trace made.plan code read made.spells made.means (λ three. omega arith);
-      };
-      lines = λ low. absurd (let bad = rw own at low in cc);
-      bad_text = λ h. absurd (omega arith);
-    }
+  -- the trace was read
+  answered_trace : (policy trace : Told) (text jobs : List ℕ) (p : Meaning) (play : PlayAnswer) (before after : Option (List ℕ)) (code : ℕ) → Read policy trace text jobs p
+      → IsGatedRunOf Passed p jobs play → code ≡ code_of (play_status play) → Adds (plays.output_of play) before after → RunsTruly Passed policy trace before after code
+  answered_trace policy trace text jobs p (play_answer.Broken fault) before after code read is own added = broken_trace (GatedEnds Passed) (GatedStops Passed) MustRun must_of policy trace text jobs p fault before after code read is.0 own added
+  answered_trace policy trace text jobs p (play_answer.Played (played.Whole history)) before after code read is own added = ran_whole policy trace text jobs p history before after code read is.0 is.1 own added
+  answered_trace policy trace text jobs p (play_answer.Played (played.Full history)) before after code read is own added = ran_full policy trace text jobs p history before after code read is.0 is.1 own added
 
--- the trace was read
-answered_trace : (policy trace : Told) (text jobs : List ℕ) (p : Meaning) (play : PlayAnswer) (before after : Option (List ℕ)) (code : ℕ) → Read policy trace text jobs p
-    → IsRunOf p jobs play → code ≡ code_of (play_status play) → Adds (plays.output_of play) before after → RunsTruly policy trace before after code
-answered_trace policy trace text jobs p (play_answer.Broken fault) before after code read is own added = broken_trace RunEnds RunStops MustRun must_of policy trace text jobs p fault before after code read is own added
-answered_trace policy trace text jobs p (play_answer.Played (played.Whole history)) before after code read is own added = ran_whole policy trace text jobs p history before after code read is own added
-answered_trace policy trace text jobs p (play_answer.Played (played.Full history)) before after code read is own added = ran_full policy trace text jobs p history before after code read is own added
-
-pub runs_truly : (policy trace : Told) (before after : Shown) (code : ℕ) (a : Answer) → AnswersPlay IsRunOf policy trace a
-    → Writes a before after code → RunsTruly policy trace before.written after.written code
-runs_truly policy trace before after code a is writes = traces_truly RunEnds RunStops MustRun must_of IsRunOf answered_trace policy trace before after code a is writes
+  pub runs_truly : (policy trace : Told) (before after : Shown) (code : ℕ) (a : Answer) → AnswersPlay (IsGatedRunOf Passed) policy trace a
+      → Writes a before after code → RunsTruly Passed policy trace before.written after.written code
+  runs_truly policy trace before after code a is writes = traces_truly (GatedEnds Passed) (GatedStops Passed) MustRun must_of (IsGatedRunOf Passed) answered_trace policy trace before after code a is writes

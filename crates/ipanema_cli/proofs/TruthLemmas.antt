@@ -1,43 +1,58 @@
--- From how a call ends to the truth of what it says.
-use Rattle.std.proofs.Common.{◌≡◌, ℕ, List, Option, Some, None, arith}
+-- From what a call came to, and how it ends by that, to the truth of what it says.
+use Rattle.std.proofs.Common.{◌≡◌, ℕ, List, Option, Result, Ok, Err, IfErr, IfOk, Some, None, arith}
 use Rattle.sched_io.specs.Shown.{Shown}
 use Rattle.sched_io.specs.Told.{Told}
 use Rattle.command_words.specs.Command.{Asked, bench, check, explain, make, play, replay, report, run}
-use Rattle.ipanema_cli.specs.Ends.{Ends, answered, unread, no_memory}
-use Rattle.ipanema_cli.specs.Stops.{IsUnread}
+use Rattle.ipanema_cli.specs.Answers.{IsGatedAnswer}
+use Rattle.ipanema_cli.specs.Ends.{Concludes, Writes}
+use Rattle.ipanema_cli.specs.Stops.{IsStop, IsUnread}
 use Rattle.ipanema_cli.specs.Truths.{IsTruthful, SaysReport, SaysWhole}
+use Rattle.ipanema_cli.specs.declared.answers.Answer.{Answer}
+use Rattle.ipanema_cli.specs.declared.answers.Answer.TheVariants as answer
+use Rattle.ipanema_cli.specs.declared.stop.Stop.{Stop}
+use Rattle.ipanema_cli.specs.declared.stop.Stop.TheVariants as stop
 use Rattle.ipanema_cli.proofs.BenchTruths.{benches, stopped_bench}
 use Rattle.ipanema_cli.proofs.CheckTruths.{Stopped, at_4, at_6, checks, stopped_check}
 use Rattle.ipanema_cli.proofs.ExplainTruths.{explains, stopped_explain}
+use Rattle.ipanema_cli.proofs.GatedAnswers.{gated_length}
 use Rattle.ipanema_cli.proofs.JudgeTruths.{replays, reports, stopped_judge}
 use Rattle.ipanema_cli.proofs.MakeTruths.{makes, stopped_make}
 use Rattle.ipanema_cli.proofs.PlayTruths.{plays_truly, stopped_play}
 use Rattle.ipanema_cli.proofs.RunTruths.{runs_truly, stopped_run}
 
--- a stop says nothing, and no file is unread where the command has none
-stopped : (asked : Option Asked) (told : List ℕ → Told) (read_fault : Type 0) (before after : Option (List ℕ)) (code : ℕ) → Stopped code
-    → (code ≡ 4 → IsUnread asked told read_fault) → IsTruthful asked told before after code
-stopped None told read_fault before after code stop cause = tt
-stopped (Some (check policy)) told read_fault before after code stop cause = stopped_check (told policy) before after code stop
-stopped (Some (explain policy name)) told read_fault before after code stop cause = stopped_explain (told policy) name before after code stop
-stopped (Some (play policy trace)) told read_fault before after code stop cause = stopped_play (told policy) (told trace) before after code stop
-stopped (Some (run policy trace)) told read_fault before after code stop cause = stopped_run (told policy) (told trace) before after code stop
-stopped (Some (replay policy trace history)) told read_fault before after code stop cause = stopped_judge SaysWhole (told policy) (told trace) (told history) before after code stop
-stopped (Some (report policy trace history)) told read_fault before after code stop cause = stopped_judge SaysReport (told policy) (told trace) (told history) before after code stop
-stopped (Some (make seed size)) told read_fault before after code stop cause = stopped_make seed size before after code stop cause
-stopped (Some (bench seed size)) told read_fault before after code stop cause = stopped_bench seed size before after code stop cause
+module _ (Passed : ℕ → ℕ → Type 0) where
+  -- a stop says nothing, and no file is unread where the command has none
+  stopped : (asked : Option Asked) (told : List ℕ → Told) (read_fault : Type 0) (before after : Option (List ℕ)) (code : ℕ) → Stopped code
+      → (code ≡ 4 → IsUnread asked told read_fault) → IsTruthful Passed asked told before after code
+  stopped None told read_fault before after code stop cause = tt
+  stopped (Some (check policy)) told read_fault before after code stop cause = stopped_check (told policy) before after code stop
+  stopped (Some (explain policy name)) told read_fault before after code stop cause = stopped_explain (told policy) name before after code stop
+  stopped (Some (play policy trace)) told read_fault before after code stop cause = stopped_play (told policy) (told trace) before after code stop
+  stopped (Some (run policy trace)) told read_fault before after code stop cause = stopped_run Passed (told policy) (told trace) before after code stop
+  stopped (Some (replay policy trace history)) told read_fault before after code stop cause = stopped_judge SaysWhole (told policy) (told trace) (told history) before after code stop
+  stopped (Some (report policy trace history)) told read_fault before after code stop cause = stopped_judge SaysReport (told policy) (told trace) (told history) before after code stop
+  stopped (Some (make seed size)) told read_fault before after code stop cause = stopped_make seed size before after code stop cause
+  stopped (Some (bench seed size)) told read_fault before after code stop cause = stopped_bench seed size before after code stop cause
 
-pub truths : (asked : Option Asked) (told : List ℕ → Told) (read_fault : Type 0) (before after : Shown) (code : ℕ) → Ends asked told read_fault before after code → IsTruthful asked told before.written after.written code
-truths None told read_fault before after code (answered a is writes) = tt
-truths (Some (check policy)) told read_fault before after code (answered a is writes) = checks (told policy) before after code a is writes
-truths (Some (explain policy name)) told read_fault before after code (answered a is writes) = explains (told policy) name before after code a is writes
-truths (Some (play policy trace)) told read_fault before after code (answered a is writes) = plays_truly (told policy) (told trace) before after code a is writes
-truths (Some (run policy trace)) told read_fault before after code (answered a is writes) = runs_truly (told policy) (told trace) before after code a is writes
-truths (Some (replay policy trace history)) told read_fault before after code (answered a is writes) = replays (told policy) (told trace) (told history) before after code a is writes
-truths (Some (report policy trace history)) told read_fault before after code (answered a is writes) = reports (told policy) (told trace) (told history) before after code a is writes
-truths (Some (make seed size)) told read_fault before after code (answered a is writes) = makes seed size before after code a is writes
-truths (Some (bench seed size)) told read_fault before after code (answered a is writes) = benches seed size before after code a is writes
-truths asked told read_fault before after code (unread e cause added) =
-    stopped asked told read_fault before.written after.written code (at_4 e) (λ h. cause)
-truths asked told read_fault before after code (no_memory e added) =
-    stopped asked told read_fault before.written after.written code (at_6 e) (λ h. absurd (omega (arith, e, h)))
+  -- an answer says what is true
+  answers : (asked : Option Asked) (told : List ℕ → Told) (before after : Shown) (code : ℕ) (a : Answer) → IsGatedAnswer Passed asked told a → Writes a before after code
+      → IsTruthful Passed asked told before.written after.written code
+  answers None told before after code a is writes = tt
+  answers (Some (check policy)) told before after code a is writes = checks (told policy) before after code a is writes
+  answers (Some (explain policy name)) told before after code a is writes = explains (told policy) name before after code a is writes
+  answers (Some (play policy trace)) told before after code a is writes = plays_truly (told policy) (told trace) before after code a is writes
+  answers (Some (run policy trace)) told before after code a is writes = runs_truly Passed (told policy) (told trace) before after code a is writes
+  answers (Some (replay policy trace history)) told before after code a is writes = replays (told policy) (told trace) (told history) before after code a is writes
+  answers (Some (report policy trace history)) told before after code a is writes = reports (told policy) (told trace) (told history) before after code a is writes
+  answers (Some (make seed size)) told before after code a is writes = makes seed size before after code a is writes
+  answers (Some (bench seed size)) told before after code a is writes = benches seed size before after code a is writes
+
+  pub truths : (asked : Option Asked) (told : List ℕ → Told) (read_fault : Type 0) (before after : Shown) (code : ℕ) (r : Result Answer Stop) → IfOk r (IsGatedAnswer Passed asked told)
+      → IfErr r (IsStop asked told read_fault) → Concludes r before after code → IsTruthful Passed asked told before.written after.written code
+  truths asked told read_fault before after code (Ok a) is why end = answers asked told before after code a is end
+  truths asked told read_fault before after code (Err (stop.TooLong kind)) is why end =
+      answers asked told before after code (answer.TooLong kind) (gated_length Passed asked told kind why) end
+  truths asked told read_fault before after code (Err stop.Unread) is why end =
+      stopped asked told read_fault before.written after.written code (at_4 end.0) (λ h. why)
+  truths asked told read_fault before after code (Err stop.Memory) is why end =
+      stopped asked told read_fault before.written after.written code (at_6 end.0) (λ h. absurd (omega (arith, end.0, h)))

@@ -22,7 +22,7 @@ use Rattle.trace_printer.specs.Printed.{trace_text}
 use Rattle.trace_play.specs.declared.answer.PlayAnswer.{PlayAnswer}
 use Rattle.trace_play.specs.declared.answer.PlayAnswer.TheVariants as play_answer
 use Rattle.trace_play.specs.Plays as plays
-use Rattle.trace_run.specs.Runs.{IsRunOf}
+use Rattle.trace_run.specs.Runs.{IsGatedRunOf, IsRunOf}
 use Rattle.history_replay.specs.declared.answer.HistoryAnswer.{HistoryAnswer}
 use Rattle.history_replay.specs.Judges.{IsReplayOf, IsReportOf}
 use Rattle.history_replay.specs.Lines as histories
@@ -266,3 +266,9 @@ IsAnswer (Some (report policy trace history)) told a =
     AnswersJudging IsReportOf (told policy) (told trace) (told history) a
 IsAnswer (Some (make seed size)) told a = AnswersMake seed size a
 IsAnswer (Some (bench seed size)) told a = AnswersBench seed size a
+
+-- and where it is a history that was run, each core of the plan passed the gate in each round of it
+abbrev pub IsGatedAnswer : (Passed : ℕ → ℕ → Type 0) → Option Asked → (List ℕ → Told) → Answer → Type 0
+IsGatedAnswer Passed (Some (run policy trace)) told a =
+    AnswersPlay (IsGatedRunOf Passed) (told policy) (told trace) a
+IsGatedAnswer Passed asked told a = IsAnswer asked told a

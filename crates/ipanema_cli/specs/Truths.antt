@@ -46,7 +46,7 @@ use Rattle.trace_maker.specs.Made.{made}
 use Rattle.trace_printer.specs.Printed.{trace_text}
 use Rattle.trace_play.specs.declared.fault.LineFault.{LineFault}
 use Rattle.parallel_play.specs.Runs.{HadRoom}
-use Rattle.trace_run.specs.Runs.{RunEnds, RunStops}
+use Rattle.trace_run.specs.Runs.{GatedEnds, GatedStops}
 use Rattle.sched_report.specs.declared.rows.FullReport.{FullReport}
 use Rattle.sched_report.specs.Lines.{report_lines}
 use Rattle.history_reader.specs.Reading.{IsFirstBadLine}
@@ -285,10 +285,11 @@ PlaysTruly policy trace before after code =
     TracesTruly EndsWhole StopsFull (MustPlay policy trace) policy trace before after code
 
 -- What `run` says is true: what is written is a whole history, or complete rounds of a legal one behind which a round
--- is due that might not fit the limit. No round was begun that might not.
-abbrev pub RunsTruly : (policy trace : Told) (before after : Option (List ℕ)) (code : ℕ) → Type 0
-RunsTruly policy trace before after code =
-    TracesTruly RunEnds RunStops (MustRun policy trace) policy trace before after code
+-- is due that might not fit the limit. No round was begun that might not, and each core passed the gate in each round.
+abbrev pub RunsTruly : (Passed : ℕ → ℕ → Type 0) (policy trace : Told) (before after : Option (List ℕ)) (code : ℕ) →
+    Type 0
+RunsTruly Passed policy trace before after code =
+    TracesTruly (GatedEnds Passed) (GatedStops Passed) (MustRun policy trace) policy trace before after code
 
 -- The files may hold an accepted policy, a trace that means this plan under it, and the text of this history.
 pub record MayJudge (policy trace history : Told) (p : Meaning) (plan : Plan) (entries : List Entry) : Type 0 where
@@ -436,15 +437,19 @@ pub record BenchesTruly (seed size : ℕ) (before after : Option (List ℕ)) (co
   pub decides : (SomeIsOpen fair_meaning → ⊥) → OneOf (0 ∷ 5 ∷ 6 ∷ []) code
 
 -- What is said is true.
-abbrev pub IsTruthful : Option Asked → (List ℕ → Told) → Option (List ℕ) → Option (List ℕ) → ℕ → Type 0
-IsTruthful None told before after code = Unit {0}
-IsTruthful (Some (check policy)) told before after code = ChecksTruly (told policy) before after code
-IsTruthful (Some (explain policy name)) told before after code = ExplainsTruly (told policy) name before after code
-IsTruthful (Some (play policy trace)) told before after code = PlaysTruly (told policy) (told trace) before after code
-IsTruthful (Some (run policy trace)) told before after code = RunsTruly (told policy) (told trace) before after code
-IsTruthful (Some (replay policy trace history)) told before after code =
+abbrev pub IsTruthful : (Passed : ℕ → ℕ → Type 0) → Option Asked → (List ℕ → Told) → Option (List ℕ) →
+    Option (List ℕ) → ℕ → Type 0
+IsTruthful Passed None told before after code = Unit {0}
+IsTruthful Passed (Some (check policy)) told before after code = ChecksTruly (told policy) before after code
+IsTruthful Passed (Some (explain policy name)) told before after code =
+    ExplainsTruly (told policy) name before after code
+IsTruthful Passed (Some (play policy trace)) told before after code =
+    PlaysTruly (told policy) (told trace) before after code
+IsTruthful Passed (Some (run policy trace)) told before after code =
+    RunsTruly Passed (told policy) (told trace) before after code
+IsTruthful Passed (Some (replay policy trace history)) told before after code =
     JudgesTruly SaysWhole (told policy) (told trace) (told history) before after code
-IsTruthful (Some (report policy trace history)) told before after code =
+IsTruthful Passed (Some (report policy trace history)) told before after code =
     JudgesTruly SaysReport (told policy) (told trace) (told history) before after code
-IsTruthful (Some (make seed size)) told before after code = MakesTruly seed size before after code
-IsTruthful (Some (bench seed size)) told before after code = BenchesTruly seed size before after code
+IsTruthful Passed (Some (make seed size)) told before after code = MakesTruly seed size before after code
+IsTruthful Passed (Some (bench seed size)) told before after code = BenchesTruly seed size before after code

@@ -8,7 +8,7 @@ ghost use Rattle.ipanema_cli.specs.Answers.{judging_of, lines_of, status_of};
 ghost use Rattle.policy_tree.specs.Meaning.{meaning_of};
 ghost use Rattle.command_words.specs.Numbers.{is_size};
 ghost use Rattle.trace_play.specs.Plays.{IsPlayOf};
-ghost use Rattle.trace_run.specs.Runs.{IsRunOf};
+ghost use Rattle.trace_run.specs.Runs.{IsGatedRunOf};
 ghost use Rattle.ipanema_cli.specs.declared.stop.Stop.TheVariants as stop;
 
 use crate::status::{Status, check_status, explain_status, history_status};
@@ -76,7 +76,7 @@ pub fn play_texts(alloc: Global, policy: &[u8], trace: &[u8]) -> Result<Answer, 
     }
 }
 
-/// The answer of `run` to texts within their limits. Each core passes the gate in each round.
+/// The answer of `run` to texts within their limits.
 pub fn run_texts<R: Threads + Wait + Sync, G: Gate + Sync>(
     rt: &R,
     alloc: Global,
@@ -87,7 +87,7 @@ pub fn run_texts<R: Threads + Wait + Sync, G: Gate + Sync>(
     requires policy { length policy.now ≤ MAX_POLICY_BYTES }
     requires trace { length trace.now ≤ MAX_TRACE_BYTES }
     requires gate { (c r : ℕ) → IsTrue (G.admits gate.now c r) }
-    ensures answer { IfOk result (IsPlayOfTexts IsRunOf policy.now trace.now) }
+    ensures answer { IfOk result (IsPlayOfTexts (IsGatedRunOf (G.passed gate.now)) policy.now trace.now) }
     ensures shown { IfOk result CanBePut }
     ensures memory { IfErr result (λ why. why ≡ stop.Memory) }
 {

@@ -1,12 +1,15 @@
 //! From the arguments of the process to its exit status.
 
-ghost use Rattle.std.specs.Prelude.{◌≡◌, IfOk};
+ghost use Rattle.std.specs.Prelude.{◌≡◌, ◌⊎◌, [], ◌∷◌, IfOk};
 ghost use Rattle.std.specs.Process.{exit_status};
 ghost use Rattle.std.specs.Vec.Iter.{into_iter_items};
 ghost use Rattle.sched_io.specs.Faults.{Rose};
+ghost use Rattle.sched_io.specs.Loads.{AreRequested};
 ghost use Rattle.ipanema_cli.specs.Arguments.{words_given};
 ghost use Rattle.command_words.specs.Command.{asked_by, words_of};
+ghost use Rattle.ipanema_cli.specs.Causes.{OneOf};
 ghost use Rattle.ipanema_cli.specs.Ends.{Ends};
+ghost use Rattle.ipanema_cli.specs.Loads.{FirstAreLoaded, files_of};
 
 use crate::status::Status;
 use crate::top::ipanema;
@@ -29,8 +32,14 @@ pub fn exit_code<R: Threads + Wait + Sync, F: Files, S: Sink>(
     files: &mut F,
     out: &mut S,
 ) -> ExitCode
-    ensures { Ends (asked_by (words_given args)) (F.told files.old) (Rose (F.faults files.old) (F.faults files.new))
-        (S.shown out.old) (S.shown out.new) (exit_status result) }
+    ensures ends { Ends (asked_by (words_given args)) (F.told files.old)
+        (Rose (F.faults files.old) (F.faults files.new)) (S.shown out.old) (S.shown out.new) (exit_status result) }
+    ensures loads { FirstAreLoaded (asked_by (words_given args)) (F.told files.old)
+        (F.requested files.old) (F.requested files.new) }
+    ensures loaded { OneOf (0 ∷ 1 ∷ 2 ∷ 3 ∷ 7 ∷ 8 ∷ 9 ∷ []) (exit_status result) →
+        AreRequested (files_of (asked_by (words_given args))) (F.requested files.old) (F.requested files.new) }
+    ensures calm { (exit_status result ≡ 4) ⊎ (F.faults files.new ≡ F.faults files.old) }
+    ensures quiet { (exit_status result ≡ 5) ⊎ ((S.shown out.new).faults ≡ (S.shown out.old).faults) }
 {
     match words_of_arguments(alloc, args) {
         Ok(words) => ExitCode::from(ipanema(rt, alloc, &words, files, out, &OpenGate)),

@@ -8,6 +8,8 @@ mod arguments;
 mod bench_tests;
 #[cfg(test)]
 mod calls;
+mod commands;
+mod ending;
 #[cfg(test)]
 mod fault_tests;
 #[cfg(test)]
@@ -20,8 +22,6 @@ mod make_tests;
 mod play_tests;
 #[cfg(test)]
 mod run_tests;
-mod running;
-mod serial;
 mod status;
 mod stop;
 #[cfg(test)]

@@ -1,16 +1,21 @@
 //! The top call: every command over files, a sink and a gate that are handed in.
 
-ghost use Rattle.std.specs.Prelude.{◌≡◌, ◌⊎◌, ℕ, [], ◌∷◌, IsTrue};
+ghost use Rattle.std.specs.Prelude.{◌≡◌, ◌⊎◌, ℕ, [], ◌∷◌, IfErr, IfOk, IsErrOf, IsTrue, OnOk};
 ghost use Rattle.sched_io.specs.Faults.{Rose};
 ghost use Rattle.sched_io.specs.Loads.{AreRequested};
 ghost use Rattle.command_words.specs.Command.{asked_by, words_of};
+ghost use Rattle.ipanema_cli.specs.Answers.{CanBePut, IsGatedAnswer};
 ghost use Rattle.ipanema_cli.specs.Ends.{Ends};
 ghost use Rattle.ipanema_cli.specs.Causes.{HasCause, OneOf};
 ghost use Rattle.ipanema_cli.specs.Loads.{FirstAreLoaded, files_of};
+ghost use Rattle.ipanema_cli.specs.Stops.{IsStop};
 ghost use Rattle.ipanema_cli.specs.Truths.{IsTruthful};
 
-use crate::running::run_command;
-use crate::serial::serial_command;
+use crate::answers::Answer;
+use crate::commands::{answer_of, run};
+use crate::ending::conclude;
+use crate::stop::Stop;
+use command_words::{Request, request_of};
 use sched_io::{Files, Gate, Sink};
 use std::alloc::Global;
 use std::sync::Wait;
@@ -20,7 +25,7 @@ use std::thread::Threads;
 ///
 /// The words are those of the call without the program's name. Files come from `files`, and output goes to `out`. Where
 /// cores play side by side, each passes `gate` in its turn of a round, between its unit and its look, so that tests can
-/// have them meet there. No clause says that it does.
+/// have them meet there. That each core passes it in each round is a clause; where in its turn is not.
 pub fn ipanema<R: Threads + Wait + Sync, F: Files, S: Sink, G: Gate + Sync>(
     rt: &R,
     alloc: Global,
@@ -36,8 +41,8 @@ pub fn ipanema<R: Threads + Wait + Sync, F: Files, S: Sink, G: Gate + Sync>(
     // Each status has its cause.
     ensures causes { HasCause (asked_by (words_of words.now.items)) (F.told files.old)
         (Rose (F.faults files.old) (F.faults files.new)) (S.shown out.old) (S.shown out.new) result }
-    // What is said of a policy and of a trace is true.
-    ensures truthful { IsTruthful (asked_by (words_of words.now.items)) (F.told files.old)
+    // What is said of a policy and of a trace is true, and the cores of a run passed the gate.
+    ensures truthful { IsTruthful (G.passed gate.now) (asked_by (words_of words.now.items)) (F.told files.old)
         (S.shown out.old).written (S.shown out.new).written result }
     // Just the first of the command's files are loaded, each once and with its limit, and none
     // behind one that is told to be missing or too long.
@@ -50,8 +55,31 @@ pub fn ipanema<R: Threads + Wait + Sync, F: Files, S: Sink, G: Gate + Sync>(
     ensures calm { (result ≡ 4) ⊎ (F.faults files.new ≡ F.faults files.old) }
     ensures quiet { (result ≡ 5) ⊎ ((S.shown out.new).faults ≡ (S.shown out.old).faults) }
 {
-    match words.first() {
-        Some(verb) if verb.as_str() == "run" => run_command(rt, alloc, words, files, out, gate),
-        _ => serial_command(alloc, words, files, out),
+    conclude(answer(rt, alloc, words.as_slice(), files, gate), out)
+}
+
+/// The answer to what the words ask for.
+fn answer<R: Threads + Wait + Sync, F: Files, G: Gate + Sync>(
+    rt: &R,
+    alloc: Global,
+    words: &[String],
+    files: &mut F,
+    gate: &G,
+) -> Result<Answer, Stop>
+    requires gate { (c r : ℕ) → IsTrue (G.admits gate.now c r) }
+    ensures answer { IfOk result (IsGatedAnswer (G.passed gate.now) (asked_by (words_of words.now))
+        (F.told files.old)) }
+    ensures shown { IfOk result CanBePut }
+    ensures stop { IfErr result (IsStop (asked_by (words_of words.now)) (F.told files.old)
+        (Rose (F.faults files.old) (F.faults files.new))) }
+    ensures loads { FirstAreLoaded (asked_by (words_of words.now)) (F.told files.old)
+        (F.requested files.old) (F.requested files.new) }
+    ensures loaded { OnOk result (AreRequested (files_of (asked_by (words_of words.now)))
+        (F.requested files.old) (F.requested files.new)) }
+    ensures calm { IsErrOf result Stop.Unread ⊎ (F.faults files.new ≡ F.faults files.old) }
+{
+    match request_of(alloc, words)? {
+        Request::Run { policy, trace } => run(rt, alloc, policy, trace, files, gate),
+        other => answer_of(alloc, other, files),
     }
 }

@@ -6,10 +6,10 @@ use Rattle.round_model.specs.declared.plan.Plan.{Plan}
 use Rattle.round_model.specs.declared.serial.Played.{Played}
 use Rattle.round_model.specs.declared.serial.Played.TheVariants as played
 use Rattle.round_model.specs.Fits.{Fits}
-use Rattle.round_model.specs.Legal.{IsComplete, Legal, Whole}
+use Rattle.round_model.specs.Legal.{IsComplete, Legal, Whole, rounds_begun}
 use Rattle.round_model.specs.SerialEnds.{IsFull}
 use Rattle.core_state.specs.Views.{ClosedView}
-use Rattle.parallel_play.specs.Runs.{HadRoom}
+use Rattle.parallel_play.specs.Runs.{AllPassed, HadRoom}
 use Rattle.parallel_play.specs.declared.fault.RunFault.{RunFault}
 use Rattle.parallel_play.specs.declared.fault.RunFault.TheVariants as fault
 use Rattle.job_trace.specs.declared.trace.Numbered.{Numbered}
@@ -17,7 +17,7 @@ use Rattle.job_trace.specs.Plans.{SpellsPlan}
 use Rattle.job_trace.specs.TraceText.{SpellsTrace}
 use Rattle.trace_play.specs.declared.answer.PlayAnswer.{PlayAnswer}
 use Rattle.trace_play.specs.declared.answer.PlayAnswer.TheVariants as answer
-use Rattle.trace_play.specs.Plays.{HasFault}
+use Rattle.trace_play.specs.Plays.{HasFault, MeansPlan, history_of}
 
 -- the run came to its end: the history is whole, and each of its rounds had room
 pub record RunEnds (p : Meaning) (plan : Plan) (history : List Entry) : Type 0 where
@@ -58,3 +58,24 @@ pub record RunsText (p : Meaning) (text : List ℕ) (play : Played) : Type 0 whe
 abbrev pub IsRunOf : Meaning → List ℕ → PlayAnswer → Type 0
 IsRunOf p text (answer.Broken fault) = HasFault p text fault
 IsRunOf p text (answer.Played play) = RunsText p text play
+
+-- each core of the plan passed the gate in each round of the history that was run
+abbrev pub HavePassed : (Passed : ℕ → ℕ → Type 0) → Plan → Played → Type 0
+HavePassed Passed plan play = AllPassed Passed plan (rounds_begun (history_of play))
+
+-- so did those of the plan that the text means, where it means one
+abbrev pub HavePassedFor : (Passed : ℕ → ℕ → Type 0) → Meaning → List ℕ → PlayAnswer → Type 0
+HavePassedFor Passed p text (answer.Broken fault) = Unit {0}
+HavePassedFor Passed p text (answer.Played play) = (plan : Plan) × MeansPlan p text plan × HavePassed Passed plan play
+
+-- so a run whose cores passed the gate ends
+abbrev pub GatedEnds : (Passed : ℕ → ℕ → Type 0) → Meaning → Plan → List Entry → Type 0
+GatedEnds Passed p plan history = RunEnds p plan history × AllPassed Passed plan (rounds_begun history)
+
+-- and so it stops
+abbrev pub GatedStops : (Passed : ℕ → ℕ → Type 0) → Meaning → Plan → List Entry → Type 0
+GatedStops Passed p plan history = RunStops p plan history × AllPassed Passed plan (rounds_begun history)
+
+-- the answer is one that the text may get, and the cores passed the gate
+abbrev pub IsGatedRunOf : (Passed : ℕ → ℕ → Type 0) → Meaning → List ℕ → PlayAnswer → Type 0
+IsGatedRunOf Passed p text play = IsRunOf p text play × HavePassedFor Passed p text play

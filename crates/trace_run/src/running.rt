@@ -4,7 +4,7 @@ ghost use Rattle.std.specs.Prelude.{◌<◌, ℕ, IfOk, IsTrue, length};
 ghost use Rattle.policy_tree.specs.Meaning.{meaning_of};
 ghost use Rattle.round_model.specs.Fits.{Fits};
 ghost use Rattle.trace_play.specs.Plays.{IsShown};
-ghost use Rattle.trace_run.specs.Runs.{IsRun, IsRunOf, Left};
+ghost use Rattle.trace_run.specs.Runs.{HavePassed, HavePassedFor, IsRun, IsRunOf, Left};
 
 use core_state::Closed;
 use core_table::Table;
@@ -34,6 +34,7 @@ pub fn run_text<R: Threads + Wait + Sync, G: Gate + Sync>(
     requires gate { (c r : ℕ) → IsTrue (G.admits gate.now c r) }
     ensures run { IfOk result (IsRunOf (meaning_of policy.now) text.now) }
     ensures shown { IfOk result IsShown }
+    ensures passed { IfOk result (HavePassedFor (G.passed gate.now) (meaning_of policy.now) text.now) }
 {
     match plan_text(alloc, policy.policy(), text) {
         Ok(plan) => Ok(PlayAnswer::Played(run_plan(rt, alloc, policy, &plan, gate)?)),
@@ -56,7 +57,8 @@ pub fn run_plan<R: Threads + Wait + Sync, G: Gate + Sync>(
 ) -> Result<Played, PlayMemory>
     requires fits { Fits (meaning_of policy.now) plan.now }
     requires gate { (c r : ℕ) → IsTrue (G.admits gate.now c r) }
-    ensures { IfOk result (IsRun (meaning_of policy.now) plan.now) }
+    ensures run { IfOk result (IsRun (meaning_of policy.now) plan.now) }
+    ensures passed { IfOk result (HavePassed (G.passed gate.now) plan.now) }
 {
     let Ok((table, seat)) = Table::open(alloc, policy.policy(), plan) else {
         return Err(PlayMemory::Memory);

@@ -1,97 +1,32 @@
-//! The commands that one thread carries out.
+//! The commands, each over the files that it loads.
 
-ghost use Rattle.std.specs.Prelude.{◌≡◌, ◌≢◌, ◌⊎◌, ℕ, List, [], ◌∷◌, Some, IfErr, IfOk, IsErrOf, IsTrue, OnOk, codes};
-ghost use Rattle.std.specs.Prelude.{slice_get};
+ghost use Rattle.std.specs.Prelude.{◌≡◌, ◌≢◌, ◌⊎◌, ℕ, List, Some, IfErr, IfOk, IsErrOf, IsTrue, OnOk};
 ghost use Rattle.sched_io.specs.Faults.{Rose};
 ghost use Rattle.sched_io.specs.Loads.{AreRequested};
 ghost use Rattle.ipanema_cli.specs.Answers.{AnswersCheck, AnswersExplain, AnswersJudging, AnswersPlay, CanBePut};
 ghost use Rattle.ipanema_cli.specs.Answers.{IsAnswer, judging_of};
 ghost use Rattle.command_words.specs.Asks.{asked};
 ghost use Rattle.command_words.specs.Numbers.{is_size};
-ghost use Rattle.command_words.specs.Command.{asked_by, bench as asks_bench, check, explain, make as asks_make, play};
-ghost use Rattle.command_words.specs.Command.{run, words_of};
-ghost use Rattle.ipanema_cli.specs.Ends.{Ends, Writes};
-ghost use Rattle.ipanema_cli.specs.Causes.{HasCause, OneOf};
+ghost use Rattle.command_words.specs.Command.{bench as asks_bench, check, explain, make as asks_make, play};
+ghost use Rattle.command_words.specs.Command.{run};
 ghost use Rattle.ipanema_cli.specs.Loads.{FirstAreLoaded, LoadsOfThree, files_of, three_files};
 ghost use Rattle.ipanema_cli.specs.Stops.{IsStop, IsStopOfThree};
-ghost use Rattle.ipanema_cli.specs.Truths.{IsTruthful};
 ghost use Rattle.trace_play.specs.Plays.{IsPlayOf};
+ghost use Rattle.trace_run.specs.Runs.{IsGatedRunOf};
 
-use crate::answers::{Answer, HistoryCommand, bench, judge, make, play_texts};
-use crate::status::Status;
+use crate::answers::{Answer, HistoryCommand, bench, judge, make, play_texts, run_texts};
 use crate::stop::Stop;
 use crate::texts::{TextKind, load, load_three};
-use command_words::{Request, request_of};
+use command_words::Request;
 use obligations::ObName;
 use policy_check::{check_text, explain_text};
-use sched_io::{Files, PutFault, Sink};
+use sched_io::{Files, Gate};
 use std::alloc::Global;
+use std::sync::Wait;
+use std::thread::Threads;
 
-/// Carries out a command that needs no second thread, and answers its status.
-///
-/// The words are those of the call without the program's name. It has no runtime, so it waits for nobody.
-pub fn serial_command<F: Files, S: Sink>(
-    alloc: Global,
-    words: &Vec<String>,
-    files: &mut F,
-    out: &mut S,
-) -> u8
-    requires { slice_get (words_of words.now.items) 0 ≢ Some (codes "run") }
-    ensures ends { Ends (asked_by (words_of words.now.items)) (F.told files.old)
-        (Rose (F.faults files.old) (F.faults files.new)) (S.shown out.old) (S.shown out.new) result }
-    ensures causes { HasCause (asked_by (words_of words.now.items)) (F.told files.old)
-        (Rose (F.faults files.old) (F.faults files.new)) (S.shown out.old) (S.shown out.new) result }
-    ensures truthful { IsTruthful (asked_by (words_of words.now.items)) (F.told files.old)
-        (S.shown out.old).written (S.shown out.new).written result }
-    ensures loads { FirstAreLoaded (asked_by (words_of words.now.items)) (F.told files.old)
-        (F.requested files.old) (F.requested files.new) }
-    ensures loaded { OneOf (0 ∷ 1 ∷ 2 ∷ 3 ∷ 7 ∷ 8 ∷ 9 ∷ []) result →
-        AreRequested (files_of (asked_by (words_of words.now.items))) (F.requested files.old) (F.requested files.new) }
-    ensures calm { (result ≡ 4) ⊎ (F.faults files.new ≡ F.faults files.old) }
-    ensures quiet { (result ≡ 5) ⊎ ((S.shown out.new).faults ≡ (S.shown out.old).faults) }
-{
-    carry_out(alloc, words.as_slice(), files, out)
-}
-
-/// Does what the words ask for.
-fn carry_out<F: Files, S: Sink>(alloc: Global, words: &[String], files: &mut F, out: &mut S) -> u8
-    requires { slice_get (words_of words.now) 0 ≢ Some (codes "run") }
-    ensures ends { Ends (asked_by (words_of words.now)) (F.told files.old)
-        (Rose (F.faults files.old) (F.faults files.new)) (S.shown out.old) (S.shown out.new) result }
-    ensures loads { FirstAreLoaded (asked_by (words_of words.now)) (F.told files.old)
-        (F.requested files.old) (F.requested files.new) }
-    ensures loaded { OneOf (0 ∷ 1 ∷ 2 ∷ 3 ∷ 7 ∷ 8 ∷ 9 ∷ []) result →
-        AreRequested (files_of (asked_by (words_of words.now))) (F.requested files.old) (F.requested files.new) }
-    ensures calm { (result ≡ 4) ⊎ (F.faults files.new ≡ F.faults files.old) }
-    ensures quiet { (result ≡ 5) ⊎ ((S.shown out.new).faults ≡ (S.shown out.old).faults) }
-{
-    match answer_to(alloc, words, files) {
-        Ok(answer) => give(answer, out),
-        Err(Stop::TooLong(kind)) => give(Answer::TooLong(kind), out),
-        Err(Stop::Unread) => Status::ReadFault.code(),
-        Err(Stop::Memory) => Status::Memory.code(),
-    }
-}
-
-/// The answer to what the words ask for.
-fn answer_to<F: Files>(alloc: Global, words: &[String], files: &mut F) -> Result<Answer, Stop>
-    requires { slice_get (words_of words.now) 0 ≢ Some (codes "run") }
-    ensures answer { IfOk result (IsAnswer (asked_by (words_of words.now)) (F.told files.old)) }
-    ensures shown { IfOk result CanBePut }
-    ensures stop { IfErr result (IsStop (asked_by (words_of words.now)) (F.told files.old)
-        (Rose (F.faults files.old) (F.faults files.new))) }
-    ensures loads { FirstAreLoaded (asked_by (words_of words.now)) (F.told files.old)
-        (F.requested files.old) (F.requested files.new) }
-    ensures loaded { OnOk result (AreRequested (files_of (asked_by (words_of words.now)))
-        (F.requested files.old) (F.requested files.new)) }
-    ensures calm { IsErrOf result Stop.Unread ⊎ (F.faults files.new ≡ F.faults files.old) }
-{
-    let request = request_of(alloc, words)?;
-    answer_of(alloc, request, files)
-}
-
-/// The answer to what is asked for.
-fn answer_of<F: Files>(alloc: Global, request: Request, files: &mut F) -> Result<Answer, Stop>
+/// The answer to what is asked for, where that is no run. It has no runtime, so it waits for nobody.
+pub fn answer_of<F: Files>(alloc: Global, request: Request, files: &mut F) -> Result<Answer, Stop>
     requires serial { (policy trace : List ℕ) → asked request ≢ Some (run policy trace) }
     requires made { (seed size : ℕ) → asked request ≡ Some (asks_make seed size) → IsTrue (is_size size) }
     requires benched { (seed size : ℕ) → asked request ≡ Some (asks_bench seed size) → IsTrue (is_size size) }
@@ -177,6 +112,41 @@ fn play<F: Files>(alloc: Global, policy: &str, trace: &str, files: &mut F) -> Re
     play_texts(alloc, policy_text.as_slice(), trace_text.as_slice())
 }
 
+/// The answer of `run` to the trace in one file under the policy in the other.
+///
+/// Each core takes its turn of a round in a thread of its own, where one can be started, and passes the gate between its
+/// unit and its look. That it passes is a clause, and neither the thread nor the place in the turn is.
+pub fn run<R: Threads + Wait + Sync, F: Files, G: Gate + Sync>(
+    rt: &R,
+    alloc: Global,
+    policy: &str,
+    trace: &str,
+    files: &mut F,
+    gate: &G,
+) -> Result<Answer, Stop>
+    requires gate { (c r : ℕ) → IsTrue (G.admits gate.now c r) }
+    ensures answer { IfOk result (AnswersPlay (IsGatedRunOf (G.passed gate.now))
+        (F.told files.old policy.now) (F.told files.old trace.now)) }
+    ensures shown { IfOk result CanBePut }
+    ensures stop { IfErr result (IsStop (Some (run policy.now trace.now)) (F.told files.old)
+        (Rose (F.faults files.old) (F.faults files.new))) }
+    ensures loads { FirstAreLoaded (Some (run policy.now trace.now)) (F.told files.old)
+        (F.requested files.old) (F.requested files.new) }
+    ensures loaded { OnOk result (AreRequested (files_of (Some (run policy.now trace.now)))
+        (F.requested files.old) (F.requested files.new)) }
+    ensures calm { IsErrOf result Stop.Unread ⊎ (F.faults files.new ≡ F.faults files.old) }
+{
+    let policy_text = load(alloc, files, policy, TextKind::Policy)?;
+    let trace_text = load(alloc, files, trace, TextKind::Trace)?;
+    run_texts(
+        rt,
+        alloc,
+        policy_text.as_slice(),
+        trace_text.as_slice(),
+        gate,
+    )
+}
+
 /// The answer of a command that judges the history in the third file, by the policy and the trace in the others.
 fn judge_files<F: Files>(
     alloc: Global,
@@ -199,21 +169,4 @@ fn judge_files<F: Files>(
 {
     let texts = load_three(alloc, files, policy, trace, history)?;
     judge(alloc, command, &texts)
-}
-
-/// Writes an answer, and gives its status.
-///
-/// The answer is let go in one place, by `drop`: an enum that owns a policy has many ways to be let go, and each would
-/// be one more way through the function that ends with it.
-pub fn give<S: Sink>(answer: Answer, out: &mut S) -> u8
-    requires { CanBePut answer }
-    ensures writes { Writes answer (S.shown out.old) (S.shown out.new) result }
-    ensures quiet { (result ≡ 5) ⊎ ((S.shown out.new).faults ≡ (S.shown out.old).faults) }
-{
-    let code = match answer.put(out) {
-        Ok(()) => answer.status().code(),
-        Err(PutFault::Failed) => Status::WriteFault.code(),
-    };
-    drop(answer);
-    code
 }

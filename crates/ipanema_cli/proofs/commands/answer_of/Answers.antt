@@ -2,7 +2,7 @@
 use Rattle.std.proofs.Common.{ap, subst, sym}
 use Rattle.command_words.specs.Asks.{asked}
 use Rattle.ipanema_cli.specs.Loads.{FirstAreLoaded}
-use Rattle.ipanema_cli.proofs.serial.answer_of.Goals as goal
+use Rattle.ipanema_cli.proofs.commands.answer_of.Goals as goal
 
 pub make-requires : goal.make-requires
 make-requires g c = c.requires.made c.in-Make.seed c.in-Make.size (ap asked c.in-Make.is)

@@ -2,7 +2,7 @@
 use Rattle.std.proofs.Common.{arith, Result, Ok, Err}
 use Rattle.std.specs.Result.{OnOk}
 use Rattle.sched_io.proofs.WrittenLemmas.{Grows-append}
-use Rattle.ipanema_cli.proofs.serial.play.Goals as goal
+use Rattle.ipanema_cli.proofs.commands.play.Goals as goal
 
 pub returns-in_err-policy_text-clause-loads : goal.returns-in_err-policy_text-clause-loads
 returns-in_err-policy_text-clause-loads g c = record { count = 1; loaded = c.load.ensures.requests; goes_on = λ more. absurd (omega arith) }

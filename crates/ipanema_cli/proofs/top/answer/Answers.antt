@@ -1,0 +1,19 @@
+-- Without memory for the words nothing is loaded. What isn't a run is asked elsewhere, and a size is one that a made trace may have.
+use Rattle.std.proofs.Common.{◌∙◌, refl, sym}
+use Rattle.command_words.specs.Command.{words_of}
+use Rattle.command_words.proofs.Sizes.{asked-sized}
+use Rattle.ipanema_cli.proofs.LoadLemmas.{none_loaded}
+use Rattle.ipanema_cli.proofs.RunWords.{no_run}
+use Rattle.ipanema_cli.proofs.top.answer.Goals as goal
+
+pub returns-in_err-other-clause-loads : goal.returns-in_err-other-clause-loads
+returns-in_err-other-clause-loads g c = none_loaded _ _ _
+
+pub answer_of-requires-clause-serial : goal.answer_of-requires-clause-serial
+answer_of-requires-clause-serial g c policy trace is = no_run c.in_ok-other.other c.in_default.not-Run c.in_ok-other.other refl policy trace is
+
+pub answer_of-requires-clause-made : goal.answer_of-requires-clause-made
+answer_of-requires-clause-made g c seed size is = (asked-sized (words_of c.args.words.now)).made seed size (sym c.in_ok-other.ensures.asks ∙ is)
+
+pub answer_of-requires-clause-benched : goal.answer_of-requires-clause-benched
+answer_of-requires-clause-benched g c seed size is = (asked-sized (words_of c.args.words.now)).benched seed size (sym c.in_ok-other.ensures.asks ∙ is)
