@@ -4,7 +4,6 @@ use Rattle.std.specs.Prelude.{ℤ, option_and_then, option_map}
 use Rattle.std.specs.Str.{bytes_eq}
 use Rattle.std.proofs.lemmas.Slice.Eq.{bytes_eq-Decides}
 use Rattle.round_model.specs.declared.plan.Burst.{Burst}
-use Rattle.round_model.specs.declared.plan.Ending.TheVariants as ending
 use Rattle.job_trace.specs.declared.trace.NamedConst.{NamedConst}
 use Rattle.job_trace.specs.Words.{is_name}
 use Rattle.job_trace.specs.Forms.{SpellsConsts, SpellsNumber, SpellsProgram, next_const, no_const, run_block, run_end, run_forever, run_yield, signed_in}

@@ -19,7 +19,7 @@ use Rattle.job_trace.specs.declared.plan_fault.PlanFault.TheVariants.{WeightRang
 use Rattle.job_trace.specs.declared.trace.TraceLine.{TraceLine}
 use Rattle.job_trace.specs.declared.trace.TraceLine.TheVariants.{Cores, Rounds, Entries, Core, Thread, Order}
 use Rattle.job_trace.specs.declared.trace.Numbered.{Numbered}
-use Rattle.job_trace.specs.Forms.{SpellsNumbers, SpellsProgram, next_number, order_line, run_block, run_end, run_forever, run_yield, thread_line}
+use Rattle.job_trace.specs.Forms.{SpellsProgram, order_line, run_block, run_end, run_forever, run_yield, thread_line}
 use Rattle.job_trace.specs.Rules.{HasSpelling, Measure, MayAllFollow, MayFollow, burst_measures, cores_of, first_passed, order_measures, ranged}
 use Rattle.job_trace.specs.Plans.{counted_weight, first_fault, is_foreign, line_fault, order_of, orders_of, thread_of, threads_of, weighed, weight_fault}
 use Rattle.job_trace.proofs.RangeLemmas.{first-none, in-range}

@@ -1,5 +1,5 @@
 -- The plan that a trace means under a policy.
-use Rattle.std.specs.Prelude.{◌≡◌, ℕ, zero, suc, ◌+◌, ◌-◌, ◌==◌, ℤ, pos, Bool, false, ◌||◌, List, [], ◌∷◌, ◌++◌, length}
+use Rattle.std.specs.Prelude.{◌≡◌, ℕ, zero, suc, ◌-◌, ◌==◌, ℤ, pos, Bool, false, ◌||◌, List, [], ◌∷◌, ◌++◌, length}
 use Rattle.std.specs.Prelude.{map, replicate, take, find, position, fold, filter_map, slice_set, Option, Some, None}
 use Rattle.std.specs.Prelude.{Result, Ok, Err, nat_lt, int_lt, if◌then◌else◌}
 use Rattle.std.specs.Option.{option_or}

@@ -1,6 +1,6 @@
 -- Answers of which none fails and none is left open keep a certificate for each system.
 use Rattle.std.proofs.Common.{◌≡◌, ℕ, Bool, true, false, ◌||◌, List, [], ◌∷◌, map, refl, subst}
-use Rattle.std.specs.List.{AllByRecursion, AllZip, list_any}
+use Rattle.std.specs.List.{AllByRecursion, AllZip}
 use Rattle.linear_form.specs.System.{LinearSystem}
 use Rattle.linear_cert.specs.declared.cert.Cert.{Cert}
 use Rattle.linear_cert.specs.Right.{CertTree, cert_tree}

@@ -1,5 +1,5 @@
 -- The point of an answer shows values at which the statement fails.
-use Rattle.std.proofs.Common.{◌≡◌, ℕ, zero, suc, ◌≤◌, ◌<◌, ◌+◌, ℤ, pos, Bool, true, false, cond, inl, inr, List, [], ◌∷◌, ◌++◌, map, take, length, refl, sym, ap, ◌∙◌, subst, arith}
+use Rattle.std.proofs.Common.{◌≡◌, ℕ, zero, suc, ◌≤◌, ◌+◌, ℤ, pos, Bool, true, false, cond, inl, inr, List, [], ◌∷◌, ◌++◌, map, take, length, refl, sym, ap, ◌∙◌, subst, arith}
 use Rattle.std.proofs.lemmas.List.{append-nil, length-map, length_push, map-append, take_all, take_more}
 use Rattle.policy_tree.specs.Meaning.{Meaning}
 use Rattle.policy_eval.specs.Obligations.{Statement}
@@ -9,9 +9,8 @@ use Rattle.policy_eval.specs.Values.{Assignment, variable_of}
 use Rattle.linear_form.specs.declared.form.Row.{Row}
 use Rattle.linear_form.specs.Solution.{Solves, value_at}
 use Rattle.obligations.specs.Refutations.{refutation}
-use Rattle.obligations.specs.Systems.{bound_of, has_variable, kept_below, place_of, refuting_cases, system_of_case, systems_of, variable_ranges, variables_of}
+use Rattle.obligations.specs.Systems.{bound_of, has_variable, kept_below, refuting_cases, system_of_case, variable_ranges, variables_of}
 use Rattle.obligations.proofs.Folds.{case_holds, some_holds}
-use Rattle.obligations.proofs.Kept.{IsKept}
 use Rattle.obligations.proofs.Occurring.{AllRows, HasKept}
 use Rattle.obligations.proofs.Linear.{refutation-linear}
 use Rattle.obligations.proofs.Normal.{cases_of-value}
@@ -19,7 +18,7 @@ use Rattle.obligations.proofs.Refuted.{all_kept_rows, fits_load}
 use Rattle.obligations.proofs.Solutions.{Agrees, values_of, values_of-agrees, values_of-hold, values_of-in}
 use Rattle.obligations.proofs.Tests.{or_left, or_right}
 use Rattle.policy_checker.specs.Answers.{IsFirstSolved}
-use Rattle.policy_checker.specs.Laws.{FailsAt, PointsRefute}
+use Rattle.policy_checker.specs.Laws.{PointsRefute}
 
 -- the values of the kept variables below a number are the first of the point
 module _ (keeps : ℕ → Bool) (point : List ℤ) (values : Assignment) (agrees : Agrees keeps point values) where

@@ -1,5 +1,5 @@
 -- Certificates and answers say the truth.
-use Rattle.std.proofs.Common.{◌≡◌, ℕ, zero, suc, ℤ, ◌<◌, inl, inr, List, [], ◌∷◌, Option, map, length, refl, subst, sym, arith}
+use Rattle.std.proofs.Common.{ℕ, suc, ℤ, inl, inr, List, [], ◌∷◌, Option, map, refl, subst, sym, arith}
 use Rattle.std.specs.List.{All, AllByRecursion, AllZip, Contains}
 use Rattle.std.proofs.lemmas.List.Elements.{All-from_recursion, recursion_from_All}
 use Rattle.sched_base.specs.declared.limits.TheConstants.{CHECK_BUDGET}
@@ -13,7 +13,6 @@ use Rattle.policy_tree.specs.Meaning.{Meaning}
 use Rattle.policy_eval.specs.Obligations.{IsMet, MeetsObligations, Statement}
 use Rattle.policy_eval.specs.Resolved.{IsResolved}
 use Rattle.obligations.specs.declared.names.ObName.{ObName}
-use Rattle.obligations.specs.Laws.{HaveNoSolution}
 use Rattle.obligations.specs.Names.{ob_names, statement_of}
 use Rattle.obligations.specs.Systems.{systems_of}
 use Rattle.obligations.proofs.Law.{names_are_statements, systems_are_statements}

@@ -1,16 +1,15 @@
 -- What verdicts say of a policy.
-use Rattle.std.proofs.Common.{◌≡◌, ℕ, Bool, true, false, ◌||◌, ◌⊎◌, inl, inr, List, [], ◌∷◌, map, refl, subst, sym, ◌∙◌}
-use Rattle.std.specs.List.{All, AllByRecursion, list_any}
+use Rattle.std.proofs.Common.{◌≡◌, Bool, true, false, ◌||◌, ◌⊎◌, inl, inr, List, [], ◌∷◌, map, refl, subst, sym}
+use Rattle.std.specs.List.{All, AllByRecursion}
 use Rattle.std.proofs.lemmas.List.Elements.{All-from_recursion, recursion_from_All}
 use Rattle.sched_base.specs.declared.limits.TheConstants.{CHECK_BUDGET}
 use Rattle.policy_tree.specs.Meaning.{Meaning}
-use Rattle.policy_eval.specs.Obligations.{IsMet, MeetsObligations, Statement}
+use Rattle.policy_eval.specs.Obligations.{IsMet, MeetsObligations}
 use Rattle.policy_eval.specs.Resolved.{IsResolved}
 use Rattle.obligations.specs.declared.names.ObName.{ObName}
 use Rattle.obligations.specs.Names.{ob_names, statement_of}
 use Rattle.obligations.specs.Systems.{systems_of}
 use Rattle.obligations.proofs.Law.{names_are_statements}
-use Rattle.policy_checker.specs.Answers.{IsAnswer}
 use Rattle.policy_checker.specs.Outcomes.{HasOpen, IsTold, outcome_of}
 use Rattle.policy_checker.specs.Verdicts.{Answers, AreAnswers, IsRefused, IsUndecided, is_failure, is_left, some_fails, some_is_left}
 use Rattle.policy_checker.specs.declared.answer.Answered.{Answered}

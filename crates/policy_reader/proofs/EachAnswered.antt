@@ -1,5 +1,5 @@
 -- A text is read to a policy, or one of the three readers finds its fault.
-use Rattle.std.proofs.Common.{◌≡◌, ◌≢◌, ℕ, ◌≤◌, ◌⊎◌, inl, inr, List, [], length, Option, Some, None, refl}
+use Rattle.std.proofs.Common.{◌≡◌, ◌≢◌, ℕ, ◌≤◌, inl, inr, List, length, Option, Some, None, refl}
 use Rattle.std.specs.Prelude.{MatchOption}
 use Rattle.sched_base.specs.declared.limits.TheConstants.{MAX_POLICY_BYTES}
 use Rattle.policy_lexer.specs.declared.token.Token.{Token}

@@ -1,21 +1,18 @@
 -- The entries of a legal history can be printed.
-use Rattle.std.proofs.Common.{◌≡◌, ℕ, zero, suc, ◌+◌, ◌<◌, ◌≤◌, Bool, true, false, cond, List, [], ◌∷◌, ◌++◌, map, find, take, length, get_or, slice_get, All, IfSome, IsSome, IsSomeAnd, Contains, Option, Some, None, option_and_then, refl, sym, ap, subst, ◌∙◌, arith}
+use Rattle.std.proofs.Common.{◌≡◌, ℕ, zero, suc, ◌<◌, ◌≤◌, Bool, true, false, cond, List, [], ◌∷◌, map, find, take, length, get_or, slice_get, All, IfSome, IsSomeAnd, Option, Some, None, option_and_then, refl, sym, ap, subst, arith}
 use Rattle.std.proofs.lemmas.Bool.Decides.{nat_tests}
 use Rattle.std.proofs.lemmas.List.{length-take}
 use Rattle.std.proofs.lemmas.List.Elements.{All-contains}
 use mathlib.Core.Option.{some}
 use lib.ListN.{get_elem?}
-use Rattle.sched_base.specs.declared.limits.TheConstants.{MAX_CORES, MAX_ENTRIES, MAX_ROUNDS, MAX_THREADS}
+use Rattle.sched_base.specs.declared.limits.TheConstants.{MAX_ENTRIES}
 use Rattle.sched_base.specs.declared.task.Task.{Task}
 use Rattle.policy_tree.specs.declared.typed.Put.{Put}
 use Rattle.policy_tree.specs.declared.typed.Put.TheVariants as put
-use Rattle.policy_tree.specs.declared.typed.Event.{Event}
 use Rattle.policy_tree.specs.Meaning.{Meaning, PlaceTree, here, least}
-use Rattle.policy_eval.specs.Events.{outcomes_of}
 use Rattle.policy_eval.specs.Orders.{best_of, better_of}
 use Rattle.policy_eval.specs.Sights.{pair_values}
 use Rattle.policy_eval.specs.Values.{holds}
-use Rattle.round_model.specs.declared.entry.Did.{Did}
 use Rattle.round_model.specs.declared.entry.Did.TheVariants as did
 use Rattle.round_model.specs.declared.entry.Entry.{Entry}
 use Rattle.round_model.specs.declared.entry.Entry.TheVariants as entry
@@ -30,7 +27,7 @@ use Rattle.round_model.specs.Bursts.{HasBurst, HaveBursts, LiesIn}
 use Rattle.round_model.specs.Choices.{choice_of}
 use Rattle.round_model.specs.Cores.{Cores}
 use Rattle.round_model.specs.Fits.{Fits, ThreadFits}
-use Rattle.round_model.specs.Legal.{Legal, LegalNext, rounds_begun}
+use Rattle.round_model.specs.Legal.{LegalNext}
 use Rattle.round_model.specs.Programs.{Meeting, blocking, burst_of, ending_now, planned_of, tick, yielding}
 use Rattle.round_model.specs.Reads.{ReadsFit, read_values}
 use Rattle.round_model.specs.Rows.{PlacementReads, Row}
@@ -43,7 +40,7 @@ use Rattle.round_model.proofs.Finding.{find-All, find-passes}
 use Rattle.round_model.proofs.Keeping.{All-append, All-one}
 use Rattle.round_model.proofs.Outcomes.{choice_there}
 use Rattle.round_model.proofs.There.{are_there}
-use Rattle.sched_history.specs.Ranges.{AreReads, IsCoreNumber, IsPosition, IsPrintable, IsThreadNumber, LegalIsPrintable, NamesThread}
+use Rattle.sched_history.specs.Ranges.{AreReads, IsCoreNumber, IsPrintable, IsThreadNumber, LegalIsPrintable, NamesThread}
 
 -- what holds of each task holds of the best
 best_All : {X : Type 0} (P : X → Type 0) (comes : X → X → Bool) (xs : List X) → All P xs → IfSome (best_of comes xs) P

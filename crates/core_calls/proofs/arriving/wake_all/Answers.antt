@@ -1,4 +1,4 @@
-use Rattle.std.proofs.Common.{ℕ, MatchOption, Option, refl, sym, ap, ◌∙◌, subst, arith}
+use Rattle.std.proofs.Common.{MatchOption, refl, sym, ap, ◌∙◌, subst, arith}
 use Rattle.round_model.specs.declared.entry.Entry.TheVariants as entry
 use Rattle.core_table.specs.declared.views.View.{View}
 use Rattle.core_calls.specs.Calls.{core_in}

@@ -1,11 +1,11 @@
-use Rattle.std.proofs.Common.{◌≡◌, ◌+◌, ℕ, true, refl, sym, ap, ◌∙◌, subst, arith}
+use Rattle.std.proofs.Common.{◌≡◌, ◌+◌, true, refl, sym, ap, ◌∙◌, subst, arith}
 use Rattle.round_model.specs.declared.entry.Entry.TheVariants as entry
 use Rattle.core_table.specs.declared.views.Role.TheVariants as role
 use Rattle.core_table.specs.declared.views.View.{View}
 use Rattle.core_calls.specs.Calls.{core_in}
 use Rattle.core_calls.specs.Code.Arrivals.{HasDrawn}
 use Rattle.core_calls.specs.Steps.{HasLetAllIn, MayWork, Worked}
-use Rattle.core_calls.proofs.TurnEnds.{drawn_so_far, has_run, may_attempt, may_look, turned_by}
+use Rattle.core_calls.proofs.TurnEnds.{drawn_so_far, may_attempt, may_look, turned_by}
 use Rattle.core_calls.proofs.Turning.{core_is, own_few}
 use Rattle.core_calls.proofs.turns.turn.Goals as goal
 

@@ -2,8 +2,6 @@ use Rattle.std.proofs.Common.{◌+◌, [], length, sym, ap, subst, ◌∙◌}
 use lib.ListN.{length-replicate}
 use Rattle.round_model.specs.declared.plan.Plan.{Plan}
 use Rattle.core_table.specs.declared.views.View.{View}
-use Rattle.core_table.specs.Told.{IsKnown}
-use Rattle.core_table.specs.Views.{is_live}
 use Rattle.core_table.proofs.Opening.{first_agrees, opens, sits_first}
 use Rattle.core_table.proofs.ends.open.Goals as goal
 

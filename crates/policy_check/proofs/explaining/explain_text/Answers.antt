@@ -1,5 +1,5 @@
 -- The policy whose obligation is explained is the one that the text spells.
-use Rattle.std.proofs.Common.{◌≡◌, ℕ, Err, ap, sym, subst}
+use Rattle.std.proofs.Common.{ℕ, Err, ap, sym, subst}
 use Rattle.policy_tree.specs.Meaning.{meaning_of}
 use Rattle.obligations.specs.declared.names.ObName.{ObName}
 use Rattle.obligations.specs.Counts.{first_crowded}

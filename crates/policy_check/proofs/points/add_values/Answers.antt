@@ -1,9 +1,9 @@
 -- One variable after another.
-use Rattle.std.proofs.Common.{◌≡◌, ◌∙◌, ◌++◌, ◌+◌, ℕ, ℤ, List, FitsSigned, ap, length, pos, sym, take, get_or, to_z-of_z, subst, arith, rules}
+use Rattle.std.proofs.Common.{◌≡◌, ◌∙◌, ◌++◌, ℕ, ℤ, List, FitsSigned, ap, length, pos, sym, take, get_or, to_z-of_z, subst, arith, rules}
 use Rattle.std.specs.Int.{w64}
 use Rattle.std.specs.List.{flat_map, zip}
 use Rattle.policy_tree.specs.Meaning.{meaning_of}
-use Rattle.policy_check.specs.Points.{value_text, values_text}
+use Rattle.policy_check.specs.Points.{value_text}
 use Rattle.policy_check.proofs.Texts.{glued_two, values_more, values_whole}
 use Rattle.policy_check.proofs.points.add_values.Goals as goal
 

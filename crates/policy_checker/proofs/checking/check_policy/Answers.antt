@@ -1,5 +1,4 @@
 -- A policy is told to have an obligation with too many cases exactly where it has one.
-use Rattle.policy_tree.specs.Meaning.{meaning_of}
 use Rattle.policy_checker.proofs.checking.check_policy.Goals as goal
 
 pub returns-in-Ok-clause-crowded : goal.returns-in-Ok-clause-crowded

@@ -1,5 +1,5 @@
 -- One system after another.
-use Rattle.std.proofs.Common.{[], ◌∷◌, ◌++◌, ◌+◌, ◌∙◌, List, length, subst, sym, take, arith}
+use Rattle.std.proofs.Common.{[], ◌∷◌, ◌++◌, ◌+◌, ◌∙◌, List, subst, sym, take, arith}
 use Rattle.std.proofs.lemmas.List.{length-take-le, take_more}
 use Rattle.linear_form.specs.System.{LinearSystem}
 use Rattle.policy_checker.specs.Answers.{IsAnswer}

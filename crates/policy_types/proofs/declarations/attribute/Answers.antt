@@ -1,5 +1,5 @@
 -- Numbers of an attribute's range fit 32 bits.
-use Rattle.std.proofs.Common.{◌≡◌, ℤ, to_z, of_z, FitsSigned, refl, sym, ap, ◌∙◌, arith}
+use Rattle.std.proofs.Common.{◌≡◌, ℤ, to_z, of_z, FitsSigned, refl, ap, ◌∙◌, arith}
 use Rattle.std.specs.Int.{w32, w128}
 use Rattle.std.proofs.lemmas.Int.{to_z-of_z, fits_signed_from_abs}
 use Rattle.policy_types.specs.Declarations.{int_meaning}

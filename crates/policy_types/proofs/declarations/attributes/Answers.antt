@@ -1,10 +1,8 @@
 -- The first fault of an attribute is that of them all.
-use Rattle.std.proofs.Common.{List, subst, true, false, arith}
+use Rattle.std.proofs.Common.{true, false, arith}
 use Rattle.std.proofs.lemmas.Result.{err_from_is_err_and}
-use Rattle.policy_tree.specs.declared.typed.Attr.{Attr}
-use Rattle.policy_types.specs.Faults.{IsFirst}
 use Rattle.policy_types.specs.declared.scope.Scope.{Scope}
-use Rattle.policy_types.specs.Declarations.{attr_faults, attrs_faults, nothing_declared}
+use Rattle.policy_types.specs.Declarations.{attrs_faults, nothing_declared}
 use Rattle.policy_types.proofs.Ranges.{attr_first}
 use Rattle.policy_types.proofs.declarations.attributes.Goals as goal
 

@@ -1,4 +1,4 @@
-use Rattle.std.proofs.Common.{◌≡◌, ◌+◌, ℕ, ap, sym, subst}
+use Rattle.std.proofs.Common.{◌≡◌, ◌+◌, ap, sym, subst}
 use Rattle.runtime_tests.specs.Games.{IsTaking}
 use Rattle.runtime_tests.proofs.Dealing.{dealt}
 use Rattle.runtime_tests.proofs.seat_threads.play_four.Goals as goal

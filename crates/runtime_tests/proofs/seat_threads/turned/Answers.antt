@@ -1,4 +1,4 @@
-use Rattle.std.proofs.Common.{ℕ, subst}
+use Rattle.std.proofs.Common.{subst}
 use Rattle.core_table.specs.declared.seat.Table.{Table}
 use Rattle.core_table.specs.Public.{IsOf, view_of}
 use Rattle.runtime_tests.specs.declared.players.Stage.TheVariants as stage

@@ -1,4 +1,4 @@
-use Rattle.std.proofs.Common.{ℕ, sym, subst}
+use Rattle.std.proofs.Common.{sym, subst}
 use Rattle.core_table.specs.declared.views.View.{View}
 use Rattle.core_table.specs.Public.{HasCore, view_of}
 use Rattle.core_table.specs.Views.{holding}

@@ -1,10 +1,9 @@
 -- Line after line.
-use Rattle.std.proofs.Common.{◌≡◌, ◌<◌, ℕ, List, [], ◌∷◌, length, get_or, map, sym, ◌∙◌, ap, arith, subst}
+use Rattle.std.proofs.Common.{◌≡◌, ◌<◌, ℕ, List, [], length, get_or, sym, ◌∙◌, ap, arith}
 use Rattle.std.proofs.lemmas.List.{get_or-map, length-map}
 use Rattle.std.proofs.lemmas.Result.{err_from_is_err_and}
 use Rattle.round_model.specs.declared.entry.Entry.{Entry}
-use Rattle.sched_io.specs.Puts.{WritesAll, WritesPart}
-use Rattle.sched_io.proofs.PutsLemmas.{puts_next, puts_none, puts_whole, stops_here}
+use Rattle.sched_io.proofs.PutsLemmas.{puts_next, stops_here}
 use Rattle.sched_history.specs.Spelling.{line_of_entry, lines_of_history}
 use Rattle.sched_history.proofs.printing.put_history.Goals as goal
 

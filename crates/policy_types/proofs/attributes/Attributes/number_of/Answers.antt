@@ -1,5 +1,5 @@
 -- The place among the keys is the number.
-use Rattle.std.proofs.Common.{◌≡◌, ◌∙◌, ℕ, List, ap, arith, length, option_map, subst}
+use Rattle.std.proofs.Common.{◌≡◌, ◌∙◌, List, ap, arith, length}
 use Rattle.std.proofs.lemmas.List.{length-map}
 use Rattle.policy_tree.specs.declared.typed.Attr.{Attr}
 use Rattle.policy_types.specs.References.{attribute_named}

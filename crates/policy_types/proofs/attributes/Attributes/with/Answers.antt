@@ -1,9 +1,8 @@
 -- The keys and the list are one longer.
-use Rattle.std.proofs.Common.{◌≡◌, ◌++◌, ◌+◌, ◌<◌, ◌^◌, ◌∷◌, [], ◌∙◌, List, None, arith, ap, length, length-append, refl, subst, sym, if◌then◌else◌}
+use Rattle.std.proofs.Common.{◌≡◌, ◌++◌, ◌+◌, ◌<◌, ◌^◌, ◌∷◌, [], ◌∙◌, List, None, arith, length, length-append, refl, subst, sym}
 use Rattle.policy_tree.specs.declared.typed.Attr.{Attr}
-use Rattle.policy_types.specs.Numbered.{IsNumbered}
 use Rattle.policy_types.specs.References.{attribute_named}
-use Rattle.policy_types.proofs.NumberedNames.{Key, absent, one_more, texts}
+use Rattle.policy_types.proofs.NumberedNames.{absent, one_more}
 use Rattle.policy_types.proofs.attributes.Attributes.with.Goals as goal
 
 pub invariant_of-result : goal.invariant_of-result

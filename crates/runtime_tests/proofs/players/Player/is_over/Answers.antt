@@ -1,4 +1,4 @@
-use Rattle.std.proofs.Common.{refl, sym}
+use Rattle.std.proofs.Common.{refl}
 use Rattle.runtime_tests.proofs.players.Player.is_over.Goals as goal
 
 pub returns-in-Over : goal.returns-in-Over
