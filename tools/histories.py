@@ -3,8 +3,10 @@
 import re
 from collections import namedtuple
 
+MOST_CORES = 64
+CORES = (0, MOST_CORES - 1)
 RANGES = {
-    "round": (1, 4096), "last": (1, 4096), "thread": (1, 1023), "core": (0, 31), "target": (0, 31), "victim": (0, 31),
+    "round": (1, 4096), "last": (1, 4096), "thread": (1, 1023), "core": CORES, "target": CORES, "victim": CORES,
 }
 MAX_LINES = {"history": 65536, "report": 200000}
 
@@ -66,7 +68,7 @@ def value_of(name, word):
 
 def is_in_range(name, value):
     if name == "reads":
-        return len(value) <= 32 and all(read <= 65536 for read in value)
+        return len(value) <= MOST_CORES and all(read <= 65536 for read in value)
     return name not in RANGES or RANGES[name][0] <= value <= RANGES[name][1]
 
 

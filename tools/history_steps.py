@@ -92,7 +92,7 @@ def read_of(core, seen, position, counts):
     changes = [at for at in range(seen, position) if counts[at + 1][core] != counts[at][core]]
     return {
         "core": core, "position": seen, "saw": counts[seen][core], "now": counts[position][core],
-        "by": changes[0] if changes else None,
+        "changes": changes, "by": changes[0] if changes else None,
     }
 
 
@@ -105,16 +105,15 @@ def cause_of(line, reads):
 
 
 def steps_of(lines, cores):
-    """For each entry of a legal history what a page shows of it. `cores` is how many cores there are."""
+    """For each entry of a legal history, one after the other, what is shown of it. `cores` is how many cores there are."""
     stand = [Core() for _ in range(cores)]
-    counts, steps = [[0] * cores], []
+    counts = [[0] * cores]
     for position, line in enumerate(lines):
         reads = reads_of(line, position, counts)
         move(stand, line)
         counts.append([core.count() for core in stand])
         changed = {core: stand[core].shown() for core in touched(line)}
-        steps.append({**described(line), "reads": reads, "cause": cause_of(line, reads), "changed": changed})
-    return steps
+        yield {**described(line), "reads": reads, "cause": cause_of(line, reads), "changed": changed}
 
 
 def described(line):

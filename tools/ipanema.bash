@@ -1,10 +1,11 @@
 # Completion of `ipanema` in bash: its commands, the names of obligations behind `explain POLICY`, and files by their endings.
 # tools/install puts it where bash looks for it. By hand: `source tools/ipanema.bash`, and then also for `./ipanema`.
 
-# The files of that ending that the word begins, and the folders on the way to them.
+# The files of those endings that the word begins, and the folders on the way to them.
 _ipanema_files() {
+  local ending
   compopt -o filenames 2>/dev/null
-  mapfile -t COMPREPLY < <(compgen -d -- "$2"; compgen -f -X "!*.$1" -- "$2")
+  mapfile -t COMPREPLY < <(compgen -d -- "$1"; for ending in "${@:2}"; do compgen -f -X "!*.$ending" -- "$1"; done)
 }
 
 _ipanema() {
@@ -12,10 +13,10 @@ _ipanema() {
   COMPREPLY=()
   case "$COMP_CWORD,${COMP_WORDS[1]}" in
     1,*) wanted="check explain play run replay report make bench" ;;
-    2,check | 2,explain | 2,play | 2,run | 2,replay | 2,report) _ipanema_files policy "$word" ;;
-    3,explain) wanted="B1 B2 B3 H1.enqueue H2.enqueue H1.tick H2.tick H1.yield H2.yield H1.block H2.block" ;;
-    3,play | 3,run | 3,replay | 3,report) _ipanema_files trace "$word" ;;
-    4,replay | 4,report) _ipanema_files history "$word" ;;
+    2,check | 2,explain | 2,play | 2,run | 2,replay | 2,report) _ipanema_files "$word" policy ;;
+    3,explain) wanted="B1 B2 B3 B4 H1.enqueue H2.enqueue H1.tick H2.tick H1.yield H2.yield H1.block H2.block" ;;
+    3,play | 3,run | 3,replay | 3,report) _ipanema_files "$word" trace ;;
+    4,replay | 4,report) _ipanema_files "$word" history ran ;;
   esac
   [ -z "$wanted" ] || mapfile -t COMPREPLY < <(compgen -W "$wanted" -- "$word")
 }

@@ -82,12 +82,13 @@ class Lanes {
     MARKS[entry.kind](this, mark, this.middle(position), entry);
   }
 
-  // What the entry at hand adds: its column, its reads, and the entry that explains it.
-  show(at) {
+  // What the entry at hand adds: its column, its reads, the entry that explains it, and the looks whose attempts come later.
+  show(at, pending) {
     const entry = this.entries[at];
     this.over.replaceChildren();
     for (const column of this.under.children) column.setAttribute("class", this.columnClass(column, at, entry));
     this.fade(at);
+    pending.forEach((look) => this.drawEye(at, look, pending));
     (entry.reads || []).forEach((read) => this.drawRead(at, entry.core, read));
     if (Number.isInteger(entry.cause)) this.drawCause(at, entry.cause);
   }
@@ -114,6 +115,28 @@ class Lanes {
       : { cx: x, cy: y, r: sight, class: "sight" });
     shape(group, "text", { x, y: y + this.half * 0.45, class: "saw" }, read.saw);
     if (stale) this.drawLabel(group, this.x(at + 1) + 8, y, `stale: saw ${read.saw}, now ${read.now}`);
+  }
+
+  // A thief's eye at the moment and on the victim that it saw, with the number there. A line goes from it to the thief, behind the
+  // entry at hand. Thieves that saw the same share an eye. It lies above its row, where no read of the entry at hand hides it.
+  drawEye(at, look, pending) {
+    const group = shape(this.over, "g", { class: look.changes ? "eye faded" : "eye", opacity: strength(look) });
+    Object.assign(group.dataset, { core: look.core, victim: look.victim, saw: look.saw });
+    const [x, y] = [this.x(look.position), this.y(look.victim) - this.row * 0.4];
+    const [now, thief] = [this.x(at + 1), this.y(look.core)];
+    shape(group, "path", { d: this.arc(now, thief, x, y), class: "gaze" });
+    shape(group, "text", { x: now + 6, y: thief - this.half * 0.5, class: "who" },
+      `core ${look.core} saw ${look.saw} at core ${look.victim}`);
+    const same = pending.find((one) => one.victim === look.victim && one.position === look.position);
+    if (same === look) this.drawPupil(group, x, y, look.saw);
+  }
+
+  drawPupil(group, x, y, saw) {
+    const [wide, high] = [this.half * 1.3, this.half * 0.85];
+    const lid = (way) => `Q ${x} ${y + way * 2 * high}`;
+    shape(group, "path", { d: `M ${x - wide} ${y} ${lid(-1)} ${x + wide} ${y} ${lid(1)} ${x - wide} ${y} Z` });
+    shape(group, "circle", { cx: x, cy: y, r: high * 0.85 });
+    shape(group, "text", { x, y: y + this.half * 0.4, class: "saw" }, saw);
   }
 
   // From the reader's mark back to the moment that it saw. In its own row the arc goes over the marks.

@@ -51,12 +51,38 @@ function stateAt(at) {
   return states[Math.min(at, states.length - 1)] || opening;
 }
 
+// ---- looks before their attempts
+
+// Each attempt to steal, with what its thief read of the victim.
+function looksOf(steps) {
+  return steps.flatMap((step, at) => (step.reads || []).filter((read) => read.core === step.victim)
+    .map((read) => ({ ...read, at, core: step.core, victim: step.victim })));
+}
+
+// The looks behind the entry whose attempts are still to come, and how often the number that was seen has changed since.
+function pendingLooks(at) {
+  return looks.filter((look) => look.position <= at + 1 && at < look.at).map((look) => ({
+    ...look, changes: look.changes.filter((change) => change <= at).length, now: countOf(stateAt(at)[look.victim]),
+  }));
+}
+
+// An eye is whole while what it saw is so, and fades with each change.
+function strength(look) {
+  return Math.max(0.3, 0.6 ** look.changes);
+}
+
+const looks = looksOf(facts.steps);
+
 // ---- a core
 
 function drawCores(at) {
   const entry = entries[at] || { kind: "round" };
   part("cores").replaceChildren();
-  stateAt(at).forEach((core, number) => drawCore(part("cores"), core, number, entry));
+  const pending = pendingLooks(at);
+  stateAt(at).forEach((core, number) => {
+    const card = drawCore(part("cores"), core, number, entry);
+    pending.filter((look) => look.victim === number).forEach((look) => drawEye(card, look));
+  });
 }
 
 function drawCore(parent, core, number, entry) {
@@ -67,24 +93,53 @@ function drawCore(parent, core, number, entry) {
   add(head, "span", "title", `core ${number}`);
   roles.slice(0, 1).forEach(([, words]) => add(head, "span", "role", words));
   add(head, "span", "load", loadWord(core));
-  drawThreads(card, "runs", core.running === null ? [] : [core.running], entry);
+  drawLoad(drawThreads(card, "runs", core.running === null ? [] : [core.running], entry), core);
   drawThreads(card, "queue", core.queue, entry);
   if (core.blocked.length) drawThreads(card, "blocked", core.blocked, entry);
   const read = (entry.reads || []).find((one) => one.core === number);
   if (read) drawSight(card, read);
+  return card;
+}
+
+function countOf(core) {
+  return core.queue.length + (core.running === null ? 0 : 1);
 }
 
 function loadWord(core) {
-  const count = core.queue.length + (core.running === null ? 0 : 1);
+  const count = countOf(core);
   if (count === 0) return "idle";
   return count > 1 ? "overloaded" : "";
+}
+
+// The load of a core, behind its running thread.
+function drawLoad(line, core) {
+  const list = core.running === null ? core.queue : [core.running, ...core.queue];
+  const load = list.reduce((sum, thread) => sum + facts.weights[thread], 0);
+  if (list.length) add(line, "span", "weighs", `load ${load}`);
 }
 
 function drawThreads(card, kind, list, entry) {
   const line = add(card, "div", kind);
   add(line, "span", "what", kind);
-  list.forEach((thread) => add(line, "b", thread === entry.thread ? "moved" : "", thread));
+  list.forEach((thread) => drawThread(line, thread, entry));
   if (!list.length) add(line, "i", "", "none");
+  return line;
+}
+
+// A thread, and its weight unless that is 1.
+function drawThread(line, thread, entry) {
+  const chip = add(line, "b", thread === entry.thread ? "moved" : "", thread);
+  chip.dataset.thread = thread;
+  const weight = facts.weights[thread];
+  chip.title = `thread ${thread}, weight ${weight}`;
+  if (weight !== 1) add(chip, "sub", "", `w${weight}`);
+}
+
+// What a thief saw of this core, who will try to steal from it later.
+function drawEye(card, look) {
+  const now = look.changes ? `, now ${look.now}` : "";
+  const eye = add(card, "div", look.changes ? "eye faded" : "eye", `core ${look.core} saw ${look.saw}${now}`);
+  eye.style.opacity = strength(look);
 }
 
 function drawSight(card, read) {
@@ -169,6 +224,7 @@ function drawLegend() {
   }
   add(part("legend"), "span", "item fresh", "read: still so");
   add(part("legend"), "span", "item stale", "stale read: changed since");
+  add(part("legend"), "span", "item eye", "a thief's look, before its attempt");
 }
 
 // ---- the steps
@@ -183,7 +239,7 @@ function show(wanted) {
   drawCores(current);
   markList(current);
   if (entries.length) {
-    lanes.show(current);
+    lanes.show(current, pendingLooks(current));
     lanes.follow(part("lanes"), current);
   }
   document.body.dataset.at = current;

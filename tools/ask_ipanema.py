@@ -1,0 +1,102 @@
+"""Asks the program `ipanema`, for the scripts beside this file, and reads policies and traces that it has found no fault in."""
+
+import functools
+import re
+import subprocess
+import sys
+from collections import namedtuple
+from pathlib import Path
+
+from histories import Refused, read_report
+
+PROGRAM = Path(__file__).resolve().parent.parent / "ipanema"
+WHOLE, STOPPED, NOT_WHOLE = 0, 8, 9
+VERDICTS = {1, 3}
+MEANS = {
+    4: "it couldn't read a file", 5: "it couldn't write its output", 6: "it had no memory",
+    STOPPED: "the next round might not fit the trace's limit of entries", 70: "it couldn't be built",
+}
+
+# What the judge says: a word, how many entries are legal from the first on, and the line itself.
+Verdict = namedtuple("Verdict", "word legal line")
+
+
+# ---- what the program says
+
+
+@functools.cache
+def build():
+    """Should the program have to be built, this call says so."""
+    subprocess.run([PROGRAM, "make", "1", "1"], stdout=subprocess.DEVNULL, check=False)
+
+
+def ask(statuses, *words):
+    """What `ipanema` writes on these words. It must end with one of the statuses. What it says beside, the script says itself."""
+    try:
+        build()
+        answer = subprocess.run([PROGRAM, *words], stdout=subprocess.PIPE, stderr=subprocess.DEVNULL, check=False)
+    except OSError as error:
+        raise Refused(f"ipanema can't be run: {error.strerror}") from error
+    if answer.returncode not in statuses:
+        said = answer.stdout.decode("ascii", "replace").split("\n")
+        raise Refused(f"ipanema {words[0]} ends with status {answer.returncode}: {fault_in(said, answer.returncode)}")
+    return answer.stdout
+
+
+def fault_in(said, status):
+    """What is wrong, by the status or the lines that the program wrote: those of `check` where the policy isn't accepted."""
+    lines = [line for line in said if line]
+    if status in MEANS or not lines:
+        return MEANS.get(status, "it wrote nothing")
+    wrong = [line for line in lines[:-1] if not line.endswith(" holds")]
+    return f"the policy is {lines[-1]}, {wrong[0]}" if status in VERDICTS and wrong else lines[-1]
+
+
+def judge(policy, trace, history):
+    """The verdict on the history in that file."""
+    line = ask((WHOLE, NOT_WHOLE), "replay", policy, trace, history).decode("ascii").strip()
+    word, legal = line.split(" ")
+    return Verdict(word, int(legal), line)
+
+
+def report_of(policy, trace, history, verdict):
+    """The report of a whole history, or None."""
+    if verdict.word != "whole":
+        return None
+    return read_report(ask((WHOLE,), "report", policy, trace, history))
+
+
+# ---- the files
+
+
+def read_file(name):
+    try:
+        return Path(name).read_bytes()
+    except OSError as error:
+        raise Refused(f"{name} can't be read: {error.strerror}") from error
+
+
+def write(text, what):
+    try:
+        sys.stdout.buffer.write(text.encode("utf-8", "replace"))
+        sys.stdout.buffer.flush()
+    except OSError as error:
+        raise Refused(f"the {what} can't be written: {error.strerror}") from error
+
+
+def words_in(name):
+    """The words of the lines that say something. `#` begins what says nothing, as in a trace and in a policy."""
+    lines = (re.sub(r"#.*", "", line).split() for line in read_file(name).decode("latin-1").split("\n"))
+    return [words for words in lines if words]
+
+
+def cores_in(trace):
+    """How many cores the trace names in its first line that says something."""
+    return int(words_in(trace)[0][1])
+
+
+def weights_in(policy, trace):
+    """The weight of each thread of the trace. The fourth word of a policy says whether it asks for weights."""
+    counts = [word for words in words_in(policy) for word in words][3] == "count"
+    threads = [words for words in words_in(trace) if words[0] == "thread"]
+    return {int(words[1]): 1 if counts or "weight" not in words else int(words[words.index("weight") + 1]) for words in threads}

@@ -1,0 +1,173 @@
+# What the front adds to the program's answers, on standard error alone: its status and its output stay as they are. To be read by a
+# script of bash that has set `front`, the folder of this file. Sentences on a fault need python3; without it they are left out.
+
+commands=(check explain play run replay report make bench)
+obligations=(B1 B2 B3 B4 {H1,H2}.{enqueue,tick,yield,block})
+
+say() {
+  printf '%s\n' "$*" >&2
+}
+
+# The words of a command, and what it does.
+usage_of() {
+  case "$1" in
+    check) say '  ipanema check POLICY                    is the policy accepted? a line for each obligation' ;;
+    explain) say '  ipanema explain POLICY NAME             does that obligation hold? if not, numbers at which it fails' ;;
+    play) say '  ipanema play POLICY TRACE               play the trace, core after core, and write the history' ;;
+    run) say '  ipanema run POLICY TRACE                play it with all cores side by side' ;;
+    replay) say '  ipanema replay POLICY TRACE HISTORY     is that history whole?' ;;
+    report) say '  ipanema report POLICY TRACE HISTORY     what did that history waste, and why did its steals fail?' ;;
+    make) say '  ipanema make SEED SIZE                  write a made trace of SIZE threads, 1 to 1023, drawn from a number SEED' ;;
+    bench) say '  ipanema bench SEED SIZE                 play that trace under a built-in policy, and count' ;;
+  esac
+}
+
+usage() {
+  local command
+  say 'usage:'
+  for command in "${commands[@]}"; do usage_of "$command"; done
+  say '  ipanema help                            this text; docs/COMMANDS.md and `man ipanema` say more'
+}
+
+# Whether the second word is but a slip away from the first: a letter is more, less or another, or two changed places.
+is_slip() {
+  local one="${1,,}" other="${2,,}"
+  while [ -n "$one" ] && [ "${one:0:1}" = "${other:0:1}" ]; do one="${one:1}" other="${other:1}"; done
+  while [ -n "$one" ] && [ "${one: -1}" = "${other: -1}" ]; do one="${one:0:-1}" other="${other:0:-1}"; done
+  case ${#one},${#other} in
+    0,0 | 0,1 | 1,0 | 1,1) return 0 ;;
+    2,2) [ "$one" = "${other:1:1}${other:0:1}" ] ;;
+    *) return 1 ;;
+  esac
+}
+
+# Finds which of the other words are near the first: the one that differs in case alone; or else those that begin so, or are a slip
+# away from it.
+find_near() {
+  local word=$1 other
+  shift
+  near=()
+  if [ ${#word} -lt 2 ] || [ ${#word} -gt 30 ]; then return; fi
+  for other in "$@"; do
+    if [ "${word,,}" = "${other,,}" ]; then near=("$other"); return; fi
+    if [[ "${other,,}" = "${word,,}"* ]] || is_slip "$word" "$other"; then near+=("$other"); fi
+  done
+}
+
+# Says that the word is no command or no obligation, and what is near.
+say_near() {
+  local shown=''
+  if [ ${#near[@]} -gt 0 ]; then printf -v shown ', `%s`' "${near[@]}"; fi
+  say "ipanema: there is no $2 \`$1\`${shown:+; near is${shown#,}}"
+}
+
+# How many words a command takes behind it.
+words_of() {
+  case "$1" in
+    check) echo 1 ;;
+    replay | report) echo 3 ;;
+    *) echo 2 ;;
+  esac
+}
+
+# Whether the words are a seed and a size.
+are_numbers() {
+  [[ "$1" =~ ^[0-9]{1,20}$ && "$2" =~ ^[0-9]{1,20}$ ]]
+}
+
+# Status 7: what is wrong with the words, and the usage of the command that was meant, or of all.
+say_words() {
+  local command="${1:-}" word near wanted
+  if [ $# -eq 0 ]; then usage; return; fi
+  if [[ " ${commands[*]} " != *" $command "* || "$command" = *' '* ]]; then
+    find_near "$command" "${commands[@]}"
+    say_near "$command" command
+    if [ ${#near[@]} -eq 1 ]; then say 'usage:'; usage_of "${near[0]}"; else usage; fi
+    return
+  fi
+  shift
+  for word in "$@"; do
+    case "$word" in
+      '') say 'ipanema: a word is empty' ;;
+      -h | --help) ;;
+      -*) say "ipanema: there are no options; a file of the name \`$word\` is named as ./$word" ;;
+    esac
+  done
+  wanted="$(words_of "$command")"
+  if [ $# -ne "$wanted" ]; then
+    say "ipanema: the number of words behind \`$command\` is $wanted, and here it is $#"
+  elif [ "$command" = explain ]; then
+    find_near "$2" "${obligations[@]}"
+    say_near "$2" obligation
+    say "ipanema: the obligations are ${obligations[*]}"
+  elif [ "$command" = make ] || [ "$command" = bench ]; then
+    if are_numbers "$@"; then say 'ipanema: SEED is below 2^64, and SIZE from 1 to 1023'; else say 'ipanema: SEED and SIZE are digits alone, at most twenty'; fi
+  fi
+  say 'usage:'
+  usage_of "$command"
+}
+
+# The words of a command that are files.
+files_of() {
+  case "$1" in
+    check | explain) files=("$2") ;;
+    *) files=("${@:2}") ;;
+  esac
+}
+
+# Status 4: which file wasn't read, and what the system says of it. One that can be opened but once isn't opened again.
+say_file() {
+  local files file told
+  files_of "$@"
+  for file in "${files[@]}"; do
+    [ ! -p "$file" ] && [ ! -c "$file" ] || continue
+    told="$(LC_ALL=C head -c 1 -- "$file" 2>&1 >/dev/null)" || { say "ipanema: $file wasn't read: ${told##*: }"; return; }
+  done
+  say "ipanema: a file wasn't read, and now each can be; call it again"
+}
+
+# Status 1 or 3 of a command that wants an accepted policy.
+say_not_accepted() {
+  local what='played' verdict='refused'
+  [ "$1" -eq 1 ] || verdict='undecided'
+  [ "$2" = play ] || [ "$2" = run ] || what='judged'
+  say "ipanema: the policy is $verdict, so nothing was $what; \`ipanema explain ${3@Q} NAME\` says more of a line above"
+}
+
+# Status 2 or 10: a sentence on the fault, if python3 is there and finds one.
+say_fault() {
+  command -v python3 >/dev/null && python3 -I "$front/tell.py" "$@" >&2 2>/dev/null
+}
+
+# Answers what doesn't reach the program, and ends then: a call for help, or for the version, which the first word says.
+answer_alone() {
+  case "$2" in
+    help | -h | --help) usage; exit 0 ;;
+    --version) say "$1"; exit 0 ;;
+  esac
+}
+
+# Runs the program, as if it were called itself: it ends when this script is ended, and has the files that this script was given.
+# Bash's own line on a signal is left out.
+run_program() {
+  local guarded=() told
+  if setpriv --pdeathsig TERM true 2>/dev/null; then guarded=(setpriv --pdeathsig TERM --); fi
+  { true >&2; } 2>/dev/null || { "${guarded[@]}" "$@"; return; }
+  { "${guarded[@]}" "$@" 2>&"$told" {told}>&-; } {told}>&2 2>/dev/null
+}
+
+# Runs the program on the words, says on standard error what there is to say, and ends with its status.
+answer() {
+  local program=$1 status=0
+  shift
+  run_program "$program" "$@" || status=$?
+  {
+    case "$status,${1:-}" in
+      7,*) say_words "$@" ;;
+      4,*) say_file "$@" ;;
+      2,* | 10,*) say_fault "$status" "$program" "$@" ;;
+      [13],play | [13],run | [13],replay | [13],report) say_not_accepted "$status" "$@" ;;
+    esac
+  } >/dev/null
+  exit "$status"
+}
