@@ -14,6 +14,7 @@ unfolding ob_names
 named name.B1 = refl
 named name.B2 = refl
 named name.B3 = refl
+named name.B4 = refl
 named name.H1Enqueue = refl
 named name.H2Enqueue = refl
 named name.H1Tick = refl

@@ -24,7 +24,7 @@ use core_state::end_of;
 use policy_eval::{CoreValues, Env, holds};
 use policy_tree::Policy;
 use round_model::{Plan, choice, target};
-use sched_base::{CoreId, MAX_ATTRIBUTES, MAX_CORES, Reads, ThreadId};
+use sched_base::{CoreId, MAX_CORES, Reads, ThreadId};
 
 impl Cores {
     /// What a core that looks just now reads: of each core the position behind the last entry that touched it, or the
@@ -128,7 +128,7 @@ impl Cores {
         ensures each { (c : ℕ) → HoldsAt self.now.cores c
             (λ y. values_in result c ≡ values_of plan.now c (seen_of y.core)) }
     {
-        let mut values = [NO_VALUES; MAX_CORES];
+        let mut values = [CoreValues::NONE; MAX_CORES];
         for core in 0..plan.cores {
             values[core as usize] = self.present(plan, core);
         }
@@ -150,10 +150,3 @@ impl Cores {
         }
     }
 }
-
-/// What is known of a core that isn't there.
-const NO_VALUES: CoreValues = CoreValues {
-    nr: 0,
-    load: 0,
-    consts: [0; MAX_ATTRIBUTES],
-};

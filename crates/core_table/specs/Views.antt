@@ -1,6 +1,6 @@
 -- What a seat knows, and what each step makes of it.
 use Rattle.std.specs.Prelude.{ℕ, suc, ◌==◌, max, Bool, true, false, cond, ◌&&◌, ◌||◌, List, [], ◌∷◌, ◌++◌, map}
-use Rattle.std.specs.Prelude.{replicate, slice_set, is_none}
+use Rattle.std.specs.Prelude.{replicate, slice_set, is_none, None}
 use Rattle.std.specs.List.{list_any}
 use Rattle.policy_tree.specs.declared.trees.Cond.{Always}
 use Rattle.policy_tree.specs.declared.typed.Load.TheVariants as load
@@ -192,6 +192,7 @@ no_policy = record {
   filter = Always;
   choose = [];
   steal = [];
+  batch = None;
 }
 
 -- a plan without cores

@@ -4,11 +4,12 @@ use Rattle.std.proofs.lemmas.Int.{ints}
 use Rattle.std.proofs.lemmas.List.Elements.{All-from_recursion, All-nil}
 use Rattle.policy_tree.specs.declared.typed.Event.{Event}
 use Rattle.policy_tree.specs.declared.typed.Event.TheVariants as event
-use Rattle.policy_tree.specs.Meaning.{cases_on}
+use Rattle.policy_tree.specs.Meaning.{cases_on, greatest_first, least_first}
+use Rattle.policy_tree.specs.Trees.{variable}
 use Rattle.policy_eval.specs.Resolved.{IsAttribute, IsResolved, IsResolvedCase, IsResolvedCond, IsResolvedHandler, IsResolvedSet}
 use Rattle.policy_eval.specs.Sites.{choosing, electing, filtering, stealing}
 use Rattle.fair_policy.specs.Fair.{counted_use, fair_attributes, fair_filter, fair_meaning}
-use Rattle.fair_policy.proofs.ResolvedForms.{by_variable, difference_linear, number_linear, one_more_linear, plain_case}
+use Rattle.fair_policy.proofs.ResolvedForms.{by_one_key, difference_linear, number_linear, one_more_linear, plain_case}
 
 -- the case of tick, with its assignment
 sets_resolved : All (IsResolvedSet fair_meaning event.Tick) counted_use
@@ -50,9 +51,10 @@ fair_resolved = record {
   core_attrs = record { few = omega arith; each = All-nil _ };
   thread_attrs = record { few = omega arith; each = attribute_resolved };
   place = record { linear = tt; few = omega arith; allowed = refl };
-  elect = by_variable fair_meaning electing _ (record { linear = tt; few = omega arith; allowed = refl });
+  elect = by_one_key fair_meaning electing (least_first (variable 22)) (record { linear = tt; few = omega arith; allowed = refl });
   handlers = handlers_resolved;
   filter = filter_resolved;
-  choose = by_variable fair_meaning choosing _ (record { linear = tt; few = omega arith; allowed = refl });
-  steal = by_variable fair_meaning stealing _ (record { linear = tt; few = omega arith; allowed = refl });
+  choose = by_one_key fair_meaning choosing (greatest_first (variable 3)) (record { linear = tt; few = omega arith; allowed = refl });
+  steal = by_one_key fair_meaning stealing (greatest_first (variable 4)) (record { linear = tt; few = omega arith; allowed = refl });
+  batch = tt;
 }

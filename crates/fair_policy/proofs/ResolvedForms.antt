@@ -7,7 +7,7 @@ use Rattle.policy_tree.specs.declared.typed.Put.{Put}
 use Rattle.policy_tree.specs.Trees.{number, variable, plus, minus}
 use Rattle.policy_tree.specs.Meaning.{KeyTree, Meaning}
 use Rattle.policy_eval.specs.Forms.{IsLinear, IsSmall}
-use Rattle.policy_eval.specs.Resolved.{IsResolvedCase, IsResolvedExpr, IsResolvedOrder}
+use Rattle.policy_eval.specs.Resolved.{IsResolvedCase, IsResolvedKey, IsResolvedOrder}
 use Rattle.policy_eval.specs.Sites.{AllowsPut, Site}
 use Rattle.fair_policy.specs.Forms.{whenever}
 
@@ -37,10 +37,9 @@ one_more_linear v = (tt, number_linear 1 (omega arith), record { constant = sum_
 pub no_keys : (p : Meaning) (site : Site) → IsResolvedOrder p site []
 no_keys p site = record { few = omega arith; keys = All-nil _ }
 
--- an order by one variable
-pub by_variable : (p : Meaning) (site : Site) (key : KeyTree) → IsResolvedExpr p site key.expr → IsResolvedOrder p site (key ∷ [])
-by_variable p site key is =
-    record { few = omega arith; keys = All-from_recursion (λ (k : KeyTree). IsResolvedExpr p site k.expr) (key ∷ []) (is, tt) }
+-- an order of one key
+pub by_one_key : (p : Meaning) (site : Site) (key : KeyTree) → IsResolvedKey p site key → IsResolvedOrder p site (key ∷ [])
+by_one_key p site key is = record { few = omega arith; keys = All-from_recursion (IsResolvedKey p site) (key ∷ []) (is, tt) }
 
 -- a case that always holds and assigns nothing
 pub plain_case : (p : Meaning) (e : Event) (place : Put) → AllowsPut e place → All (IsResolvedCase p e) (whenever [] place)

@@ -1,12 +1,12 @@
 -- The policy `fair`: weighted loads, the least used thread runs, and a tick sends it to the queue's end.
-use Rattle.std.specs.Prelude.{pos, List, [], ◌∷◌, true, false, codes}
+use Rattle.std.specs.Prelude.{pos, List, [], ◌∷◌, None, codes}
 use Rattle.policy_tree.specs.declared.trees.Cmp.TheVariants as cmp
 use Rattle.policy_tree.specs.declared.typed.Attr.{Attr}
 use Rattle.policy_tree.specs.declared.typed.Load.TheVariants as load
 use Rattle.policy_tree.specs.declared.typed.Put.TheVariants as put
-use Rattle.policy_tree.specs.Meaning.{HandlerTrees, Meaning, SetTree, least}
+use Rattle.policy_tree.specs.Meaning.{HandlerTrees, Meaning, SetTree, greatest_first, least, least_first}
 use Rattle.policy_tree.specs.Trees.{number, variable, plus, minus, CondTree, both, either, test}
-use Rattle.fair_policy.specs.Forms.{by_key, handlers_with, whenever}
+use Rattle.fair_policy.specs.Forms.{handlers_with, whenever}
 
 -- thread used in 0..1000 start 0
 abbrev pub fair_attributes : List Attr
@@ -40,9 +40,10 @@ fair_meaning = record {
   core_attrs = [];
   thread_attrs = fair_attributes;
   place = least (variable 3);
-  elect = by_key false (variable 22);
+  elect = least_first (variable 22) ∷ [];
   handlers = fair_handlers;
   filter = fair_filter;
-  choose = by_key true (variable 3);
-  steal = by_key true (variable 4);
+  choose = greatest_first (variable 3) ∷ [];
+  steal = greatest_first (variable 4) ∷ [];
+  batch = None;
 }

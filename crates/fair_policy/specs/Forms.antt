@@ -1,9 +1,9 @@
--- Short policies: a handler of one case, the handlers that a policy has of itself, and an order of one key.
-use Rattle.std.specs.Prelude.{Bool, List, [], ◌∷◌}
+-- Short policies: a handler of one case, and the handlers that a policy has of itself.
+use Rattle.std.specs.Prelude.{List, [], ◌∷◌}
 use Rattle.policy_tree.specs.declared.typed.Put.{Put}
 use Rattle.policy_tree.specs.declared.typed.Put.TheVariants as put
-use Rattle.policy_tree.specs.Meaning.{CaseTree, HandlerTrees, KeyTree, SetTree}
-use Rattle.policy_tree.specs.Trees.{ExprTree, always}
+use Rattle.policy_tree.specs.Meaning.{CaseTree, HandlerTrees, SetTree}
+use Rattle.policy_tree.specs.Trees.{always}
 
 -- a case that always holds, and assigns these
 abbrev pub whenever : List SetTree → Put → List CaseTree
@@ -17,7 +17,3 @@ handlers_with on_tick = record {
   on_yield = whenever [] put.Queue;
   on_block = whenever [] put.Block;
 }
-
--- the order of one key: the greatest value comes first, or else the least
-abbrev pub by_key : Bool → ExprTree → List KeyTree
-by_key greatest e = record { greatest = greatest; expr = e } ∷ []

@@ -1,11 +1,11 @@
 //! The parts of the policy `fair`.
 
-ghost use Rattle.std.specs.Prelude.{◌≡◌, IfOk, map};
-ghost use Rattle.policy_tree.specs.Meaning.{case_tree, handler_trees, order_tree, set_tree};
-ghost use Rattle.policy_tree.specs.Trees.{cond_tree, variable};
+ghost use Rattle.std.specs.Prelude.{◌≡◌, [], ◌∷◌, IfOk, map};
+ghost use Rattle.policy_tree.specs.Meaning.{case_tree, handler_trees, key_tree, order_tree, set_tree};
+ghost use Rattle.policy_tree.specs.Trees.{cond_tree};
 ghost use Rattle.fair_policy.specs.Fair.{counted_use, fair_attributes, fair_filter, fair_handlers, gap_is_wide};
 ghost use Rattle.fair_policy.specs.Fair.{idle_sees_two};
-ghost use Rattle.fair_policy.specs.Forms.{by_key, whenever};
+ghost use Rattle.fair_policy.specs.Forms.{whenever};
 
 use policy_tree::variables::{OTHER_LOAD, OTHER_NR, SELF_LOAD, SELF_NR, THREAD_ATTRIBUTES};
 use policy_tree::{
@@ -29,15 +29,12 @@ pub(crate) fn attributes(alloc: Global) -> Result<AttrList, AllocError>
     Ok(AttrList::from_vec(attributes))
 }
 
-/// The order of one key, the variable of that number: the greatest value comes first, or else the least.
-pub(crate) fn by_key(alloc: Global, greatest: bool, number: u32) -> Result<Order, AllocError>
-    ensures { IfOk result (λ order. order_tree order ≡ by_key greatest (variable number)) }
+/// The order of one key.
+pub(crate) fn by_key(alloc: Global, key: Key) -> Result<Order, AllocError>
+    ensures { IfOk result (λ order. order_tree order ≡ key_tree key ∷ []) }
 {
     let mut keys = Vec::new(alloc);
-    keys.push(Key {
-        greatest,
-        expr: Expr::Var(number),
-    })?;
+    keys.push(key)?;
     Ok(Order::from_vec(keys))
 }
 

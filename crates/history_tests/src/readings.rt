@@ -11,18 +11,18 @@ const TEXTS: [&str; 17] = [
     "round 1\n",
     "round 4096\n",
     "enter 1 0 0 :\n",
-    "enter 1023 31 31 : 65536 0 10\n",
-    "wake 1 0 31 : 0\n",
-    "wake 1023 31 0 :\n",
+    "enter 1023 63 63 : 65536 0 10\n",
+    "wake 1 0 63 : 0\n",
+    "wake 1023 63 0 :\n",
     "work 0 -\n",
-    "work 31 1 keep\n",
+    "work 63 1 keep\n",
     "work 10 1023 queue\n",
     "work 0 10 block\n",
-    "work 31 100 end\n",
-    "steal 31 0 2 : 5 6\n",
-    "fail 0 31 : 65536 65536\n",
+    "work 63 100 end\n",
+    "steal 63 0 2 : 5 6\n",
+    "fail 0 63 : 65536 65536\n",
     "pass 0 :\n",
-    "pass 31 : 4 1 1\n",
+    "pass 63 : 4 1 1\n",
     "round 1\nenter 1 0 0 :\nwork 0 1 keep\npass 0 : 3\nround 2\nwork 0 1 end\npass 0 : 6\n",
 ];
 
@@ -59,14 +59,14 @@ const BAD_TEXTS: [(&str, u32); 56] = [
     ("round 1 1\n", 1),
     ("enter 0 0 0 :\n", 1),
     ("enter 1024 0 0 :\n", 1),
-    ("enter 1 32 0 :\n", 1),
-    ("enter 1 0 32 :\n", 1),
+    ("enter 1 64 0 :\n", 1),
+    ("enter 1 0 64 :\n", 1),
     ("enter 1 00 0 :\n", 1),
     ("wake 1024 0 0 :\n", 1),
-    ("steal 0 32 1 :\n", 1),
+    ("steal 0 64 1 :\n", 1),
     ("steal 0 1 1024 :\n", 1),
-    ("fail 32 0 :\n", 1),
-    ("pass 32 :\n", 1),
+    ("fail 64 0 :\n", 1),
+    ("pass 64 :\n", 1),
     ("enter 1 0 :\n", 1),
     ("steal 0 1 :\n", 1),
     ("fail 0 1 2 :\n", 1),
@@ -122,7 +122,7 @@ fn texts_there_and_back(rt: HostRuntime) -> Result<(), Fail> {
         assert!(rt; whole, "at {text:?}");
         assert_eq!(rt; bytes.as_slice(), text.as_bytes(), "at {text:?}");
     }
-    let most_reads = repeated(alloc, "pass 0 :", " 65536", 32, "\n")?;
+    let most_reads = repeated(alloc, "pass 0 :", " 65536", 64, "\n")?;
     assert_eq!(rt; entries_in(alloc, most_reads.as_str()), Ok(1));
     let longest = repeated(alloc, "", "round 1\n", 65_536, "")?;
     assert_eq!(rt; entries_in(alloc, longest.as_str()), Ok(65_536));
@@ -139,7 +139,7 @@ fn texts_with_a_bad_line(rt: HostRuntime) -> Result<(), Fail> {
             "at {text:?}"
         );
     }
-    let too_many_reads = repeated(alloc, "pass 0 :", " 0", 33, "\n")?;
+    let too_many_reads = repeated(alloc, "pass 0 :", " 0", 65, "\n")?;
     assert_eq!(rt;
         entries_in(alloc, too_many_reads.as_str()),
         Err(HistoryFault::BadLine(1))

@@ -110,20 +110,20 @@ fn greatest_numbers(rt: HostRuntime) -> Result<(), Fail> {
     let alloc = rt.alloc();
     let entries = [
         round(4096),
-        enter(1023, 31, 31, &[65536; 32]),
-        steal(31, 31, 1023, &[65536; 32]),
-        work(31, Did::Blocked(1023)),
+        enter(1023, 63, 63, &[65536; 64]),
+        steal(63, 63, 1023, &[65536; 64]),
+        work(63, Did::Blocked(1023)),
     ];
     let mut text = String::new(alloc);
     text.push_str("round 4096\n")?;
-    for head in ["enter 1023 31 31 :", "steal 31 31 1023 :"] {
+    for head in ["enter 1023 63 63 :", "steal 63 63 1023 :"] {
         text.push_str(head)?;
-        for _ in 0..32 {
+        for _ in 0..64 {
             text.push_str(" 65536")?;
         }
         text.push('\n')?;
     }
-    text.push_str("work 31 1023 block\n")?;
+    text.push_str("work 63 1023 block\n")?;
     let (whole, bytes) = written(alloc, &entries, &[])?;
     assert!(rt; whole);
     assert_eq!(rt; bytes.as_slice(), text.as_bytes());

@@ -108,8 +108,8 @@ accepted_policy : (policy : Told) (text : List ℕ) (v : Verdict) (code : ℕ) �
     → code ≡ code_of (verdict_status v) → code ≡ 0 → (p : Meaning) × AcceptedPolicy policy p
 accepted_policy policy text (verdict.Accepted kept) code read is own zero =
     let p = meaning_of kept in
-    let met = meets p (resolved policy text p read is.spells) is.is in
-    (p, record { spelled = (text, read, is.spells); certified = is.is; meets = met; wastes_no_core = main_theorem p met })
+    let met = meets p (resolved policy text p read is.spells) is.is.certified in
+    (p, record { spelled = (text, read, is.spells); certified = is.is.certified; meets = met; wastes_no_core = main_theorem p met })
 accepted_policy policy text (verdict.Refused answers kept) code read is own zero = absurd (omega arith)
 accepted_policy policy text (verdict.Undecided answers kept) code read is own zero = absurd (omega arith)
 

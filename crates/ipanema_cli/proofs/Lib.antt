@@ -3,6 +3,7 @@ pub mod CauseLemmas
 pub mod CheckTruths
 mod Concluding
 pub mod ExplainTruths
+pub mod Failing
 mod GatedAnswers
 pub mod LoadLemmas
 pub mod LongLemmas

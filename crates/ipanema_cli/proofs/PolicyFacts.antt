@@ -52,18 +52,18 @@ all_truly p answers is are = All-from_recursion (IsToldTruly p) answers (each an
 
 -- what a verdict tells is true
 pub told_truly : (p : Meaning) (v : Verdict) → IsResolved p → IsVerdict p CHECK_BUDGET v → AllToldTruly p v
-told_truly p (verdict.Accepted policy) is certified = meets p is certified
+told_truly p (verdict.Accepted policy) is accepted = meets p is accepted.certified
 told_truly p (verdict.Refused answers policy) is refused = all_truly p answers is refused.answers_are
 told_truly p (verdict.Undecided answers policy) is undecided = all_truly p answers is undecided.answers_are
 
 -- what must come of a text that was judged
 judged_decides : (policy : Told) (text : List ℕ) (p : Meaning) (v : Verdict) (code : ℕ) → MayRead kind.Policy policy text → SpellsPolicy text p
     → IsVerdict p CHECK_BUDGET v → code ≡ code_of (verdict_status v) → Decides policy code
-judged_decides policy text p (verdict.Accepted kept) code read spells certified own =
+judged_decides policy text p (verdict.Accepted kept) code read spells accepted own =
     let is = resolved policy text p read spells in
     record {
       accepts = λ q held met. rw own refl;
-      refuses = λ q held unmet_q. absurd (unmet_q (subst MeetsObligations (same_policy policy text p q read spells held) (meets p is certified)));
+      refuses = λ q held unmet_q. absurd (unmet_q (subst MeetsObligations (same_policy policy text p q read spells held) (meets p is accepted.certified)));
       decides = λ q held none three. absurd (omega arith);
     }
 judged_decides policy text p (verdict.Refused answers kept) code read spells refused own =

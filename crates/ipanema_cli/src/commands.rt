@@ -114,8 +114,8 @@ fn play<F: Files>(alloc: Global, policy: &str, trace: &str, files: &mut F) -> Re
 
 /// The answer of `run` to the trace in one file under the policy in the other.
 ///
-/// Each core takes its turn of a round in a thread of its own, where one can be started, and passes the gate between its
-/// unit and its look. That it passes is a clause, and neither the thread nor the place in the turn is.
+/// Each core takes its turn of a round in a thread of its own, where one can be started, and passes the gate between
+/// its unit and its look. That it passes is a clause, and neither the thread nor the place in the turn is.
 pub fn run<R: Threads + Wait + Sync, F: Files, G: Gate + Sync>(
     rt: &R,
     alloc: Global,

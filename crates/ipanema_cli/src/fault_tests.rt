@@ -56,6 +56,7 @@ fn faults_of_traces(rt: HostRuntime) -> Result<(), Fail> {
         ("", "trace 1 bad-line\n"),
         ("cores 0\n", "trace 1 limit\n"),
         ("cores 0\nrounds 0\n", "trace 1 limit\n"),
+        ("cores 65\nrounds 1\n", "trace 1 limit\n"),
         ("cores 1\n", "trace 2 bad-line\n"),
         ("cores 1\nrounds 0\ncores 1\n", "trace 3 twice\n"),
         (

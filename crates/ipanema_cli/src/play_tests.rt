@@ -215,6 +215,25 @@ fn steady_sink(rt: HostRuntime) -> Result<(), Fail> {
     Ok(())
 }
 
+pub(crate) const MOST_CORES: &str = "cores 64\nrounds 1\nthread 1 core 63 round 1 run 1\n";
+
+/// The round, the thread's entering, and two entries of each core.
+#[test]
+fn most_cores(rt: HostRuntime) -> Result<(), Fail> {
+    let alloc = rt.alloc();
+    let basic = policy(alloc, "2")?;
+    let (status, out) = play(
+        &rt,
+        alloc,
+        (basic.as_bytes(), MOST_CORES.as_bytes()),
+        &[],
+        &[],
+    )?;
+    assert_eq!(rt; status, 0);
+    assert_eq!(rt; out.iter().filter(|byte| **byte == b'\n').count(), 130);
+    Ok(())
+}
+
 #[test]
 fn longest_first_play(rt: HostRuntime) -> Result<(), Fail> {
     let alloc = rt.alloc();

@@ -4,7 +4,7 @@ ghost use Rattle.std.specs.Prelude.{◌<◌, true};
 
 use crate::calls::{Outside, call_past, play, policy, run};
 use crate::history_tests::judge;
-use crate::play_tests::{FAIR, FAIR_TRACE, ONE_STEAL, STALE, eight_threads};
+use crate::play_tests::{FAIR, FAIR_TRACE, MOST_CORES, ONE_STEAL, STALE, eight_threads};
 use history_reader::read_history;
 use round_model::Entry;
 use sched_base::Reads;
@@ -130,6 +130,7 @@ fn runs_are_judged(rt: HostRuntime) -> Result<(), Fail> {
         (basic.as_str(), STALE, 0, "whole 9\n"),
         (basic.as_str(), eight.as_str(), 0, "whole 44\n"),
         (basic.as_str(), barely.as_str(), 0, "whole 98\n"),
+        (basic.as_str(), MOST_CORES, 0, "whole 130\n"),
         (FAIR, FAIR_TRACE, 0, "whole 13\n"),
         (basic.as_str(), none.as_str(), 8, "short 0\n"),
         (basic.as_str(), one.as_str(), 8, "short 17\n"),

@@ -92,9 +92,11 @@ fn accepted_policies(rt: HostRuntime) -> Result<(), Fail> {
         let (status, out) = check(&rt, alloc, text.as_bytes())?;
         assert_eq!(rt; status, 0, "at {filter:?}");
         assert_eq!(rt; out.as_slice(), wanted.as_bytes(), "at {filter:?}");
-        let (status, out) = call_over(&rt, alloc, &["explain", "p", "B3"], text.as_bytes())?;
-        assert_eq!(rt; status, 0, "at {filter:?}");
-        assert_eq!(rt; out.as_slice(), b"B3 holds\n".as_slice(), "at {filter:?}");
+        for (name, line) in [("B3", "B3 holds\n"), ("B4", "B4 holds\n")] {
+            let (status, out) = call_over(&rt, alloc, &["explain", "p", name], text.as_bytes())?;
+            assert_eq!(rt; status, 0, "at {filter:?}");
+            assert_eq!(rt; out.as_slice(), line.as_bytes(), "at {filter:?}");
+        }
     }
     Ok(())
 }

@@ -1,6 +1,6 @@
 -- The printed text is read as the syntax that it was printed of.
 use Rattle.std.proofs.Common.{◌≡◌, ◌∙◌, ℕ, List, Result, Ok, Err, refl, sym, subst}
-use Rattle.policy_tree.specs.SyntaxTrees.{SyntaxTree}
+use Rattle.policy_syntax.specs.SyntaxTrees.{SyntaxTree}
 use Rattle.policy_lexer.specs.declared.token.Token.{Token}
 use Rattle.policy_lexer.specs.declared.fault.LexFault.{LexFault}
 use Rattle.policy_lexer.specs.declared.fault.LexFault.TheVariants as lex

@@ -4,7 +4,7 @@ use crate::reading_again::{Unread, read_again};
 use policy_lexer::lex;
 use policy_parser::parse;
 use policy_printer::{PrintFault, print};
-use policy_tree::Syntax;
+use policy_syntax::Syntax;
 use sched_base::MAX_POLICY_BYTES;
 use std::alloc::{AllocError, Global};
 

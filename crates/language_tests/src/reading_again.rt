@@ -2,7 +2,7 @@
 
 ghost use Rattle.std.specs.Prelude.{◌≡◌, ◌<◌, ℕ, List, IfOk, IfErr};
 ghost use Rattle.sched_base.specs.declared.limits.TheConstants.{MAX_POLICY_BYTES};
-ghost use Rattle.policy_tree.specs.SyntaxTrees.{syntax_tree};
+ghost use Rattle.policy_syntax.specs.SyntaxTrees.{syntax_tree};
 ghost use Rattle.policy_printer.specs.Printed.{IsTextOf, printed};
 ghost use Rattle.language_tests.specs.Unread.{IsUnread};
 
@@ -10,7 +10,7 @@ use policy_grammar::ParseFault;
 use policy_lexer::{LexFault, lex};
 use policy_parser::parse;
 use policy_printer::{PrintFault, print};
-use policy_tree::Syntax;
+use policy_syntax::Syntax;
 use sched_base::MAX_POLICY_BYTES;
 use std::alloc::Global;
 

@@ -4,7 +4,7 @@
 use crate::shown::show_policy;
 use policy_lexer::lex;
 use policy_parser::parse;
-use policy_tree::Syntax;
+use policy_syntax::Syntax;
 use policy_types::{TypeFault, resolve};
 use sched_base::MAX_POLICY_BYTES;
 use std::alloc::{AllocError, Global};

@@ -1,7 +1,8 @@
 //! Policies in a short spelling of their trees, which shows each default, each number and how operators group.
 
 use policy_tree::{
-    AttrList, Case, CaseList, Cmp, Cond, Expr, HandlerList, Load, Order, PlaceRule, Policy, Put,
+    AttrList, Batch, Case, CaseList, Cmp, Cond, Expr, HandlerList, Key, Load, Order, PlaceRule,
+    Policy, Put,
 };
 use std::alloc::AllocError;
 use std::fmt::Write;
@@ -14,7 +15,8 @@ pub(crate) fn show_policy(text: &mut String, policy: &Policy) -> Result<(), Allo
     text.push_str("; ")?;
     show_order(text, &policy.choose)?;
     text.push_str("; ")?;
-    show_order(text, &policy.steal)
+    show_order(text, &policy.steal)?;
+    show_batch(text, &policy.batch)
 }
 
 /// Load, attributes, placement and election.
@@ -81,10 +83,37 @@ fn show_order(text: &mut String, order: &Order) -> Result<(), AllocError> {
         text.push_str("first")?;
     }
     for key in order.as_slice() {
-        text.push_str(if key.greatest { "max " } else { "min " })?;
-        show_expr(text, &key.expr)?;
+        show_key(text, key)?;
     }
     Ok(())
+}
+
+/// A key: what is the least or the greatest first, or the condition that is preferred.
+fn show_key(text: &mut String, key: &Key) -> Result<(), AllocError> {
+    match key {
+        Key::Least(expr) => {
+            text.push_str("min ")?;
+            show_expr(text, expr)
+        }
+        Key::Greatest(expr) => {
+            text.push_str("max ")?;
+            show_expr(text, expr)
+        }
+        Key::Prefer(cond) => {
+            text.push_str("prefer ")?;
+            show_cond(text, cond)
+        }
+    }
+}
+
+/// The batch, if there is one: when it goes on, and its limit.
+fn show_batch(text: &mut String, batch: &Option<Batch>) -> Result<(), AllocError> {
+    let Some(batch) = batch else {
+        return Ok(());
+    };
+    text.push_str("; while ")?;
+    show_cond(text, &batch.cond)?;
+    write!(text, " limit {}", batch.limit)
 }
 
 /// A condition, with parentheses round each conjunction and each disjunction.

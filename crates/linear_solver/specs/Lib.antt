@@ -11,3 +11,4 @@ pub mod Probes
 pub mod Insides
 pub mod Laws
 pub mod LocalSearch
+pub mod Sizes

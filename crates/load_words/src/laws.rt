@@ -2,7 +2,7 @@
 
 ghost use Rattle.load_words.specs.Numbers.{BitsAreSaid, GreatestWordIsSaid};
 
-/// The widths of the parts of a word are the numbers that the documents name.
+/// The widths of the parts of a word are these numbers.
 pub fn law_bits()
     ensures { BitsAreSaid }
 {}

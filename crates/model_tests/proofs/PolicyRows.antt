@@ -33,6 +33,7 @@ basic_balance = record {
   victim_is_overloaded = λ own victim fits other sees. grind (arith, ints);
   move_narrows_gap = λ own victim weight fits other is sees queued.
       let a = fits.loads.light in let b = fits.loads.heavy in let c = other.loads.light in let d = other.loads.heavy in let e = is.least in let f = is.greatest in grind (arith, ints);
+  further_move_narrows_gap = tt;
 }
 
 basic_no_overlap : (e : Event) → NoOverlap basic e

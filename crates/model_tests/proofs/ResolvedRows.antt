@@ -31,4 +31,5 @@ basic_resolved = record {
   };
   choose = no_keys basic choosing;
   steal = no_keys basic stealing;
+  batch = tt;
 }

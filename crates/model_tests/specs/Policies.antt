@@ -1,5 +1,5 @@
 -- The policies of the worked rows.
-use Rattle.std.specs.Prelude.{ℕ, pos, [], codes}
+use Rattle.std.specs.Prelude.{ℕ, pos, [], None, codes}
 use Rattle.policy_tree.specs.declared.trees.Cmp.TheVariants as cmp
 use Rattle.policy_tree.specs.declared.typed.Load.TheVariants as load
 use Rattle.policy_tree.specs.declared.typed.Put.TheVariants as put
@@ -26,6 +26,7 @@ basic = record {
   filter = gap_of 2;
   choose = [];
   steal = [];
+  batch = None;
 }
 
 -- what is seen of a core with so many threads of weight 1, and without attributes

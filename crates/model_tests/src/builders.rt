@@ -35,6 +35,7 @@ pub fn basic_policy(alloc: Global) -> Result<Policy, AllocError>
         filter,
         choose: Order::from_vec(Vec::new(alloc)),
         steal: Order::from_vec(Vec::new(alloc)),
+        batch: None,
     })
 }
 

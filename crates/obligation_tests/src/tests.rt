@@ -114,7 +114,7 @@ steal first
 #[test]
 fn systems_by_hand(rt: HostRuntime) -> Result<(), Fail> {
     let alloc = rt.alloc();
-    let cases: [(&str, &str, &str); 12] = [
+    let cases: [(&str, &str, &str); 13] = [
         (
             BASIC,
             "B1",
@@ -136,6 +136,7 @@ fn systems_by_hand(rt: HostRuntime) -> Result<(), Fail> {
              +1*0 -1*1 <= 0; -1*0 +1*1 <= 0; +1*2 -1*3 <= 0; -1*2 +1*3 <= 0; \
              +1*2 -1*3 <= 0; -1*1 +1*3 <= 1; +1*0 -1*2 <= -2; \n",
         ),
+        (BASIC, "B4", ""),
         (BASIC, "H1.tick", ""),
         (BASIC, "H2.tick", ""),
         (

@@ -90,8 +90,9 @@ fn points_left(alloc: Global) -> Result<Option<u128>, Fail> {
 #[test]
 fn budget_of_zero(rt: HostRuntime) -> Result<(), Fail> {
     let alloc = rt.alloc();
-    let wanted = "B1 undecided; B2 undecided; B3 undecided; H1.enqueue holds; H2.enqueue holds; \
-        H1.tick holds; H2.tick holds; H1.yield holds; H2.yield holds; H1.block holds; H2.block holds; ";
+    let wanted = "B1 undecided; B2 undecided; B3 undecided; B4 holds; H1.enqueue holds; \
+        H2.enqueue holds; H1.tick holds; H2.tick holds; H1.yield holds; H2.yield holds; H1.block holds; \
+        H2.block holds; ";
     assert_eq!(rt; verdict_under(alloc, 0)?.as_str(), wanted);
     assert_eq!(rt; points_left(alloc)?, Some(561_988_291_788_800));
     assert_eq!(rt; verdict_under(alloc, 1)?.as_str(), "accepted");

@@ -8,7 +8,7 @@ use Rattle.policy_tree.specs.Trees.{ExprTree, number, variable, negation, plus, 
 use Rattle.policy_tree.specs.Meaning.{Meaning}
 use Rattle.policy_eval.specs.Forms.{EachSide, RefersTo}
 use Rattle.policy_eval.specs.Sights.{assigned}
-use Rattle.policy_eval.specs.Sites.{allows, filtering, handling}
+use Rattle.policy_eval.specs.Sites.{allows, filtering, going_on, handling}
 use Rattle.policy_eval.specs.Values.{Assignment, compared, holds, value_of, variable_of}
 
 -- the values agree on the variables that are allowed
@@ -87,6 +87,21 @@ module _ (p : Meaning) (few_core : length p.core_attrs ≤ 8) (few_thread : leng
       core_attribute nr load victim_nr victim_load weight fresh own victims attrs own_long victims_long at high.0 high.1
       ∙ sym (core_attribute nr load victim_nr victim_load other_weight other_fresh own victims other_attrs own_long victims_long at high.0 high.1))
       (pair_places at allowed)
+
+  move_places : (at : ℕ) → allows p going_on at ≡ true → (at < 4) ⊎ ((at ≡ 4) ⊎ (6 ≤ at))
+  move_places at e = grind (arith, nat_tests)
+
+  -- a further move is seen alike whether the thread is fresh
+  pub move_agrees : (own victims attrs : List ℤ) (nr load victim_nr victim_load weight fresh other_fresh : ℕ)
+      → Agree (allows p going_on) (assigned nr load victim_nr victim_load weight fresh own victims attrs) (assigned nr load victim_nr victim_load weight other_fresh own victims attrs)
+  move_agrees own victims attrs nr load victim_nr victim_load weight fresh other_fresh at allowed =
+      ⊎_elim
+      (λ (low : at < 4). first_four nr load victim_nr victim_load (pos weight ∷ pos fresh ∷ (own ++ victims ++ attrs)) (pos weight ∷ pos other_fresh ∷ (own ++ victims ++ attrs)) at low)
+      (⊎_elim
+      (λ (is : at ≡ 4). weight_at nr load victim_nr victim_load weight fresh own victims attrs at is ∙ sym (weight_at nr load victim_nr victim_load weight other_fresh own victims attrs at is))
+      (λ (high : 6 ≤ at). attribute_at nr load victim_nr victim_load weight fresh own victims attrs at high
+      ∙ sym (attribute_at nr load victim_nr victim_load weight other_fresh own victims attrs at high)))
+      (move_places at allowed)
 
   event_places : (e : Event) (at : ℕ) → allows p (handling e) at ≡ true → ((at ≡ 4) ⊎ (at ≡ 5)) ⊎ (((6 ≤ at) × (at < 14)) ⊎ (22 ≤ at))
   event_places event.Enqueue at e = grind (arith, nat_tests)

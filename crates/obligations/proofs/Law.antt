@@ -6,7 +6,7 @@ use Rattle.policy_tree.specs.declared.trees.Cmp.TheVariants as cmp
 use Rattle.policy_tree.specs.declared.typed.Load.{Load}
 use Rattle.policy_tree.specs.Meaning.{Meaning}
 use Rattle.policy_tree.specs.Trees.{CondTree, always, negated, both, either, test, minus}
-use Rattle.policy_eval.specs.Obligations.{IsMet, Statement, idle_sees_overloaded, move_narrows_gap, no_gap, no_overlap, statements_of, victim_is_overloaded}
+use Rattle.policy_eval.specs.Obligations.{IsMet, Statement, further_move_narrows_gap, idle_sees_overloaded, move_narrows_gap, no_gap, no_overlap, statements_of, victim_is_overloaded}
 use Rattle.policy_eval.specs.Resolved.{IsResolved}
 use Rattle.obligations.specs.Cases.{asked, cases_of, cases_of_test}
 use Rattle.obligations.specs.Counts.{count_of, count_of_test}
@@ -14,7 +14,7 @@ use Rattle.obligations.specs.Forms.{LinearForm, form_of}
 use Rattle.obligations.specs.Laws.{CountsAreCases, NamesAreStatements, NoneRefutes, RefutationsAreTheirs, SystemsAreStatements}
 use Rattle.obligations.specs.Names.{ob_names}
 use Rattle.obligations.specs.Refutations.{refutation}
-use Rattle.obligations.proofs.Balance.{narrows_from_none, none_from_narrows, none_from_sees, none_from_spares, sees_from_none, spares_from_none}
+use Rattle.obligations.proofs.Balance.{further_from_none, narrows_from_none, none_from_further, none_from_narrows, none_from_sees, none_from_spares, sees_from_none, spares_from_none}
 use Rattle.obligations.proofs.Folds.{length-crossed}
 use Rattle.obligations.proofs.Handlers.{gap_from_none, none_from_gap, none_from_overlap, overlap_from_none}
 use Rattle.obligations.proofs.Refuted.{no_solution_refutes, none_refutes_no_solution}
@@ -24,6 +24,7 @@ module _ (p : Meaning) (is : IsResolved p) where
   none_where_met idle_sees_overloaded = none_from_sees p is
   none_where_met victim_is_overloaded = none_from_spares p is
   none_where_met move_narrows_gap = none_from_narrows p is
+  none_where_met further_move_narrows_gap = none_from_further p is p.batch is.batch
   none_where_met (no_overlap e) = none_from_overlap p is e
   none_where_met (no_gap e) = none_from_gap p is e
 
@@ -31,6 +32,7 @@ module _ (p : Meaning) (is : IsResolved p) where
   met_where_none idle_sees_overloaded = sees_from_none p is
   met_where_none victim_is_overloaded = spares_from_none p is
   met_where_none move_narrows_gap = narrows_from_none p is
+  met_where_none further_move_narrows_gap = further_from_none p is p.batch
   met_where_none (no_overlap e) = overlap_from_none p is e
   met_where_none (no_gap e) = gap_from_none p is e
 

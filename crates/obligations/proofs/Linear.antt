@@ -1,18 +1,18 @@
 -- All expressions of a refutation are linear.
-use Rattle.std.proofs.Common.{ℕ, suc, ◌^◌, ◌≤◌, eqb, pos, ◌+ℤ◌, ◌*ℤ◌, Bool, true, false, cond, List, [], ◌∷◌, All, map, refl, sym, subst, arith}
+use Rattle.std.proofs.Common.{ℕ, suc, ◌^◌, ◌≤◌, eqb, pos, ◌+ℤ◌, ◌*ℤ◌, Bool, true, false, cond, List, [], ◌∷◌, All, map, Option, None, Some, refl, sym, subst, arith}
 use Rattle.std.proofs.lemmas.List.{map-append}
 use Rattle.std.specs.List.{AllByRecursion}
 use Rattle.std.proofs.lemmas.Int.{ints}
 use Rattle.policy_tree.specs.declared.typed.Event.{Event}
-use Rattle.policy_tree.specs.Meaning.{CaseTree, Meaning, cases_on}
-use Rattle.policy_tree.specs.Trees.{CondTree, ExprTree, negated, variable, plus, times}
+use Rattle.policy_tree.specs.Meaning.{BatchTree, CaseTree, Meaning, cases_on}
+use Rattle.policy_tree.specs.Trees.{CondTree, ExprTree, both, negated, variable, plus, times}
 use Rattle.policy_eval.specs.Forms.{EachSide, IsLinear, IsSmall}
-use Rattle.policy_eval.specs.Obligations.{Statement, idle_sees_overloaded, victim_is_overloaded, move_narrows_gap, no_overlap, no_gap}
+use Rattle.policy_eval.specs.Obligations.{Statement, idle_sees_overloaded, victim_is_overloaded, move_narrows_gap, further_move_narrows_gap, no_overlap, no_gap}
 use Rattle.policy_eval.specs.Ranges.{greatest_weight, least_weight}
-use Rattle.policy_eval.specs.Resolved.{IsResolved, IsResolvedCase, IsResolvedExpr}
-use Rattle.policy_eval.specs.Sites.{filtering, handling}
+use Rattle.policy_eval.specs.Resolved.{HasResolvedBatch, IsResolved, IsResolvedCase, IsResolvedExpr}
+use Rattle.policy_eval.specs.Sites.{filtering, going_on, handling}
 use Rattle.obligations.proofs.Expressions.{EachSide-mono}
-use Rattle.obligations.specs.Refutations.{all_of, any_of, both_of, guards_on, load_fits, pairs_of, refutation, whole}
+use Rattle.obligations.specs.Refutations.{all_of, any_of, both_of, gap_is_small, guards_on, has_thread, load_fits, moves_over_small_gap, pairs_of, refutation, whole}
 use Rattle.obligations.proofs.Kept.{AllByRecursion-append}
 
 -- the coefficient of a variable is 1 or 0
@@ -119,22 +119,28 @@ module _ (p : Meaning) (is : IsResolved p) where
   load_fits-linear : (nr sum : ℕ) → EachSide IsLinear (load_fits p.load nr sum)
   load_fits-linear nr sum = ((scaled-linear (least_weight p.load) nr least-small, tt), (tt, scaled-linear (greatest_weight p.load) nr greatest-small))
 
+  -- a thread that victim can have queued, over a gap that isn't greater than its weight
+  queued-linear : EachSide IsLinear (both (has_thread p.load) gap_is_small)
+  queued-linear = (
+    (scaled_and_one-linear (least_weight p.load) 2 4 least-small, and_whole-linear (least_weight p.load) 3 least-small),
+    (tt, two-linear 1 4),
+  )
+
+  pub further-linear : (batch : Option BatchTree) → HasResolvedBatch p batch → EachSide IsLinear (moves_over_small_gap p.load batch)
+  further-linear None resolved = tt
+  further-linear (Some batch) resolved = (
+    ((load_fits-linear 0 1, load_fits-linear 2 3), ((tt, whole-linear 1 (omega arith)), queued-linear)),
+    EachSide-mono (IsResolvedExpr p going_on) IsLinear (λ x resolved. resolved.linear) batch.condition resolved.condition.sides,
+  )
+
   -- both sides of each comparison of a refutation are linear
   pub refutation-linear : (s : Statement) → EachSide IsLinear (refutation p s)
   refutation-linear idle_sees_overloaded =
       (((load_fits-linear 0 1, load_fits-linear 2 3), ((tt, whole-linear 0 (omega arith)), (tt, whole-linear 2 (omega arith)))), filter-linear)
   refutation-linear victim_is_overloaded =
       (((load_fits-linear 0 1, load_fits-linear 2 3), (tt, whole-linear 1 (omega arith))), filter-linear)
-  refutation-linear move_narrows_gap = (
-    (
-      (load_fits-linear 0 1, load_fits-linear 2 3),
-      (
-        (scaled_and_one-linear (least_weight p.load) 2 4 least-small, and_whole-linear (least_weight p.load) 3 least-small),
-        (tt, two-linear 1 4),
-      ),
-    ),
-    filter-linear,
-  )
+  refutation-linear move_narrows_gap = (((load_fits-linear 0 1, load_fits-linear 2 3), queued-linear), filter-linear)
+  refutation-linear further_move_narrows_gap = further-linear p.batch is.batch
   refutation-linear (no_overlap e) =
       any_of-sides IsLinear (map both_of (pairs_of (guards_on p e)))
       (pairs-sides IsLinear (guards_on p e) (guards-linear e (cases_on p.handlers e) (is.handlers e).cases))

@@ -1,20 +1,20 @@
 -- No case of a refutation has more rows than a system takes.
-use Rattle.std.proofs.Common.{ℕ, suc, ◌+◌, ◌*◌, ◌≤◌, Bool, true, false, not, List, [], ◌∷◌, ◌++◌, All, length, map, sym, subst, arith}
+use Rattle.std.proofs.Common.{ℕ, suc, ◌+◌, ◌*◌, ◌≤◌, Bool, true, false, not, List, [], ◌∷◌, ◌++◌, All, length, map, Option, None, Some, sym, subst, arith}
 use Rattle.std.specs.List.{AllByRecursion}
 use Rattle.std.proofs.lemmas.List.{length-append, length-map, map-append}
 use Rattle.policy_tree.specs.declared.trees.Cmp.{Cmp}
 use Rattle.policy_tree.specs.declared.trees.Cmp.TheVariants as cmp
 use Rattle.policy_tree.specs.declared.typed.Event.{Event}
 use Rattle.policy_tree.specs.declared.typed.Load.{Load}
-use Rattle.policy_tree.specs.Meaning.{CaseTree, Meaning, cases_on}
+use Rattle.policy_tree.specs.Meaning.{BatchTree, CaseTree, Meaning, cases_on}
 use Rattle.policy_tree.specs.Trees.{CondTree, always, negated, both, either, test, minus}
 use Rattle.policy_eval.specs.Forms.{comparisons_of}
-use Rattle.policy_eval.specs.Obligations.{Statement, idle_sees_overloaded, victim_is_overloaded, move_narrows_gap, no_overlap, no_gap}
-use Rattle.policy_eval.specs.Resolved.{IsResolved, IsResolvedCase}
+use Rattle.policy_eval.specs.Obligations.{Statement, idle_sees_overloaded, victim_is_overloaded, move_narrows_gap, further_move_narrows_gap, no_overlap, no_gap}
+use Rattle.policy_eval.specs.Resolved.{HasResolvedBatch, IsResolved, IsResolvedCase}
 use Rattle.linear_form.specs.declared.form.Row.{Row}
 use Rattle.obligations.specs.Cases.{asked, cases_of, cases_of_test, crossed}
 use Rattle.obligations.specs.Forms.{LinearForm, form_of}
-use Rattle.obligations.specs.Refutations.{all_of, any_of, both_of, cores_fit, gap_is_small, guards_on, has_thread, idle_and_overloaded, pairs_of, victim_has_one}
+use Rattle.obligations.specs.Refutations.{all_of, any_of, both_of, cores_fit, gap_is_small, guards_on, has_thread, idle_and_overloaded, moves_over_small_gap, pairs_of, victim_has_one, victim_has_thread}
 use Rattle.obligations.specs.Systems.{refuting_cases}
 use Rattle.obligations.proofs.Kept.{AllByRecursion-append, AllByRecursion-mono}
 
@@ -97,21 +97,25 @@ module _ (p : Meaning) (is : IsResolved p) where
   guards_few e [] each = tt
   guards_few e (c ∷ cases) each = ((each 0 c (omega arith)).guard.few, guards_few e cases (λ k d inside. each (suc k) d (omega arith)))
 
-  filter_few : comparisons_of p.filter ≤ 16
-  filter_few = is.filter.few
+  -- a premise of few comparisons, and a condition of the policy
+  with_condition_short : (premise c : CondTree) (outcome : Bool) → comparisons_of premise ≤ 7 → comparisons_of c ≤ 16
+      → AllByRecursion (IsShort 256) (crossed (cases_of p.load true premise) (cases_of p.load outcome c))
+  with_condition_short premise c outcome few short =
+      longer (14 + 32) 256 (omega arith) (crossed (cases_of p.load true premise) (cases_of p.load outcome c))
+      (crossed_short 14 32 (cases_of p.load true premise) (cases_of p.load outcome c)
+      (longer (2 * comparisons_of premise) 14 (omega (arith, few)) (cases_of p.load true premise) (cases_short p.load true premise))
+      (guard_short p.load outcome c short))
 
-  -- a premise of few comparisons, and the filter
-  with_filter_short : (premise : CondTree) (outcome : Bool) → comparisons_of premise ≤ 6 → AllByRecursion (IsShort 256) (crossed (cases_of p.load true premise) (cases_of p.load outcome p.filter))
-  with_filter_short premise outcome few =
-      longer (12 + 32) 256 (omega arith) (crossed (cases_of p.load true premise) (cases_of p.load outcome p.filter))
-      (crossed_short 12 32 (cases_of p.load true premise) (cases_of p.load outcome p.filter)
-      (longer (2 * comparisons_of premise) 12 (omega (arith, few)) (cases_of p.load true premise) (cases_short p.load true premise))
-      (guard_short p.load outcome p.filter filter_few))
+  further_short : (batch : Option BatchTree) → HasResolvedBatch p batch → AllByRecursion (IsShort 256) (cases_of p.load true (moves_over_small_gap p.load batch))
+  further_short None resolved = tt
+  further_short (Some batch) resolved =
+      with_condition_short (both (cores_fit p.load) (both victim_has_thread (both (has_thread p.load) gap_is_small))) batch.condition true (omega arith) resolved.condition.few
 
   pub refuting_cases_short : (s : Statement) → AllByRecursion (IsShort 256) (refuting_cases p s)
-  refuting_cases_short idle_sees_overloaded = with_filter_short (both (cores_fit p.load) idle_and_overloaded) false (omega arith)
-  refuting_cases_short victim_is_overloaded = with_filter_short (both (cores_fit p.load) victim_has_one) true (omega arith)
-  refuting_cases_short move_narrows_gap = with_filter_short (both (cores_fit p.load) (both (has_thread p.load) gap_is_small)) true (omega arith)
+  refuting_cases_short idle_sees_overloaded = with_condition_short (both (cores_fit p.load) idle_and_overloaded) p.filter false (omega arith) is.filter.few
+  refuting_cases_short victim_is_overloaded = with_condition_short (both (cores_fit p.load) victim_has_one) p.filter true (omega arith) is.filter.few
+  refuting_cases_short move_narrows_gap = with_condition_short (both (cores_fit p.load) (both (has_thread p.load) gap_is_small)) p.filter true (omega arith) is.filter.few
+  refuting_cases_short further_move_narrows_gap = further_short p.batch is.batch
   refuting_cases_short (no_overlap e) =
       longer 64 256 (omega arith) (refuting_cases p (no_overlap e)) (pairs_short p.load (guards_on p e) (guards_few e (cases_on p.handlers e) (is.handlers e).cases))
   refuting_cases_short (no_gap e) =

@@ -7,5 +7,6 @@ abbrev pub statement_seen : Statement → owed.Statement
 statement_seen statement.IdleSeesOverloaded = owed.idle_sees_overloaded
 statement_seen statement.VictimIsOverloaded = owed.victim_is_overloaded
 statement_seen statement.MoveNarrowsGap = owed.move_narrows_gap
+statement_seen statement.FurtherMoveNarrowsGap = owed.further_move_narrows_gap
 statement_seen (statement.NoOverlap e) = owed.no_overlap e
 statement_seen (statement.NoGap e) = owed.no_gap e

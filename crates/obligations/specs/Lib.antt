@@ -10,3 +10,4 @@ pub mod CodeForms
 pub mod ChainCases
 pub mod Marks
 pub mod Laws
+pub mod Sizes

@@ -1,14 +1,14 @@
 -- The condition under which a statement of a policy fails: where it holds of some numbers in the policy's ranges, the
 -- statement is refuted.
-use Rattle.std.specs.Prelude.{ℕ, pos, List, [], ◌∷◌, ◌++◌, map}
+use Rattle.std.specs.Prelude.{ℕ, pos, List, [], ◌∷◌, ◌++◌, map, Option, None, Some}
 use Rattle.policy_tree.specs.declared.trees.Cmp.TheVariants as cmp
 use Rattle.policy_tree.specs.declared.typed.Event.{Event}
 use Rattle.policy_tree.specs.declared.typed.Load.{Load}
-use Rattle.policy_tree.specs.Meaning.{CaseTree, Meaning, cases_on}
+use Rattle.policy_tree.specs.Meaning.{BatchTree, CaseTree, Meaning, cases_on}
 use Rattle.policy_tree.specs.Trees.{CondTree, ExprTree, always, negated, both, either, test, number, variable, plus}
 use Rattle.policy_tree.specs.Trees.{times}
 use Rattle.policy_eval.specs.Obligations.{Statement, idle_sees_overloaded, victim_is_overloaded, move_narrows_gap}
-use Rattle.policy_eval.specs.Obligations.{no_overlap, no_gap}
+use Rattle.policy_eval.specs.Obligations.{further_move_narrows_gap, no_overlap, no_gap}
 use Rattle.policy_eval.specs.Ranges.{greatest_weight, least_weight}
 use Rattle.policy_tree.specs.declared.variables.TheConstants.{SELF_NR, SELF_LOAD, OTHER_NR, OTHER_LOAD, WEIGHT}
 
@@ -46,6 +46,16 @@ has_thread load =
 abbrev pub gap_is_small : CondTree
 gap_is_small = test cmp.Le (variable OTHER_LOAD) (plus (variable SELF_LOAD) (variable WEIGHT))
 
+-- victim has a thread
+abbrev pub victim_has_thread : CondTree
+victim_has_thread = test cmp.Ge (variable OTHER_NR) (whole 1)
+
+-- the batch goes on although the gap is no greater than the weight of the next thread. Without a batch it never does
+abbrev pub moves_over_small_gap : Load → Option BatchTree → CondTree
+moves_over_small_gap load None = negated always
+moves_over_small_gap load (Some batch) =
+    both (both (cores_fit load) (both victim_has_thread (both (has_thread load) gap_is_small))) batch.condition
+
 -- the pairs of an item and a later one, in the order of the first and then of the second
 abbrev pub pairs_of : {X : Type 0} → List X → List (X × X)
 pairs_of [] = []
@@ -74,5 +84,6 @@ abbrev pub refutation : Meaning → Statement → CondTree
 refutation p idle_sees_overloaded = both (both (cores_fit p.load) idle_and_overloaded) (negated p.filter)
 refutation p victim_is_overloaded = both (both (cores_fit p.load) victim_has_one) p.filter
 refutation p move_narrows_gap = both (both (cores_fit p.load) (both (has_thread p.load) gap_is_small)) p.filter
+refutation p further_move_narrows_gap = moves_over_small_gap p.load p.batch
 refutation p (no_overlap e) = any_of (map both_of (pairs_of (guards_on p e)))
 refutation p (no_gap e) = all_of (map negated (guards_on p e))

@@ -5,7 +5,7 @@ use Rattle.std.specs.List.{list_any}
 use Rattle.sched_base.specs.declared.limits.TheConstants.{MAX_THREADS, MAX_VARIABLES}
 use Rattle.policy_tree.specs.Meaning.{Meaning}
 use Rattle.policy_eval.specs.Obligations.{Statement, idle_sees_overloaded, victim_is_overloaded, move_narrows_gap}
-use Rattle.policy_eval.specs.Obligations.{no_overlap, no_gap}
+use Rattle.policy_eval.specs.Obligations.{further_move_narrows_gap, no_overlap, no_gap}
 use Rattle.policy_eval.specs.Ranges.{Range, attribute_ranges, greatest_weight, least_weight, range}
 use Rattle.linear_form.specs.declared.form.Term.{Term}
 use Rattle.linear_form.specs.declared.form.Row.{Row}
@@ -39,6 +39,7 @@ abbrev pub always_has : Statement → ℕ → Bool
 always_has idle_sees_overloaded v = nat_lt v WEIGHT
 always_has victim_is_overloaded v = nat_lt v WEIGHT
 always_has move_narrows_gap v = nat_lt v WEIGHT
+always_has further_move_narrows_gap v = nat_lt v WEIGHT
 always_has (no_overlap e) v = false
 always_has (no_gap e) v = false
 

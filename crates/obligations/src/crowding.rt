@@ -1,16 +1,18 @@
 //! How many cases the obligations of a policy have.
 
-ghost use Rattle.std.specs.Prelude.{◌≡◌, map};
-ghost use Rattle.policy_tree.specs.Meaning.{case_tree, meaning_of};
-ghost use Rattle.obligations.specs.Counts.{case_count, first_crowded, reported};
+ghost use Rattle.std.specs.Prelude.{◌≡◌, map, option_map, true};
+ghost use Rattle.policy_tree.specs.Meaning.{batch_tree, case_tree, meaning_of};
+ghost use Rattle.obligations.specs.Counts.{case_count, count_of, first_crowded, reported};
 ghost use Rattle.obligations.specs.Names.{ob_names};
+ghost use Rattle.obligations.specs.Refutations.{moves_over_small_gap};
+ghost use Rattle.policy_tree.specs.declared.typed.Load.{Load};
 ghost use Rattle.obligations.specs.Tallies.{guards_of, pair_count, gap_count};
 ghost use Rattle.obligations.specs.Demands.{statement_seen};
 
 use crate::counts::{count, product, sum};
 use crate::names::{ObName, ob_names};
 use crate::statements::{Statement, statement_of};
-use policy_tree::{Case, Policy};
+use policy_tree::{Batch, Case, Policy};
 use sched_base::MAX_SYSTEM_CASES;
 
 /// The first obligation that has too many cases, and how many. It takes no memory.
@@ -33,8 +35,20 @@ fn case_count(policy: &Policy, statement: Statement) -> u32
     match statement {
         Statement::IdleSeesOverloaded => count(&policy.filter, false),
         Statement::VictimIsOverloaded | Statement::MoveNarrowsGap => count(&policy.filter, true),
+        Statement::FurtherMoveNarrowsGap => further_count(&policy.batch),
         Statement::NoOverlap(event) => pair_count(policy.handlers.cases(event).as_slice()),
         Statement::NoGap(event) => gap_count(policy.handlers.cases(event).as_slice()),
+    }
+}
+
+/// The number of cases in which a batch goes on, none without a batch.
+fn further_count(batch: &Option<Batch>) -> u32
+    ensures { (load : Load) →
+        result ≡ reported (count_of true (moves_over_small_gap load (option_map batch_tree batch.now))) }
+{
+    match batch {
+        Some(batch) => count(&batch.cond, true),
+        None => 0,
     }
 }
 

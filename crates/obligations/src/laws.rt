@@ -2,6 +2,7 @@
 
 ghost use Rattle.obligations.specs.Laws.{CountsAreCases, NamesAreStatements, RefutationsAreTheirs};
 ghost use Rattle.obligations.specs.Laws.{SystemsAreStatements};
+ghost use Rattle.obligations.specs.Sizes.{SizesAreSaid};
 
 /// The names stand for a policy's statements, all of them and in their order.
 pub fn law_names()
@@ -22,4 +23,9 @@ pub fn law_systems()
 /// There are as many cases as are counted.
 pub fn law_counts()
     ensures { CountsAreCases }
+{}
+
+/// Counts of cases and names of obligations end at these numbers.
+pub fn law_sizes()
+    ensures { SizesAreSaid }
 {}

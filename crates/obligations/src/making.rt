@@ -157,8 +157,10 @@ fn always_count(statement: Statement) -> usize
     ensures value { (v : ℕ) → always_has (statement_seen statement) v ≡ nat_lt v result }
 {
     match statement {
-        Statement::IdleSeesOverloaded | Statement::VictimIsOverloaded | Statement::MoveNarrowsGap =>
-            WEIGHT as usize,
+        Statement::IdleSeesOverloaded
+        | Statement::VictimIsOverloaded
+        | Statement::MoveNarrowsGap
+        | Statement::FurtherMoveNarrowsGap => WEIGHT as usize,
         Statement::NoOverlap(_) | Statement::NoGap(_) => 0,
     }
 }

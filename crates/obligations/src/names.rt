@@ -10,8 +10,10 @@ pub enum ObName {
     B1,
     /// Only overloaded cores are victims.
     B2,
-    /// A move narrows the gap.
+    /// The first move of a steal narrows the gap.
     B3,
+    /// Each further move of a steal narrows the gap.
+    B4,
     /// No two cases overlap where a thread comes to a core.
     H1Enqueue,
     /// The cases leave no gap there.
@@ -42,6 +44,7 @@ pub fn ob_names() -> &'static [ObName]
         ObName::B1,
         ObName::B2,
         ObName::B3,
+        ObName::B4,
         ObName::H1Enqueue,
         ObName::H2Enqueue,
         ObName::H1Tick,
@@ -61,6 +64,7 @@ pub fn ob_name(text: &str) -> Option<ObName>
         "B1" => Some(ObName::B1),
         "B2" => Some(ObName::B2),
         "B3" => Some(ObName::B3),
+        "B4" => Some(ObName::B4),
         "H1.enqueue" => Some(ObName::H1Enqueue),
         "H2.enqueue" => Some(ObName::H2Enqueue),
         "H1.tick" => Some(ObName::H1Tick),
@@ -83,6 +87,7 @@ impl ObName {
             ObName::B1 => "B1",
             ObName::B2 => "B2",
             ObName::B3 => "B3",
+            ObName::B4 => "B4",
             ObName::H1Enqueue => "H1.enqueue",
             ObName::H2Enqueue => "H2.enqueue",
             ObName::H1Tick => "H1.tick",

@@ -4,7 +4,7 @@ ghost use Rattle.std.specs.Prelude.{◌≡◌, IfOk};
 ghost use Rattle.policy_tree.specs.Trees.{both, cond_tree, expr_tree, plus, times, variable};
 ghost use Rattle.policy_eval.specs.Ranges.{greatest_weight, least_weight};
 ghost use Rattle.obligations.specs.Refutations.{cores_fit, gap_is_small, has_thread, idle_and_overloaded, load_fits};
-ghost use Rattle.obligations.specs.Refutations.{victim_has_one, whole};
+ghost use Rattle.obligations.specs.Refutations.{victim_has_one, victim_has_thread, whole};
 
 use policy_tree::variables::{OTHER_LOAD, OTHER_NR, SELF_LOAD, SELF_NR, WEIGHT};
 use policy_tree::{Cmp, Cond, Expr, Load};
@@ -32,9 +32,26 @@ pub fn victim_of_one(alloc: Global, load: Load) -> Result<Cond, AllocError>
 pub fn thread_and_small_gap(alloc: Global, load: Load) -> Result<Cond, AllocError>
     ensures { IfOk result (λ c. cond_tree c ≡ both (cores_fit load) (both (has_thread load) gap_is_small)) }
 {
-    let gap = gap_is_small(alloc)?;
-    let rest = both(alloc, has_thread(alloc, load)?, gap)?;
+    let rest = queued_over_small_gap(alloc, load)?;
     both(alloc, cores_fit(alloc, load)?, rest)
+}
+
+/// A victim with a thread that can be the one that is next, and a gap that isn't greater than its weight.
+pub fn next_and_small_gap(alloc: Global, load: Load) -> Result<Cond, AllocError>
+    ensures { IfOk result (λ c. cond_tree c ≡
+        both (cores_fit load) (both victim_has_thread (both (has_thread load) gap_is_small))) }
+{
+    let some = Cond::Test(Cmp::Ge, Expr::Var(OTHER_NR), Expr::Num(1));
+    let queued = queued_over_small_gap(alloc, load)?;
+    let rest = both(alloc, some, queued)?;
+    both(alloc, cores_fit(alloc, load)?, rest)
+}
+
+fn queued_over_small_gap(alloc: Global, load: Load) -> Result<Cond, AllocError>
+    ensures { IfOk result (λ c. cond_tree c ≡ both (has_thread load) gap_is_small) }
+{
+    let gap = gap_is_small(alloc)?;
+    both(alloc, has_thread(alloc, load)?, gap)
 }
 
 fn has_thread(alloc: Global, load: Load) -> Result<Cond, AllocError>

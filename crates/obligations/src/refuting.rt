@@ -1,14 +1,14 @@
 //! The cases in which a statement fails.
 
-ghost use Rattle.std.specs.Prelude.{◌≡◌, ◌++◌, IfOk, map, true, false};
+ghost use Rattle.std.specs.Prelude.{◌≡◌, ◌++◌, IfOk, map, option_map, true, false};
 ghost use Rattle.std.specs.List.{AllByRecursion};
-ghost use Rattle.policy_tree.specs.Meaning.{case_tree, meaning_of};
+ghost use Rattle.policy_tree.specs.Meaning.{batch_tree, case_tree, meaning_of};
 ghost use Rattle.policy_tree.specs.Trees.{both, cond_tree, negated};
 ghost use Rattle.policy_eval.specs.Forms.{EachSide, IsLinear};
 ghost use Rattle.policy_eval.specs.Resolved.{IsResolved, IsWeightRange};
 ghost use Rattle.obligations.specs.Cases.{cases_of, crossed};
 ghost use Rattle.obligations.specs.Demands.{statement_seen};
-ghost use Rattle.obligations.specs.Refutations.{all_of, any_of, both_of, pairs_of};
+ghost use Rattle.obligations.specs.Refutations.{all_of, any_of, both_of, moves_over_small_gap, pairs_of};
 ghost use Rattle.obligations.specs.Systems.{refuting_cases};
 ghost use Rattle.obligations.specs.Tallies.{guards_of};
 
@@ -16,10 +16,12 @@ use crate::building::cases_of;
 use crate::counts::count;
 use crate::crossing::{cases_of_always, crossed, joined};
 use crate::crowding::gap_count;
-use crate::premises::{idle_beside_overloaded, thread_and_small_gap, victim_of_one};
+use crate::premises::{
+    idle_beside_overloaded, next_and_small_gap, thread_and_small_gap, victim_of_one,
+};
 use crate::rows::Rows;
 use crate::statements::Statement;
-use policy_tree::{Case, Cond, Load, Policy};
+use policy_tree::{Batch, Case, Cond, Load, Policy};
 use std::alloc::{AllocError, Global};
 
 /// The cases in which the statement fails.
@@ -35,16 +37,17 @@ pub fn refuting_cases(
     match statement {
         Statement::IdleSeesOverloaded => {
             let premise = idle_beside_overloaded(alloc, load)?;
-            with_filter(alloc, load, &premise, &policy.filter, false)
+            with_condition(alloc, load, &premise, &policy.filter, false)
         }
         Statement::VictimIsOverloaded => {
             let premise = victim_of_one(alloc, load)?;
-            with_filter(alloc, load, &premise, &policy.filter, true)
+            with_condition(alloc, load, &premise, &policy.filter, true)
         }
         Statement::MoveNarrowsGap => {
             let premise = thread_and_small_gap(alloc, load)?;
-            with_filter(alloc, load, &premise, &policy.filter, true)
+            with_condition(alloc, load, &premise, &policy.filter, true)
         }
+        Statement::FurtherMoveNarrowsGap => further_cases(alloc, load, &policy.batch),
         Statement::NoOverlap(event) => {
             overlap_cases(alloc, load, policy.handlers.cases(event).as_slice())
         }
@@ -52,22 +55,38 @@ pub fn refuting_cases(
     }
 }
 
-/// The cases in which the premise holds and the filter has the outcome.
-fn with_filter(
+/// The cases in which the batch moves one thread more over a small gap, none without a batch.
+fn further_cases(alloc: Global, load: Load, batch: &Option<Batch>) -> Result<Vec<Rows>, AllocError>
+    requires load { IsWeightRange load }
+    requires batch { EachSide IsLinear (moves_over_small_gap load (option_map batch_tree batch.now)) }
+    ensures { IfOk result (λ cases. cases.items ≡
+        cases_of load true (moves_over_small_gap load (option_map batch_tree batch.now))) }
+{
+    match batch {
+        Some(batch) => {
+            let premise = next_and_small_gap(alloc, load)?;
+            with_condition(alloc, load, &premise, &batch.cond, true)
+        }
+        None => Ok(Vec::new(alloc)),
+    }
+}
+
+/// The cases in which the premise holds and the condition has the outcome.
+fn with_condition(
     alloc: Global,
     load: Load,
     premise: &Cond,
-    filter: &Cond,
+    condition: &Cond,
     outcome: bool,
 ) -> Result<Vec<Rows>, AllocError>
     requires load { IsWeightRange load }
     requires premise { EachSide IsLinear (cond_tree premise.now) }
-    requires filter { EachSide IsLinear (cond_tree filter.now) }
+    requires condition { EachSide IsLinear (cond_tree condition.now) }
     ensures { IfOk result (λ cases. cases.items ≡
-        crossed (cases_of load true (cond_tree premise.now)) (cases_of load outcome (cond_tree filter.now))) }
+        crossed (cases_of load true (cond_tree premise.now)) (cases_of load outcome (cond_tree condition.now))) }
 {
     let given = cases_of(alloc, load, premise, true)?;
-    crossed(alloc, given, cases_of(alloc, load, filter, outcome)?)
+    crossed(alloc, given, cases_of(alloc, load, condition, outcome)?)
 }
 
 /// The cases in which two guards hold together.

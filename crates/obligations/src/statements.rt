@@ -13,6 +13,7 @@ pub enum Statement {
     IdleSeesOverloaded,
     VictimIsOverloaded,
     MoveNarrowsGap,
+    FurtherMoveNarrowsGap,
     NoOverlap(Event),
     NoGap(Event),
 }
@@ -25,6 +26,7 @@ pub fn statement_of(name: ObName) -> Statement
         ObName::B1 => Statement::IdleSeesOverloaded,
         ObName::B2 => Statement::VictimIsOverloaded,
         ObName::B3 => Statement::MoveNarrowsGap,
+        ObName::B4 => Statement::FurtherMoveNarrowsGap,
         ObName::H1Enqueue => Statement::NoOverlap(Event::Enqueue),
         ObName::H2Enqueue => Statement::NoGap(Event::Enqueue),
         ObName::H1Tick => Statement::NoOverlap(Event::Tick),

@@ -1,5 +1,5 @@
-//! All cores of a plan side by side: in each round every core takes its turn at the shared table, in a thread of its own
-//! where one can be started.
+//! All cores of a plan side by side: in each round every core takes its turn at the shared table, in a thread of its
+//! own where one can be started.
 //!
 //! In each round a seat is split off for each core, and joined back. Before a round it is known how many entries there
 //! are and who has ended, since each turn tells it. No call takes memory. The history is legal whatever the threads do,

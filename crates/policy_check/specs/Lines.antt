@@ -1,6 +1,8 @@
 -- How an answer is written, line by line.
-use Rattle.std.specs.Prelude.{ℕ, List, [], ◌∷◌, ◌++◌, codes, map}
+use Rattle.std.specs.Prelude.{ℕ, Bool, true, List, [], ◌∷◌, ◌++◌, codes, filter, is_some, map}
+use Rattle.policy_tree.specs.Meaning.{Meaning, meaning_of}
 use Rattle.obligations.specs.declared.names.ObName.{ObName}
+use Rattle.obligations.specs.declared.names.ObName.TheVariants as name
 use Rattle.obligations.specs.Names.{ob_names, ob_text}
 use Rattle.policy_reader.specs.Lines.{fault_line}
 use Rattle.policy_checker.specs.Outcomes.{outcome_of}
@@ -34,11 +36,36 @@ line_held name = line_of name outcome.Holds
 abbrev pub line_answered : Answered → List ℕ
 line_answered answered = line_of answered.name (outcome_of answered.answer)
 
--- one line for each obligation, and one for the verdict
+-- whether the obligation has a line: that of further moves only where the policy has a batch
+abbrev pub is_shown : Meaning → ObName → Bool
+is_shown p name.B1 = true
+is_shown p name.B2 = true
+is_shown p name.B3 = true
+is_shown p name.B4 = is_some p.batch
+is_shown p name.H1Enqueue = true
+is_shown p name.H2Enqueue = true
+is_shown p name.H1Tick = true
+is_shown p name.H2Tick = true
+is_shown p name.H1Yield = true
+is_shown p name.H2Yield = true
+is_shown p name.H1Block = true
+is_shown p name.H2Block = true
+
+-- the obligations that have a line, in the order of the output
+abbrev pub shown_names : Meaning → List ObName
+shown_names p = filter (is_shown p) ob_names
+
+-- the answers to these
+abbrev pub shown_answers : Meaning → List Answered → List Answered
+shown_answers p answers = filter (λ (answered : Answered). is_shown p answered.name) answers
+
+-- one line for each obligation that has one, and one for the verdict
 abbrev pub verdict_lines : Verdict → List (List ℕ)
-verdict_lines (verdict.Accepted policy) = map line_held ob_names ++ codes "accepted\n" ∷ []
-verdict_lines (verdict.Refused answers policy) = map line_answered answers ++ codes "refused\n" ∷ []
-verdict_lines (verdict.Undecided answers policy) = map line_answered answers ++ codes "undecided\n" ∷ []
+verdict_lines (verdict.Accepted policy) = map line_held (shown_names (meaning_of policy)) ++ codes "accepted\n" ∷ []
+verdict_lines (verdict.Refused answers policy) =
+    map line_answered (shown_answers (meaning_of policy) answers) ++ codes "refused\n" ∷ []
+verdict_lines (verdict.Undecided answers policy) =
+    map line_answered (shown_answers (meaning_of policy) answers) ++ codes "undecided\n" ∷ []
 
 -- the line of a text that isn't judged
 abbrev pub refusal_line : Refusal → List ℕ

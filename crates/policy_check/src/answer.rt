@@ -57,8 +57,12 @@ fn put_verdict<S: Sink>(out: &mut S, verdict: &Verdict) -> Result<(), PutFault>
     ensures { Puts (verdict_lines verdict.now) result (S.shown out.old) (S.shown out.new) }
 {
     match verdict {
-        Verdict::Accepted(_) => put_held(out),
-        Verdict::Refused(answers, _) => put_answers(out, answers.as_slice(), b"refused\n"),
-        Verdict::Undecided(answers, _) => put_answers(out, answers.as_slice(), b"undecided\n"),
+        Verdict::Accepted(policy) => put_held(out, policy.policy()),
+        Verdict::Refused(answers, policy) => {
+            put_answers(out, policy, answers.as_slice(), b"refused\n")
+        }
+        Verdict::Undecided(answers, policy) => {
+            put_answers(out, policy, answers.as_slice(), b"undecided\n")
+        }
     }
 }

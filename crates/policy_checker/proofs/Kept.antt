@@ -8,10 +8,10 @@ use Rattle.policy_tree.specs.Meaning.{Meaning}
 use Rattle.obligations.specs.declared.names.ObName.{ObName}
 use Rattle.obligations.specs.Names.{statement_of}
 use Rattle.obligations.specs.Systems.{systems_of}
-use Rattle.policy_checker.specs.Answers.{AllRefuted, IsAnswer}
+use Rattle.policy_checker.specs.Answers.{AllRefuted, IsAnswer, MayBeDecided}
 use Rattle.policy_checker.specs.Certified.{Certifies, IsCertified, KeepAll, Keeps, KeepsCertificates}
 use Rattle.policy_checker.specs.Refuted.{Refutes}
-use Rattle.policy_checker.specs.Verdicts.{Answers, AreAnswers, is_failure, is_left, some_fails, some_is_left}
+use Rattle.policy_checker.specs.Verdicts.{Answers, AreAnswers, IsCertifiedUnder, MayAllBeDecided, is_failure, is_left, some_fails, some_is_left}
 use Rattle.policy_checker.specs.declared.answer.Answered.{Answered}
 use Rattle.policy_checker.specs.declared.answer.ObAnswer.{ObAnswer}
 use Rattle.policy_checker.specs.declared.answer.ObAnswer.TheVariants as answer
@@ -28,6 +28,18 @@ kept : (budget : ℕ) (systems : List LinearSystem) (answer : ObAnswer) → IsAn
 kept budget systems (answer.Holds certs) is no_failure not_left = certificates budget systems certs is
 kept budget systems (answer.Fails point) is no_failure not_left = absurd (let clash : ⊥ = cc in clash)
 kept budget systems (answer.Undecided points) is no_failure not_left = absurd (let clash : ⊥ = cc in clash)
+
+decided : (budget : ℕ) (systems : List LinearSystem) (certs : List Cert) → AllRefuted budget systems certs → AllByRecursion (MayBeDecided budget) systems
+decided budget [] [] all = tt
+decided budget [] (cert ∷ certs) all = absurd all
+decided budget (system ∷ systems) [] all = absurd all
+decided budget (system ∷ systems) (cert ∷ certs) all = (all.0.0, decided budget systems certs all.1)
+
+-- and its systems could be decided
+decided_by : (budget : ℕ) (systems : List LinearSystem) (answer : ObAnswer) → IsAnswer budget systems answer → Keeps systems answer → AllByRecursion (MayBeDecided budget) systems
+decided_by budget systems (answer.Holds certs) is keeps = decided budget systems certs is
+decided_by budget systems (answer.Fails point) is keeps = absurd keeps
+decided_by budget systems (answer.Undecided points) is keeps = absurd keeps
 
 neither : (a b : Bool) → (a || b) ≡ false → (a ≡ false) × (b ≡ false)
 neither true b e = absurd (let clash : ⊥ = cc in clash)
@@ -74,3 +86,16 @@ module _ (p : Meaning) where
     map (λ (answered : Answered). trees_of answered.answer) answers,
     subst (λ (names : List ObName). AllZip (Certifies p) names (map (λ (answered : Answered). trees_of answered.answer) answers)) all.names (certified_all answers all.each),
   )
+
+  decided_all : (budget : ℕ) (answers : List Answered) → AllByRecursion (Answers p budget) answers → AllByRecursion (KeepsCertificates p) answers
+      → MayAllBeDecided p budget (map (λ (answered : Answered). answered.name) answers)
+  decided_all budget [] all keep = tt
+  decided_all budget (answered ∷ answers) all keep =
+      (decided_by budget (systems_of p (statement_of answered.name)) answered.answer all.0 keep.0, decided_all budget answers all.1 keep.1)
+
+  -- and accepted under the budget of the answers
+  pub accepted_by : (budget : ℕ) (answers : List Answered) → AreAnswers p budget answers → KeepAll p answers → IsCertifiedUnder p budget
+  accepted_by budget answers are all = record {
+    certified = certified_by answers all;
+    decided = subst (MayAllBeDecided p budget) all.names (decided_all budget answers are.each all.each);
+  }

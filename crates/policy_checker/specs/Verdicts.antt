@@ -3,10 +3,11 @@ use Rattle.std.specs.Prelude.{◌≡◌, ℕ, Bool, true, false, List, map}
 use Rattle.std.specs.List.{AllByRecursion, list_any}
 use Rattle.policy_tree.specs.declared.typed.Policy.{Policy}
 use Rattle.policy_tree.specs.Meaning.{Meaning}
+use Rattle.obligations.specs.declared.names.ObName.{ObName}
 use Rattle.obligations.specs.declared.obligation.Obligation.{Obligation}
 use Rattle.obligations.specs.Names.{ob_names, statement_of}
 use Rattle.obligations.specs.Systems.{systems_of}
-use Rattle.policy_checker.specs.Answers.{IsAnswer}
+use Rattle.policy_checker.specs.Answers.{IsAnswer, MayBeDecided}
 use Rattle.policy_checker.specs.Certified.{IsCertified}
 use Rattle.policy_checker.specs.declared.answer.Answered.{Answered}
 use Rattle.policy_checker.specs.declared.answer.ObAnswer.{ObAnswer}
@@ -50,6 +51,16 @@ pub record AreAnswers (p : Meaning) (budget : ℕ) (answers : List Answered) : T
   pub names : map (λ (answered : Answered). answered.name) answers ≡ ob_names
   pub each : AllByRecursion (Answers p budget) answers
 
+-- each system of each of these obligations may be decided under the budget
+abbrev pub MayAllBeDecided : Meaning → ℕ → List ObName → Type 0
+MayAllBeDecided p budget names =
+    AllByRecursion (λ (name : ObName). AllByRecursion (MayBeDecided budget) (systems_of p (statement_of name))) names
+
+-- each obligation has its certificates, and could be decided under the budget
+pub record IsCertifiedUnder (p : Meaning) (budget : ℕ) : Type 0 where
+  pub certified : IsCertified p
+  pub decided : MayAllBeDecided p budget ob_names
+
 -- some obligation fails
 pub record IsRefused (p : Meaning) (budget : ℕ) (answers : List Answered) : Type 0 where
   pub answers_are : AreAnswers p budget answers
@@ -63,7 +74,7 @@ pub record IsUndecided (p : Meaning) (budget : ℕ) (answers : List Answered) : 
 
 -- That is a verdict on the policy.
 abbrev pub IsVerdict : Meaning → ℕ → Verdict → Type 0
-IsVerdict p budget (verdict.Accepted policy) = IsCertified p
+IsVerdict p budget (verdict.Accepted policy) = IsCertifiedUnder p budget
 IsVerdict p budget (verdict.Refused answers policy) = IsRefused p budget answers
 IsVerdict p budget (verdict.Undecided answers policy) = IsUndecided p budget answers
 

@@ -1,14 +1,14 @@
 -- The best of a list by the keys of an order.
-use Rattle.std.proofs.Common.{◌≡◌, zero, suc, ◌<◌, ℤ, Bool, true, false, cond, List, [], ◌∷◌, length, get_or, Option, Some, None, option_map, refl, sym, ap, ◌∙◌, arith, subst, int_lt, ◌<ℤ◌, neg_ℤ, ◌⊎◌, ⊎_elim, inl, inr}
+use Rattle.std.proofs.Common.{◌≡◌, zero, suc, ◌<◌, ℤ, Bool, true, false, cond, List, [], ◌∷◌, length, get_or, Option, Some, None, option_map, refl, sym, ap, ◌∙◌, arith, subst, int_lt, ◌<ℤ◌, neg_ℤ, pos, ◌⊎◌, ⊎_elim, inl, inr}
 use Rattle.std.specs.declared.cmp.Ordering.{Ordering}
 use Rattle.std.specs.declared.cmp.Ordering.TheVariants.{Less, Equal, Greater}
 use Rattle.std.specs.Ordering.{MatchOrdering, int_cmp, is_lt, ordering_then}
 use Rattle.std.proofs.lemmas.Int.{ints}
 use Rattle.std.specs.Cmp.{int_ranks}
-use Rattle.policy_tree.specs.Meaning.{KeyTree}
+use Rattle.policy_tree.specs.Meaning.{KeyTree, greatest_first, least_first, preferring}
 use Rattle.policy_eval.specs.Laws.{BestAndRestLaw, BestLaw, IsBest, IsBestAndRest, RestLaw}
-use Rattle.policy_eval.specs.Orders.{best_and_rest, best_of, better_and_rest, better_of, keys_order, precedes}
-use Rattle.policy_eval.specs.Values.{Assignment, value_of}
+use Rattle.policy_eval.specs.Orders.{best_and_rest, best_of, better_and_rest, better_of, key_order, keys_order, precedes, truth_order}
+use Rattle.policy_eval.specs.Values.{Assignment, holds, value_of}
 
 module _ {X : Type 0} (before : X → X → Bool) where
   first_of_cond : (b : Bool) (x y : X) (xs ys : List X) → (λ (best : X × List X). best.0) (cond b (x, xs) (y, ys)) ≡ cond b x y
@@ -28,7 +28,9 @@ best_and_rest_law keys xs = best_and_rest-best (precedes keys) xs
 
 -- the rank of a key: the lesser comes first
 rank : KeyTree → Assignment → ℤ
-rank key a = cond key.greatest (neg_ℤ (value_of a key.expr)) (value_of a key.expr)
+rank (least_first e) a = value_of a e
+rank (greatest_first e) a = neg_ℤ (value_of a e)
+rank (preferring c) a = cond (holds a c) (pos 0) (pos 1)
 
 int_lt-neg : (x y : ℤ) → int_lt (neg_ℤ x) (neg_ℤ y) ≡ int_lt y x
 int_lt-neg x y = grind (arith, ints)
@@ -38,9 +40,17 @@ int_cmp-neg x y =
     ap (λ b. cond b Less (cond (int_lt (neg_ℤ y) (neg_ℤ x)) Greater Equal)) (int_lt-neg x y)
     ∙ ap (λ b. cond (int_lt y x) Less (cond b Greater Equal)) (int_lt-neg y x)
 
-key_order-rank : (greatest : Bool) (x y : ℤ) → cond greatest (int_cmp y x) (int_cmp x y) ≡ int_cmp (cond greatest (neg_ℤ x) x) (cond greatest (neg_ℤ y) y)
-key_order-rank true x y = sym (int_cmp-neg x y)
-key_order-rank false x y = refl
+truth_order-rank : (x y : Bool) → truth_order x y ≡ int_cmp (cond x (pos 0) (pos 1)) (cond y (pos 0) (pos 1))
+truth_order-rank true true = refl
+truth_order-rank true false = refl
+truth_order-rank false true = refl
+truth_order-rank false false = refl
+
+key_order-rank : (key : KeyTree) (a b : Assignment) → key_order key a b ≡ int_cmp (rank key a) (rank key b)
+unfolding rank
+key_order-rank (least_first e) a b = refl
+key_order-rank (greatest_first e) a b = sym (int_cmp-neg (value_of a e) (value_of b e))
+key_order-rank (preferring c) a b = truth_order-rank (holds a c) (holds b c)
 
 -- the first of two comes strictly before, by its rank or by the keys after
 Before : ℤ → ℤ → Bool → Type 0
@@ -69,8 +79,7 @@ false_of_cases x y Greater rest ranks not = refl
 
 -- the keys of an order by the first key's ranks and the keys after
 keys_order-cons : (key : KeyTree) (keys : List KeyTree) (a b : Assignment) → keys_order (key ∷ keys) a b ≡ ordering_then (int_cmp (rank key a) (rank key b)) (keys_order keys a b)
-unfolding rank
-keys_order-cons key keys a b = ap (λ o. ordering_then o (keys_order keys a b)) (key_order-rank key.greatest (value_of a key.expr) (value_of b key.expr))
+keys_order-cons key keys a b = ap (λ o. ordering_then o (keys_order keys a b)) (key_order-rank key a b)
 
 -- of two at most one comes strictly before the other
 pub precedes-asymmetric : (keys : List KeyTree) (a b : Assignment) → precedes keys a b ≡ true → precedes keys b a ≡ false

@@ -4,11 +4,11 @@ use Rattle.std.specs.List.{AllByRecursion}
 use Rattle.std.proofs.lemmas.Bool.Decides.{nat_tests}
 use Rattle.policy_tree.specs.declared.typed.Event.TheVariants as event
 use Rattle.policy_tree.specs.Trees.{ExprTree, number, variable, negation, plus, minus, times, CondTree, always, negated, both, either, test}
-use Rattle.policy_tree.specs.Meaning.{KeyTree, Meaning}
-use Rattle.policy_eval.specs.Evaluable.{IsEvaluable, IsEvaluableCond, IsEvaluableOrder}
+use Rattle.policy_tree.specs.Meaning.{BatchTree, KeyTree, Meaning, greatest_first, least_first, preferring}
+use Rattle.policy_eval.specs.Evaluable.{IsEvaluable, IsEvaluableCond, IsEvaluableKey, IsEvaluableOrder}
 use Rattle.policy_eval.specs.Forms.{EachSide, RefersTo}
-use Rattle.policy_eval.specs.Resolved.{IsResolved, IsResolvedCond, IsResolvedExpr, IsResolvedOrder}
-use Rattle.policy_eval.specs.Sites.{Site, allows, choosing, electing, filtering, handling, placing, stealing}
+use Rattle.policy_eval.specs.Resolved.{IsResolved, IsResolvedBatch, IsResolvedCond, IsResolvedExpr, IsResolvedKey, IsResolvedOrder}
+use Rattle.policy_eval.specs.Sites.{Site, allows, choosing, electing, filtering, going_on, handling, placing, stealing}
 
 -- each variable that may stand somewhere is one of those that there are
 known : (p : Meaning) (site : Site) (at : ℕ) → length p.core_attrs ≤ 8 → length p.thread_attrs ≤ 8 → allows p site at ≡ true → ltb at 30 ≡ true
@@ -17,6 +17,7 @@ known p choosing at cores threads e = grind (arith, nat_tests)
 known p placing at cores threads e = grind (arith, nat_tests)
 known p electing at cores threads e = grind (arith, nat_tests)
 known p stealing at cores threads e = grind (arith, nat_tests)
+known p going_on at cores threads e = grind (arith, nat_tests)
 known p (handling event.Enqueue) at cores threads e = grind (arith, nat_tests)
 known p (handling event.Tick) at cores threads e = grind (arith, nat_tests)
 known p (handling event.Yield) at cores threads e = grind (arith, nat_tests)
@@ -52,6 +53,14 @@ module _ (p : Meaning) (is : IsResolved p) where
   pub evaluable_cond : (site : Site) (c : CondTree) → IsResolvedCond p site c → IsEvaluableCond c
   evaluable_cond site c resolved = EachSide-mono (IsResolvedExpr p site) IsEvaluable (evaluable_expr site) c resolved.sides
 
+  pub evaluable_batch : (b : BatchTree) → IsResolvedBatch p b → IsEvaluableCond b.condition
+  evaluable_batch b resolved = evaluable_cond going_on b.condition resolved.condition
+
+  evaluable_key : (site : Site) (key : KeyTree) → IsResolvedKey p site key → IsEvaluableKey key
+  evaluable_key site (least_first e) resolved = evaluable_expr site e resolved
+  evaluable_key site (greatest_first e) resolved = evaluable_expr site e resolved
+  evaluable_key site (preferring c) resolved = evaluable_cond site c resolved
+
   pub evaluable_order : (site : Site) (order : List KeyTree) → IsResolvedOrder p site order → IsEvaluableOrder order
   evaluable_order site order resolved =
-      AllByRecursion-each (λ (key : KeyTree). IsResolvedExpr p site key.expr) (λ (key : KeyTree). IsEvaluable key.expr) (λ key. evaluable_expr site key.expr) order resolved.keys
+      AllByRecursion-each (IsResolvedKey p site) IsEvaluableKey (evaluable_key site) order resolved.keys

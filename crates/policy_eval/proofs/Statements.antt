@@ -13,21 +13,22 @@ module _ (p : Meaning) where
     idle_sees_overloaded = all 0 idle_sees_overloaded (omega arith);
     victim_is_overloaded = all 1 idle_sees_overloaded (omega arith);
     move_narrows_gap = all 2 idle_sees_overloaded (omega arith);
+    further_move_narrows_gap = all 3 idle_sees_overloaded (omega arith);
   }
 
   overlaps : MeetsObligations p → (e : Event) → NoOverlap p e
   unfolding statements_of
-  overlaps all event.Enqueue = all 3 idle_sees_overloaded (omega arith)
-  overlaps all event.Tick = all 5 idle_sees_overloaded (omega arith)
-  overlaps all event.Yield = all 7 idle_sees_overloaded (omega arith)
-  overlaps all event.Block = all 9 idle_sees_overloaded (omega arith)
+  overlaps all event.Enqueue = all 4 idle_sees_overloaded (omega arith)
+  overlaps all event.Tick = all 6 idle_sees_overloaded (omega arith)
+  overlaps all event.Yield = all 8 idle_sees_overloaded (omega arith)
+  overlaps all event.Block = all 10 idle_sees_overloaded (omega arith)
 
   gaps : MeetsObligations p → (e : Event) → NoGap p e
   unfolding statements_of
-  gaps all event.Enqueue = all 4 idle_sees_overloaded (omega arith)
-  gaps all event.Tick = all 6 idle_sees_overloaded (omega arith)
-  gaps all event.Yield = all 8 idle_sees_overloaded (omega arith)
-  gaps all event.Block = all 10 idle_sees_overloaded (omega arith)
+  gaps all event.Enqueue = all 5 idle_sees_overloaded (omega arith)
+  gaps all event.Tick = all 7 idle_sees_overloaded (omega arith)
+  gaps all event.Yield = all 9 idle_sees_overloaded (omega arith)
+  gaps all event.Block = all 11 idle_sees_overloaded (omega arith)
 
   pub handler_obligations : MeetsObligations p → MeetsHandlerObligations p
   handler_obligations all = record { no_overlap = overlaps all; no_gap = gaps all }
@@ -42,14 +43,17 @@ module _ (p : Meaning) where
           (
             balance.move_narrows_gap,
             (
-              handlers.no_overlap event.Enqueue,
+              balance.further_move_narrows_gap,
               (
-                handlers.no_gap event.Enqueue,
+                handlers.no_overlap event.Enqueue,
                 (
-                  handlers.no_overlap event.Tick,
+                  handlers.no_gap event.Enqueue,
                   (
-                    handlers.no_gap event.Tick,
-                    (handlers.no_overlap event.Yield, (handlers.no_gap event.Yield, (handlers.no_overlap event.Block, (handlers.no_gap event.Block, tt)))),
+                    handlers.no_overlap event.Tick,
+                    (
+                      handlers.no_gap event.Tick,
+                      (handlers.no_overlap event.Yield, (handlers.no_gap event.Yield, (handlers.no_overlap event.Block, (handlers.no_gap event.Block, tt)))),
+                    ),
                   ),
                 ),
               ),

@@ -11,7 +11,7 @@ use Rattle.policy_eval.specs.Events.{saturated, seen_by_handler, task_after_set,
 use Rattle.policy_eval.specs.Fitting.{CoreFits, IsTask, IsWeight, LoadsFit}
 use Rattle.policy_eval.specs.Ranges.{AreIn, IsIn, Range, attribute_ranges, declared_range, greatest_weight, range, wide_ranges, within}
 use Rattle.policy_eval.specs.Resolved.{AreAttributes, IsAttribute, IsResolved}
-use Rattle.policy_eval.specs.Sights.{assigned, core_values, event_values, no_attributes, pair_values, thread_values}
+use Rattle.policy_eval.specs.Sights.{assigned, core_values, event_values, move_values, no_attributes, pair_values, thread_values}
 use Rattle.policy_eval.specs.Values.{value_of}
 
 -- a range inside another
@@ -126,6 +126,15 @@ module _ (p : Meaning) (is : IsResolved p) where
       fits_own.loads.few (LoadsFit-bound p is own.nr own.load fits_own.loads) fits_victim.loads.few (LoadsFit-bound p is victim.nr victim.load fits_victim.loads)
       (omega arith) (omega arith) (omega arith)
       (consts_wide own.consts fits_own.consts) (consts_wide victim.consts fits_victim.consts) no_attributes_wide
+
+  pub move_wide : (own victim : CoreValues) (weight : ℕ) (attrs : List ℤ) → CoreFits p own → CoreFits p victim → IsWeight p weight
+      → AreIn (attribute_ranges p.thread_attrs) attrs → AreIn wide_ranges (move_values own victim weight attrs)
+  unfolding move_values
+  move_wide own victim weight attrs fits_own fits_victim fits held =
+      assigned_wide own.nr own.load victim.nr victim.load weight 0 own.consts victim.consts attrs
+      fits_own.loads.few (LoadsFit-bound p is own.nr own.load fits_own.loads) fits_victim.loads.few (LoadsFit-bound p is victim.nr victim.load fits_victim.loads)
+      (positive_weight weight fits) (small_weight weight fits) (omega arith)
+      (consts_wide own.consts fits_own.consts) (consts_wide victim.consts fits_victim.consts) (attrs_wide attrs held)
 
   pub core_wide : (core : CoreValues) → CoreFits p core → AreIn wide_ranges (core_values core)
   unfolding core_values

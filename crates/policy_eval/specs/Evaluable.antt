@@ -3,7 +3,7 @@ use Rattle.std.specs.Prelude.{ℕ, nat_lt, List}
 use Rattle.std.specs.List.{AllByRecursion}
 use Rattle.sched_base.specs.declared.limits.TheConstants.{MAX_VARIABLES}
 use Rattle.policy_tree.specs.Trees.{ExprTree, CondTree}
-use Rattle.policy_tree.specs.Meaning.{KeyTree}
+use Rattle.policy_tree.specs.Meaning.{KeyTree, greatest_first, least_first, preferring}
 use Rattle.policy_eval.specs.Forms.{EachSide, IsLinear, RefersTo}
 
 -- a linear expression over the variables that there are
@@ -15,6 +15,12 @@ pub record IsEvaluable (e : ExprTree) : Type 0 where
 abbrev pub IsEvaluableCond : CondTree → Type 0
 IsEvaluableCond c = EachSide IsEvaluable c
 
+-- a key that the evaluator takes
+abbrev pub IsEvaluableKey : KeyTree → Type 0
+IsEvaluableKey (least_first e) = IsEvaluable e
+IsEvaluableKey (greatest_first e) = IsEvaluable e
+IsEvaluableKey (preferring c) = IsEvaluableCond c
+
 -- an order that the evaluator takes
 abbrev pub IsEvaluableOrder : List KeyTree → Type 0
-IsEvaluableOrder keys = AllByRecursion (λ (key : KeyTree). IsEvaluable key.expr) keys
+IsEvaluableOrder keys = AllByRecursion IsEvaluableKey keys

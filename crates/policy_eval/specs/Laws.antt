@@ -1,9 +1,21 @@
 -- What the definitions are meant to give.
-use Rattle.std.specs.Prelude.{◌≡◌, ℕ, ◌<◌, List, length, remove, Some, option_map, slice_index_or, IsFalse, IsTrue}
+use Rattle.std.specs.Prelude.{◌≡◌, ℕ, ◌<◌, Bool, IsFalse, IsTrue, List, length, remove}
+use Rattle.std.specs.Prelude.{Some, option_map, slice_index_or}
 use Rattle.policy_tree.specs.Meaning.{KeyTree, Meaning}
 use Rattle.policy_eval.specs.Obligations.{MeetsBalanceObligations, MeetsHandlerObligations, MeetsObligations}
 use Rattle.policy_eval.specs.Orders.{best_and_rest, best_of, precedes}
 use Rattle.policy_eval.specs.Values.{Assignment}
+
+-- what comes before what is as by a rank: nothing before itself, of two at most one before the other, and not coming
+-- before goes on from one to the next
+pub record IsRanked {X : Type 0} (before : X → X → Bool) : Type 0 where
+  pub irreflexive : (a : X) → IsFalse (before a a)
+  pub asymmetric : (a b : X) → IsTrue (before a b) → IsFalse (before b a)
+  pub not_before : (a b c : X) → IsFalse (before a b) → IsFalse (before b c) → IsFalse (before a c)
+
+-- so it is by the keys of every order
+abbrev pub RankedLaw : Type 0
+RankedLaw = (keys : List KeyTree) → IsRanked (precedes keys)
 
 -- the first of the pair is the best of the list, and there is no pair where there is no best
 abbrev pub BestAndRestLaw : Type 0

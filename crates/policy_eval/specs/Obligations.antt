@@ -1,14 +1,14 @@
 -- What a policy owes: statements over all numbers in its ranges.
-use Rattle.std.specs.Prelude.{◌≡◌, ℕ, ◌+◌, ◌*◌, ◌<◌, ◌≤◌, Bool, List, [], ◌∷◌, length, All, ℤ}
+use Rattle.std.specs.Prelude.{◌≡◌, ℕ, ◌+◌, ◌*◌, ◌<◌, ◌≤◌, Bool, List, [], ◌∷◌, length, All, ℤ, Option, None, Some}
 use Rattle.sched_base.specs.declared.task.Task.{Task}
 use Rattle.policy_tree.specs.declared.typed.Event.{Event}
 use Rattle.policy_tree.specs.declared.typed.Event.TheVariants as event
-use Rattle.policy_tree.specs.Meaning.{Meaning}
+use Rattle.policy_tree.specs.Meaning.{BatchTree, Meaning}
 use Rattle.policy_eval.specs.declared.env.CoreValues.{CoreValues}
 use Rattle.policy_eval.specs.Events.{holding_cases}
 use Rattle.policy_eval.specs.Fitting.{CoreFits, IsTask, IsWeight}
 use Rattle.policy_eval.specs.Ranges.{AreIn, attribute_ranges, least_weight}
-use Rattle.policy_eval.specs.Sights.{pair_values}
+use Rattle.policy_eval.specs.Sights.{move_values, pair_values}
 use Rattle.policy_eval.specs.Values.{Holds}
 
 -- an idle core sees every overloaded one
@@ -28,6 +28,19 @@ MoveNarrowsGap p = (own victim : CoreValues) (weight : ℕ) → CoreFits p own �
     → weight + least_weight p.load * victim.nr ≤ victim.load + least_weight p.load
     → own.load + weight < victim.load
 
+-- each further move of a batch narrows the gap, whichever thread is next. Without a batch there is none
+abbrev pub NarrowsGapBy : Meaning → Option BatchTree → Type 0
+NarrowsGapBy p None = Unit {0}
+NarrowsGapBy p (Some batch) = (own victim : CoreValues) (weight : ℕ) (attrs : List ℤ) → CoreFits p own
+    → CoreFits p victim → IsWeight p weight → AreIn (attribute_ranges p.thread_attrs) attrs
+    → Holds (move_values own victim weight attrs) batch.condition
+    → 1 ≤ victim.nr
+    → weight + least_weight p.load * victim.nr ≤ victim.load + least_weight p.load
+    → own.load + weight < victim.load
+
+abbrev pub FurtherMoveNarrowsGap : Meaning → Type 0
+FurtherMoveNarrowsGap p = NarrowsGapBy p p.batch
+
 -- no two cases of the handler hold together
 abbrev pub NoOverlap : Meaning → Event → Type 0
 NoOverlap p e = (fresh : Bool) (consts : List ℤ) (t : Task)
@@ -43,6 +56,7 @@ pub data Statement : Type 0 where
   idle_sees_overloaded : Statement
   victim_is_overloaded : Statement
   move_narrows_gap : Statement
+  further_move_narrows_gap : Statement
   no_overlap : Event → Statement
   no_gap : Event → Statement
 
@@ -51,13 +65,14 @@ abbrev pub IsMet : Meaning → Statement → Type 0
 IsMet p idle_sees_overloaded = IdleSeesOverloaded p
 IsMet p victim_is_overloaded = VictimIsOverloaded p
 IsMet p move_narrows_gap = MoveNarrowsGap p
+IsMet p further_move_narrows_gap = FurtherMoveNarrowsGap p
 IsMet p (no_overlap e) = NoOverlap p e
 IsMet p (no_gap e) = NoGap p e
 
 -- the statements of a policy, in the order in which they are reported
 unfoldable pub statements_of : Meaning → List Statement
 statements_of p =
-    idle_sees_overloaded ∷ victim_is_overloaded ∷ move_narrows_gap
+    idle_sees_overloaded ∷ victim_is_overloaded ∷ move_narrows_gap ∷ further_move_narrows_gap
     ∷ no_overlap event.Enqueue ∷ no_gap event.Enqueue
     ∷ no_overlap event.Tick ∷ no_gap event.Tick
     ∷ no_overlap event.Yield ∷ no_gap event.Yield
@@ -73,8 +88,9 @@ pub record MeetsHandlerObligations (p : Meaning) : Type 0 where
   pub no_overlap : (e : Event) → NoOverlap p e
   pub no_gap : (e : Event) → NoGap p e
 
--- the filter sees enough and not too much
+-- the filter sees enough and not too much, and so does a batch
 pub record MeetsBalanceObligations (p : Meaning) : Type 0 where
   pub idle_sees_overloaded : IdleSeesOverloaded p
   pub victim_is_overloaded : VictimIsOverloaded p
   pub move_narrows_gap : MoveNarrowsGap p
+  pub further_move_narrows_gap : FurtherMoveNarrowsGap p

@@ -1,17 +1,23 @@
 -- Which of two comes first by the keys of an order, and which of many is the best.
-use Rattle.std.specs.Prelude.{Bool, cond, List, [], ◌∷◌, Option, Some, None}
+use Rattle.std.specs.Prelude.{Bool, true, false, cond, List, [], ◌∷◌, Option, Some, None}
 use Rattle.std.specs.declared.cmp.Ordering.{Ordering}
-use Rattle.std.specs.declared.cmp.Ordering.TheVariants.{Equal}
+use Rattle.std.specs.declared.cmp.Ordering.TheVariants.{Less, Equal, Greater}
 use Rattle.std.specs.Ordering.{int_cmp, ordering_then, is_lt}
-use Rattle.policy_tree.specs.Meaning.{KeyTree}
-use Rattle.policy_eval.specs.Values.{Assignment, value_of}
+use Rattle.policy_tree.specs.Meaning.{KeyTree, greatest_first, least_first, preferring}
+use Rattle.policy_eval.specs.Values.{Assignment, holds, value_of}
+
+-- what is true comes before what is false
+abbrev pub truth_order : Bool → Bool → Ordering
+truth_order true true = Equal
+truth_order true false = Less
+truth_order false true = Greater
+truth_order false false = Equal
 
 -- how a and b stand by one key: `Less` where a comes first
 abbrev pub key_order : KeyTree → Assignment → Assignment → Ordering
-key_order key a b =
-    cond key.greatest
-    (int_cmp (value_of b key.expr) (value_of a key.expr))
-    (int_cmp (value_of a key.expr) (value_of b key.expr))
+key_order (least_first e) a b = int_cmp (value_of a e) (value_of b e)
+key_order (greatest_first e) a b = int_cmp (value_of b e) (value_of a e)
+key_order (preferring c) a b = truth_order (holds a c) (holds b c)
 
 -- how a and b stand by all keys: the first key that tells them apart decides
 abbrev pub keys_order : List KeyTree → Assignment → Assignment → Ordering

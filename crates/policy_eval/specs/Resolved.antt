@@ -1,14 +1,16 @@
 -- Resolved policies: every reference stands where it may, every expression is linear, every limit is kept.
-use Rattle.std.specs.Prelude.{◌<◌, ◌≤◌, ◌≤ℤ◌, List, length, All, neg_ℤ}
+use Rattle.std.specs.Prelude.{◌<◌, ◌≤◌, ◌≤ℤ◌, List, length, All, neg_ℤ, Option, None, Some}
 use Rattle.sched_base.specs.declared.limits.TheConstants.{MAX_ATTRIBUTE, MAX_ATTRIBUTES, MAX_CASES, MAX_COMPARISONS}
-use Rattle.sched_base.specs.declared.limits.TheConstants.{MAX_KEYS, MAX_OPERATORS, MAX_SETS, MAX_WEIGHT}
+use Rattle.sched_base.specs.declared.limits.TheConstants.{MAX_KEYS, MAX_OPERATORS, MAX_SETS, MAX_STOLEN, MAX_WEIGHT}
 use Rattle.policy_tree.specs.declared.typed.Attr.{Attr}
 use Rattle.policy_tree.specs.declared.typed.Event.{Event}
 use Rattle.policy_tree.specs.declared.typed.Load.{Load}
 use Rattle.policy_tree.specs.Trees.{ExprTree, CondTree}
-use Rattle.policy_tree.specs.Meaning.{CaseTree, KeyTree, Meaning, PlaceTree, SetTree, cases_on, here, least}
+use Rattle.policy_tree.specs.Meaning.{BatchTree, CaseTree, KeyTree, Meaning, PlaceTree, SetTree, cases_on}
+use Rattle.policy_tree.specs.Meaning.{greatest_first, here, least, least_first, preferring}
 use Rattle.policy_eval.specs.Forms.{EachSide, IsLinear, RefersTo, comparisons_of, operators_of}
-use Rattle.policy_eval.specs.Sites.{AllowsPut, Site, allows, choosing, electing, filtering, handling, placing, stealing}
+use Rattle.policy_eval.specs.Sites.{AllowsPut, Site, allows, choosing, electing, filtering, going_on, handling, placing}
+use Rattle.policy_eval.specs.Sites.{stealing}
 use Rattle.policy_eval.specs.Ranges.{greatest_weight, least_weight}
 
 -- an expression that may stand there
@@ -22,10 +24,16 @@ pub record IsResolvedCond (p : Meaning) (site : Site) (c : CondTree) : Type 0 wh
   pub few : comparisons_of c ≤ MAX_COMPARISONS
   pub sides : EachSide (IsResolvedExpr p site) c
 
+-- a key that may stand there
+abbrev pub IsResolvedKey : Meaning → Site → KeyTree → Type 0
+IsResolvedKey p site (least_first e) = IsResolvedExpr p site e
+IsResolvedKey p site (greatest_first e) = IsResolvedExpr p site e
+IsResolvedKey p site (preferring c) = IsResolvedCond p site c
+
 -- an order that may stand there
 pub record IsResolvedOrder (p : Meaning) (site : Site) (order : List KeyTree) : Type 0 where
   pub few : length order ≤ MAX_KEYS
-  pub keys : All (λ (key : KeyTree). IsResolvedExpr p site key.expr) order
+  pub keys : All (IsResolvedKey p site) order
 
 -- an assignment to a declared attribute of threads
 pub record IsResolvedSet (p : Meaning) (e : Event) (s : SetTree) : Type 0 where
@@ -47,6 +55,16 @@ pub record IsResolvedHandler (p : Meaning) (e : Event) : Type 0 where
 abbrev pub IsResolvedPlace : Meaning → PlaceTree → Type 0
 IsResolvedPlace p here = Unit {0}
 IsResolvedPlace p (least e) = IsResolvedExpr p placing e
+
+-- a batch: a steal moves at least one thread, and no more than an entry has room for
+pub record IsResolvedBatch (p : Meaning) (b : BatchTree) : Type 0 where
+  pub condition : IsResolvedCond p going_on b.condition
+  pub some : 1 ≤ b.limit
+  pub few : b.limit ≤ MAX_STOLEN
+
+abbrev pub HasResolvedBatch : Meaning → Option BatchTree → Type 0
+HasResolvedBatch p None = Unit {0}
+HasResolvedBatch p (Some b) = IsResolvedBatch p b
 
 -- the weights that loads may have
 pub record IsWeightRange (l : Load) : Type 0 where
@@ -75,3 +93,4 @@ pub record IsResolved (p : Meaning) : Type 0 where
   pub filter : IsResolvedCond p filtering p.filter
   pub choose : IsResolvedOrder p choosing p.choose
   pub steal : IsResolvedOrder p stealing p.steal
+  pub batch : HasResolvedBatch p p.batch

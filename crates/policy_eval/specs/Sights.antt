@@ -23,6 +23,11 @@ pair_values own victim =
 unfoldable pub own_values : CoreValues → Assignment
 own_values own = assigned own.nr own.load 0 0 1 0 own.consts no_attributes no_attributes
 
+-- what a batch sees before each further move: the thief, the victim, and the thread that is next
+unfoldable pub move_values : CoreValues → CoreValues → ℕ → List ℤ → Assignment
+move_values own victim weight attrs =
+    assigned own.nr own.load victim.nr victim.load weight 0 own.consts victim.consts attrs
+
 -- what placement sees of a core
 unfoldable pub core_values : CoreValues → Assignment
 core_values core = assigned 0 0 core.nr core.load 1 0 no_attributes core.consts no_attributes

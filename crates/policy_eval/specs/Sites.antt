@@ -16,6 +16,7 @@ pub data Site : Type 0 where
   placing : Site
   electing : Site
   stealing : Site
+  going_on : Site
   handling : Event → Site
 
 -- whether the variable is one of the attributes from that number on
@@ -31,6 +32,8 @@ allows p choosing at = nat_lt at WEIGHT || is_attribute SELF_ATTRIBUTES p.core_a
 allows p placing at = at == OTHER_NR || at == OTHER_LOAD || is_attribute OTHER_ATTRIBUTES p.core_attrs at
 allows p electing at = at == WEIGHT || is_attribute THREAD_ATTRIBUTES p.thread_attrs at
 allows p stealing at = at == WEIGHT || is_attribute THREAD_ATTRIBUTES p.thread_attrs at
+allows p going_on at = nat_le at WEIGHT || is_attribute SELF_ATTRIBUTES p.core_attrs at
+    || is_attribute OTHER_ATTRIBUTES p.core_attrs at || is_attribute THREAD_ATTRIBUTES p.thread_attrs at
 allows p (handling event.Enqueue) at = at == WEIGHT || at == FRESH || is_attribute SELF_ATTRIBUTES p.core_attrs at
     || is_attribute THREAD_ATTRIBUTES p.thread_attrs at
 allows p (handling event.Tick) at = at == WEIGHT || is_attribute SELF_ATTRIBUTES p.core_attrs at

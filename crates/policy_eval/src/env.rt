@@ -2,7 +2,8 @@
 
 ghost use Rattle.std.specs.Prelude.{◌≡◌, ◌+◌, ◌≤◌, ◌++◌, pos, map, take, drop};
 ghost use Rattle.policy_eval.specs.declared.env.CoreValues.{CoreValues};
-ghost use Rattle.policy_eval.specs.Sights.{core_values, event_values, own_values, pair_values, thread_values};
+ghost use Rattle.policy_eval.specs.Sights.{core_values, event_values, move_values, own_values, pair_values};
+ghost use Rattle.policy_eval.specs.Sights.{thread_values};
 
 use policy_tree::variables;
 use sched_base::{MAX_ATTRIBUTES, MAX_LOAD, MAX_VARIABLES, Task};
@@ -22,6 +23,15 @@ pub struct CoreValues {
     pub load: u64,
     /// The values of its attributes in the order of their declaration, 0 past the last.
     pub consts: [i32; MAX_ATTRIBUTES],
+}
+
+impl CoreValues {
+    /// What is known of a core that isn't there.
+    pub const NONE: CoreValues = CoreValues {
+        nr: 0,
+        load: 0,
+        consts: NO_ATTRIBUTES,
+    };
 }
 
 impl Env {
@@ -59,6 +69,23 @@ impl Env {
             &victim.consts,
         );
         Env { vals }
+    }
+
+    /// What a batch sees before each further move: the thief, the victim, and the thread that is next.
+    pub fn of_move(own: &CoreValues, victim: &CoreValues, task: &Task) -> Env
+        requires own { own.now.load ≤ MAX_LOAD }
+        requires victim { victim.now.load ≤ MAX_LOAD }
+        ensures { result.vals ≡ move_values own.now victim.now task.now.weight task.now.attrs }
+    {
+        let numbers = [
+            own.nr,
+            own.load as u32,
+            victim.nr,
+            victim.load as u32,
+            task.weight,
+            0,
+        ];
+        assigned(&numbers, &own.consts, &victim.consts, &task.attrs)
     }
 
     /// What placement sees of a core.

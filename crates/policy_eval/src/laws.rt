@@ -1,6 +1,11 @@
 //! Laws of the definitions, each a function without parameters whose contract is the law.
 
-ghost use Rattle.policy_eval.specs.Laws.{BestAndRestLaw, BestLaw, ObligationParts, RestLaw};
+ghost use Rattle.policy_eval.specs.Laws.{BestAndRestLaw, BestLaw, ObligationParts, RankedLaw, RestLaw};
+
+/// The keys of an order rank what they compare.
+pub fn law_ranked()
+    ensures { RankedLaw }
+{}
 
 /// The best of a list by the keys: none comes before it, and it comes before each earlier one.
 pub fn law_best()

@@ -2,12 +2,12 @@
 
 ghost use Rattle.std.specs.Prelude.{◌≡◌};
 ghost use Rattle.policy_tree.specs.Meaning.{key_tree, order_tree};
-ghost use Rattle.policy_eval.specs.Evaluable.{IsEvaluable, IsEvaluableOrder};
-ghost use Rattle.policy_eval.specs.Orders.{key_order as order_by_key, precedes};
+ghost use Rattle.policy_eval.specs.Evaluable.{IsEvaluableKey, IsEvaluableOrder};
+ghost use Rattle.policy_eval.specs.Orders.{key_order as order_by_key, precedes, truth_order as order_of_truth};
 ghost use Rattle.policy_eval.specs.Ranges.{AreIn, wide_ranges};
 
 use crate::env::Env;
-use crate::evaluation::value;
+use crate::evaluation::{holds, value};
 use policy_tree::{Key, Order};
 use std::cmp::Ordering;
 
@@ -30,16 +30,25 @@ pub fn better(order: &Order, a: &Env, b: &Env) -> bool
 
 /// How `a` and `b` stand by one key. Nothing else knows what kinds of keys there are.
 fn key_order(key: &Key, a: &Env, b: &Env) -> Ordering
-    requires key { IsEvaluable (key_tree key.now).expr }
+    requires key { IsEvaluableKey (key_tree key.now) }
     requires first { AreIn wide_ranges a.now.vals }
     requires second { AreIn wide_ranges b.now.vals }
     ensures { result ≡ order_by_key (key_tree key.now) a.now.vals b.now.vals }
 {
-    let first = value(&key.expr, a);
-    let second = value(&key.expr, b);
-    if key.greatest {
-        second.cmp(&first)
-    } else {
-        first.cmp(&second)
+    match key {
+        Key::Least(expr) => value(expr, a).cmp(&value(expr, b)),
+        Key::Greatest(expr) => value(expr, b).cmp(&value(expr, a)),
+        Key::Prefer(cond) => truth_order(holds(cond, a), holds(cond, b)),
+    }
+}
+
+/// What is true comes before what is false.
+fn truth_order(first: bool, second: bool) -> Ordering
+    ensures { result ≡ order_of_truth first second }
+{
+    match (first, second) {
+        (true, false) => Ordering::Less,
+        (false, true) => Ordering::Greater,
+        _ => Ordering::Equal,
     }
 }

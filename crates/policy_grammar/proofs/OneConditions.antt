@@ -1,8 +1,8 @@
 -- The tokens from a place on have one tree at most, and it ends at one place: conditions.
 use Rattle.std.proofs.Common.{◌≡◌, ◌+◌, ℕ, List, arith}
 use Rattle.policy_tree.specs.declared.trees.Cmp.{Cmp}
-use Rattle.policy_tree.specs.declared.syntax.ExprSyntax.{ExprSyntax}
-use Rattle.policy_tree.specs.SyntaxTrees.{ConditionTree, negated, grouped, test, ConditionTrees, more}
+use Rattle.policy_syntax.specs.declared.syntax.ExprSyntax.{ExprSyntax}
+use Rattle.policy_syntax.specs.SyntaxTrees.{ConditionTree, negated, grouped, test, ConditionTrees, more}
 use Rattle.policy_grammar.specs.declared.terminal.Lexeme.{Lexeme}
 use Rattle.policy_grammar.specs.declared.terminal.Terminal.TheVariants as terminal
 use Rattle.policy_grammar.specs.Terminals.{code, kind_at}

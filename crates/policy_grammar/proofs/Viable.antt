@@ -8,21 +8,21 @@ use Rattle.policy_tree.specs.declared.typed.Event.{Event}
 use Rattle.policy_tree.specs.declared.typed.Event.TheVariants as event_is
 use Rattle.policy_tree.specs.declared.typed.Put.{Put}
 use Rattle.policy_tree.specs.declared.typed.Put.TheVariants as put_is
-use Rattle.policy_tree.specs.declared.syntax.Owner.{Owner}
-use Rattle.policy_tree.specs.declared.syntax.Owner.TheVariants as owner
-use Rattle.policy_tree.specs.declared.syntax.IntSyntax.{IntSyntax}
-use Rattle.policy_tree.specs.declared.syntax.LoadSyntax.{LoadSyntax}
-use Rattle.policy_tree.specs.declared.syntax.AttrSyntax.{AttrSyntax}
-use Rattle.policy_tree.specs.declared.syntax.PlaceSyntax.{PlaceSyntax}
-use Rattle.policy_tree.specs.declared.syntax.ElectSyntax.{ElectSyntax}
-use Rattle.policy_tree.specs.declared.syntax.OrderSyntax.{OrderSyntax}
-use Rattle.policy_tree.specs.declared.syntax.KeySyntax.{KeySyntax}
-use Rattle.policy_tree.specs.declared.syntax.SetSyntax.{SetSyntax}
-use Rattle.policy_tree.specs.declared.syntax.ExprSyntax.{ExprSyntax}
-use Rattle.policy_tree.specs.declared.syntax.TimesSyntax.{TimesSyntax}
-use Rattle.policy_tree.specs.declared.syntax.AddedSyntax.{AddedSyntax}
-use Rattle.policy_tree.specs.declared.syntax.OperandSyntax.{OperandSyntax}
-use Rattle.policy_tree.specs.SyntaxTrees.{ConditionTree, ConditionTrees, CaseSyntaxTree, HandlerSyntaxTree}
+use Rattle.policy_syntax.specs.declared.syntax.Owner.{Owner}
+use Rattle.policy_syntax.specs.declared.syntax.Owner.TheVariants as owner
+use Rattle.policy_syntax.specs.declared.syntax.IntSyntax.{IntSyntax}
+use Rattle.policy_syntax.specs.declared.syntax.LoadSyntax.{LoadSyntax}
+use Rattle.policy_syntax.specs.declared.syntax.AttrSyntax.{AttrSyntax}
+use Rattle.policy_syntax.specs.declared.syntax.PlaceSyntax.{PlaceSyntax}
+use Rattle.policy_syntax.specs.declared.syntax.ElectSyntax.{ElectSyntax}
+use Rattle.policy_syntax.specs.declared.syntax.OrderSyntax.{OrderSyntax}
+use Rattle.policy_syntax.specs.declared.syntax.KeySyntax.{KeySyntax}
+use Rattle.policy_syntax.specs.declared.syntax.SetSyntax.{SetSyntax}
+use Rattle.policy_syntax.specs.declared.syntax.ExprSyntax.{ExprSyntax}
+use Rattle.policy_syntax.specs.declared.syntax.TimesSyntax.{TimesSyntax}
+use Rattle.policy_syntax.specs.declared.syntax.AddedSyntax.{AddedSyntax}
+use Rattle.policy_syntax.specs.declared.syntax.OperandSyntax.{OperandSyntax}
+use Rattle.policy_syntax.specs.SyntaxTrees.{ConditionTree, ConditionTrees, CaseSyntaxTree, HandlerSyntaxTree}
 use Rattle.policy_grammar.specs.declared.terminal.Lexeme.{Lexeme}
 use Rattle.policy_grammar.specs.declared.terminal.Terminal.TheVariants.{Load, Count, Weight, Core, In, Start, Place, Here, Min, Max, Elect, On, Enqueue, Tick, Yield, Block, When, Queue, Keep, And, Or, Not, Itself, Victim, Task, Name, Number, Dot, Range, Comma, Colon, Open, Close, Begin, Finish, Plus, Minus, Star, Gets, Equal, Unequal, Less, AtMost, More, AtLeast}
 use Rattle.policy_grammar.specs.declared.terminal.Terminal.TheVariants as terminal_is

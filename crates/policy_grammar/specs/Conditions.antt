@@ -1,9 +1,9 @@
 -- The grammar of conditions, in the same form.
 use Rattle.std.specs.Prelude.{ℕ, ◌+◌, ◌≡◌, List}
 use Rattle.policy_tree.specs.declared.trees.Cmp.{Cmp}
-use Rattle.policy_tree.specs.declared.syntax.ExprSyntax.{ExprSyntax}
-use Rattle.policy_tree.specs.SyntaxTrees.{ConditionTree, always, negated, grouped, all, any, test, ConditionTrees}
-use Rattle.policy_tree.specs.SyntaxTrees.{no_more, more}
+use Rattle.policy_syntax.specs.declared.syntax.ExprSyntax.{ExprSyntax}
+use Rattle.policy_syntax.specs.SyntaxTrees.{ConditionTree, always, negated, grouped, all, any, test, ConditionTrees}
+use Rattle.policy_syntax.specs.SyntaxTrees.{no_more, more}
 use Rattle.policy_grammar.specs.declared.terminal.Terminal.TheVariants.{And, Or, Not, Always, Open, Close}
 use Rattle.policy_grammar.specs.declared.terminal.Lexeme.{Lexeme}
 use Rattle.policy_grammar.specs.Terminals.{code, kind_at}

@@ -1,6 +1,6 @@
 -- What the parser answers, in words of the grammar and of the limits.
 use Rattle.std.specs.Prelude.{ℕ, ◌+◌, ◌≡◌, ◌<◌, ◌≤◌, List, ◌++◌, take, length, Option, Some, None}
-use Rattle.policy_tree.specs.SyntaxTrees.{SyntaxTree}
+use Rattle.policy_syntax.specs.SyntaxTrees.{SyntaxTree}
 use Rattle.policy_grammar.specs.declared.terminal.Lexeme.{Lexeme}
 use Rattle.policy_grammar.specs.declared.limits.Limits.{Limits}
 use Rattle.policy_grammar.specs.declared.fault.ParseFault.{ParseFault}

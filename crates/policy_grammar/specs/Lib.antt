@@ -9,3 +9,4 @@ pub mod Lexemes
 pub mod OneTree
 pub mod Machine
 pub mod Correct
+pub mod Sizes

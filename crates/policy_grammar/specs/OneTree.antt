@@ -1,6 +1,6 @@
 -- The grammar is unambiguous.
 use Rattle.std.specs.Prelude.{ℕ, ◌≡◌, List}
-use Rattle.policy_tree.specs.SyntaxTrees.{SyntaxTree}
+use Rattle.policy_syntax.specs.SyntaxTrees.{SyntaxTree}
 use Rattle.policy_grammar.specs.declared.terminal.Lexeme.{Lexeme}
 use Rattle.policy_grammar.specs.Policies.{IsPolicy}
 

@@ -2,18 +2,18 @@
 use Rattle.std.specs.Prelude.{ℕ, ◌+◌, ◌≡◌, Bool, true, List, [], ◌∷◌, length, Option, Some, None}
 use Rattle.policy_tree.specs.declared.typed.Event.{Event}
 use Rattle.policy_tree.specs.declared.typed.Put.{Put}
-use Rattle.policy_tree.specs.declared.syntax.IntSyntax.{IntSyntax}
-use Rattle.policy_tree.specs.declared.syntax.RangeSyntax.{RangeSyntax}
-use Rattle.policy_tree.specs.declared.syntax.LoadSyntax.{LoadSyntax}
-use Rattle.policy_tree.specs.declared.syntax.LoadSyntax.TheVariants as load
-use Rattle.policy_tree.specs.declared.syntax.AttrSyntax.{AttrSyntax}
-use Rattle.policy_tree.specs.declared.syntax.PlaceSyntax.{PlaceSyntax}
-use Rattle.policy_tree.specs.declared.syntax.PlaceSyntax.TheVariants as place
-use Rattle.policy_tree.specs.declared.syntax.ElectSyntax.{ElectSyntax}
-use Rattle.policy_tree.specs.declared.syntax.OrderSyntax.{OrderSyntax}
-use Rattle.policy_tree.specs.declared.syntax.SetSyntax.{SetSyntax}
-use Rattle.policy_tree.specs.declared.syntax.ExprSyntax.{ExprSyntax}
-use Rattle.policy_tree.specs.SyntaxTrees.{ConditionTree, CaseSyntaxTree, HandlerSyntaxTree, SyntaxTree}
+use Rattle.policy_syntax.specs.declared.syntax.IntSyntax.{IntSyntax}
+use Rattle.policy_syntax.specs.declared.syntax.RangeSyntax.{RangeSyntax}
+use Rattle.policy_syntax.specs.declared.syntax.LoadSyntax.{LoadSyntax}
+use Rattle.policy_syntax.specs.declared.syntax.LoadSyntax.TheVariants as load
+use Rattle.policy_syntax.specs.declared.syntax.AttrSyntax.{AttrSyntax}
+use Rattle.policy_syntax.specs.declared.syntax.PlaceSyntax.{PlaceSyntax}
+use Rattle.policy_syntax.specs.declared.syntax.PlaceSyntax.TheVariants as place
+use Rattle.policy_syntax.specs.declared.syntax.ElectSyntax.{ElectSyntax}
+use Rattle.policy_syntax.specs.declared.syntax.OrderSyntax.{OrderSyntax}
+use Rattle.policy_syntax.specs.declared.syntax.SetSyntax.{SetSyntax}
+use Rattle.policy_syntax.specs.declared.syntax.ExprSyntax.{ExprSyntax}
+use Rattle.policy_syntax.specs.SyntaxTrees.{ConditionTree, CaseSyntaxTree, HandlerSyntaxTree, SyntaxTree}
 use Rattle.policy_grammar.specs.declared.terminal.Terminal.TheVariants.{Policy, Load, Count, Weight, In, Start, Place}
 use Rattle.policy_grammar.specs.declared.terminal.Terminal.TheVariants.{Here, Min, Elect, Choose, Steal, On, When}
 use Rattle.policy_grammar.specs.declared.terminal.Terminal.TheVariants.{Filter, Task, Name, Dot, Comma, Colon, Begin}

@@ -6,8 +6,8 @@ use Rattle.policy_tree.specs.declared.typed.Event.{Event}
 use Rattle.policy_tree.specs.declared.typed.Event.TheVariants as event
 use Rattle.policy_tree.specs.declared.typed.Put.{Put}
 use Rattle.policy_tree.specs.declared.typed.Put.TheVariants as put
-use Rattle.policy_tree.specs.declared.syntax.Owner.{Owner}
-use Rattle.policy_tree.specs.declared.syntax.Owner.TheVariants as owner
+use Rattle.policy_syntax.specs.declared.syntax.Owner.{Owner}
+use Rattle.policy_syntax.specs.declared.syntax.Owner.TheVariants as owner
 use Rattle.policy_grammar.specs.declared.terminal.Terminal.TheVariants.{Core, Thread, Min, Max, Enqueue, Tick, Yield}
 use Rattle.policy_grammar.specs.declared.terminal.Terminal.TheVariants.{Block, Queue, Keep, Itself, Victim, Task, Plus}
 use Rattle.policy_grammar.specs.declared.terminal.Terminal.TheVariants.{Minus, Equal, Unequal, Less, AtMost, More}

@@ -1,7 +1,7 @@
 -- What is read is what the grammar and the limits say.
 use Rattle.std.proofs.Common.{◌≡◌, ◌∙◌, ℕ, List, sym, subst, None, Result, Ok, Err, IfOk, IfErr}
-use Rattle.policy_tree.specs.declared.syntax.Syntax.{Syntax}
-use Rattle.policy_tree.specs.SyntaxTrees.{SyntaxTree, syntax_tree}
+use Rattle.policy_syntax.specs.declared.syntax.Syntax.{Syntax}
+use Rattle.policy_syntax.specs.SyntaxTrees.{SyntaxTree, syntax_tree}
 use Rattle.policy_grammar.specs.declared.terminal.Lexeme.{Lexeme}
 use Rattle.policy_grammar.specs.declared.limits.Limits.{Limits}
 use Rattle.policy_grammar.specs.declared.fault.ParseFault.{ParseFault}

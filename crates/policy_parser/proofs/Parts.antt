@@ -1,29 +1,29 @@
 -- Productions of several tokens, from the places that the parser has.
 use Rattle.std.proofs.Common.{◌≡◌, ℕ, suc, ◌+◌, List, [], ◌∷◌, ◌++◌, map, refl, sym, ap, subst, arith, Bool, true, ◌∙◌}
-use Rattle.policy_tree.specs.declared.syntax.Owner.{Owner}
-use Rattle.policy_tree.specs.declared.syntax.OperandSyntax.TheVariants as operand_is
-use Rattle.policy_tree.specs.declared.syntax.FactorSyntax.{FactorSyntax}
-use Rattle.policy_tree.specs.declared.syntax.TimesSyntax.{TimesSyntax}
-use Rattle.policy_tree.specs.declared.syntax.TermSyntax.{TermSyntax}
-use Rattle.policy_tree.specs.declared.syntax.AddedSyntax.{AddedSyntax}
-use Rattle.policy_tree.specs.declared.syntax.KeySyntax.{KeySyntax}
+use Rattle.policy_syntax.specs.declared.syntax.Owner.{Owner}
+use Rattle.policy_syntax.specs.declared.syntax.OperandSyntax.TheVariants as operand_is
+use Rattle.policy_syntax.specs.declared.syntax.FactorSyntax.{FactorSyntax}
+use Rattle.policy_syntax.specs.declared.syntax.TimesSyntax.{TimesSyntax}
+use Rattle.policy_syntax.specs.declared.syntax.TermSyntax.{TermSyntax}
+use Rattle.policy_syntax.specs.declared.syntax.AddedSyntax.{AddedSyntax}
+use Rattle.policy_syntax.specs.declared.syntax.KeySyntax.{KeySyntax}
 use Rattle.policy_grammar.specs.declared.terminal.Lexeme.{Lexeme}
 use Rattle.policy_grammar.specs.declared.terminal.Terminal.TheVariants.{Dot, Star, Minus, Comma, Number, Load, Count, Weight, Name, In, Start, Task, Gets, When, On, Begin, Finish}
 use Rattle.policy_grammar.specs.Terminals.{code, kind_at, value_at, word_at, is_word}
 use Rattle.policy_grammar.specs.Words.{owner_word, sign_word, attr_word, put_word, event_word}
-use Rattle.policy_tree.specs.declared.syntax.IntSyntax.{IntSyntax}
-use Rattle.policy_tree.specs.declared.syntax.ExprSyntax.{ExprSyntax}
-use Rattle.policy_tree.specs.declared.syntax.RangeSyntax.{RangeSyntax}
-use Rattle.policy_tree.specs.declared.syntax.AttrSyntax.{AttrSyntax}
-use Rattle.policy_tree.specs.declared.syntax.SetSyntax.{SetSyntax}
-use Rattle.policy_tree.specs.declared.syntax.CaseSyntax.{CaseSyntax}
-use Rattle.policy_tree.specs.declared.syntax.HandlerSyntax.{HandlerSyntax}
+use Rattle.policy_syntax.specs.declared.syntax.IntSyntax.{IntSyntax}
+use Rattle.policy_syntax.specs.declared.syntax.ExprSyntax.{ExprSyntax}
+use Rattle.policy_syntax.specs.declared.syntax.RangeSyntax.{RangeSyntax}
+use Rattle.policy_syntax.specs.declared.syntax.AttrSyntax.{AttrSyntax}
+use Rattle.policy_syntax.specs.declared.syntax.SetSyntax.{SetSyntax}
+use Rattle.policy_syntax.specs.declared.syntax.CaseSyntax.{CaseSyntax}
+use Rattle.policy_syntax.specs.declared.syntax.HandlerSyntax.{HandlerSyntax}
 use Rattle.policy_tree.specs.declared.typed.Event.{Event}
 use Rattle.policy_tree.specs.declared.typed.Put.{Put}
-use Rattle.policy_tree.specs.SyntaxTrees.{ConditionTree, CaseSyntaxTree, HandlerSyntaxTree, case_syntax_tree, handler_syntax_tree}
+use Rattle.policy_syntax.specs.SyntaxTrees.{ConditionTree, CaseSyntaxTree, HandlerSyntaxTree, case_syntax_tree, handler_syntax_tree}
 use Rattle.policy_parser.specs.Cases.{Cased}
 use Rattle.policy_parser.specs.Sections.{IsGuard}
-use Rattle.policy_tree.specs.declared.syntax.LoadSyntax.TheVariants as load_is
+use Rattle.policy_syntax.specs.declared.syntax.LoadSyntax.TheVariants as load_is
 use Rattle.policy_grammar.specs.Policies.{IsLoad, load_count, load_weight, IsAttr, attr_of, IsAttrs, attrs_none, attrs_more, IsSets, sets_none, sets_more, IsCase, case_of, IsCases, cases_none, cases_more, IsHandler, handler_of, IsHandlers, handlers_none, handlers_more}
 use Rattle.policy_grammar.specs.Expressions.{IsInt, int_signed, IsRange, IsOperand, operand_reference, IsFactor, factor_signed, IsTimes, times_none, times_more, IsTerm, IsExpr, IsAdded, added_none, added_more, IsKey, IsKeys, keys_none, keys_more}
 

@@ -1,7 +1,7 @@
 -- The cases of a handler, as the parser has them.
 use Rattle.std.specs.Prelude.{ℕ, ◌≡◌, List, ◌∷◌, map}
-use Rattle.policy_tree.specs.declared.syntax.CaseSyntax.{CaseSyntax}
-use Rattle.policy_tree.specs.SyntaxTrees.{CaseSyntaxTree, case_syntax_tree}
+use Rattle.policy_syntax.specs.declared.syntax.CaseSyntax.{CaseSyntax}
+use Rattle.policy_syntax.specs.SyntaxTrees.{CaseSyntaxTree, case_syntax_tree}
 use Rattle.policy_grammar.specs.declared.terminal.Lexeme.{Lexeme}
 use Rattle.policy_grammar.specs.Policies.{IsCase, IsCases}
 

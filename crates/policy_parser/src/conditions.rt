@@ -1,7 +1,7 @@
 //! Reads conditions.
 
 ghost use Rattle.std.specs.Prelude.{◌≡◌, ◌<◌, ◌≤◌, ◌+◌, ◌∷◌, List, length, IfOk, IfSome, IfNone, false};
-ghost use Rattle.policy_tree.specs.SyntaxTrees.{condition_tree};
+ghost use Rattle.policy_syntax.specs.SyntaxTrees.{condition_tree};
 ghost use Rattle.policy_grammar.specs.Terminals.{code, kind_at};
 ghost use Rattle.policy_grammar.specs.declared.terminal.Terminal.TheVariants.{Not, Open};
 ghost use Rattle.policy_grammar.specs.Words.{compare_word};
@@ -11,7 +11,8 @@ ghost use Rattle.policy_parser.specs.Answers.{Answers};
 
 use crate::source::{Source, both};
 use policy_grammar::{ParseFault, Terminal};
-use policy_tree::{Cmp, ConditionSyntax};
+use policy_syntax::ConditionSyntax;
+use policy_tree::Cmp;
 
 impl<'a> Source<'a> {
     /// A condition where so many are open, behind so many comparisons, and how many it has had then.

@@ -11,7 +11,7 @@ ghost use Rattle.policy_parser.specs.Answers.{Answers, IsOver};
 use crate::source::{Source, both};
 use lists::Items;
 use policy_grammar::{ParseFault, Terminal};
-use policy_tree::{
+use policy_syntax::{
     AddedSyntax, ExprSyntax, FactorSyntax, OperandSyntax, Owner, TermSyntax, TimesSyntax,
 };
 

@@ -7,7 +7,7 @@ ghost use Rattle.policy_grammar.specs.Words.{put_word, event_word};
 ghost use Rattle.policy_grammar.specs.Policies.{IsCase, IsHandler, IsHandlers, IsSets};
 ghost use Rattle.policy_grammar.specs.Machine.{Symbol, the, actions, case, cases, handlers, is_put, is_event, field};
 ghost use Rattle.policy_grammar.specs.Machine.{operand, unit, ands, ors, go};
-ghost use Rattle.policy_tree.specs.SyntaxTrees.{case_syntax_tree, condition_tree, handler_syntax_tree};
+ghost use Rattle.policy_syntax.specs.SyntaxTrees.{case_syntax_tree, condition_tree, handler_syntax_tree};
 ghost use Rattle.policy_parser.specs.Answers.{Answers};
 ghost use Rattle.policy_parser.specs.Cases.{Cased};
 ghost use Rattle.policy_parser.specs.Sections.{IsGuard};
@@ -15,7 +15,8 @@ ghost use Rattle.policy_parser.specs.Sections.{IsGuard};
 use crate::source::{Source, both};
 use lists::Items;
 use policy_grammar::{ParseFault, Terminal};
-use policy_tree::{CaseSyntax, ConditionSyntax, Event, HandlerSyntax, Put, SetSyntax};
+use policy_syntax::{CaseSyntax, ConditionSyntax, HandlerSyntax, SetSyntax};
+use policy_tree::{Event, Put};
 
 impl<'a> Source<'a> {
     /// An assignment, whose `t` stands there, and the comma behind it.

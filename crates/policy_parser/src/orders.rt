@@ -11,7 +11,7 @@ ghost use Rattle.policy_parser.specs.Answers.{Answers};
 use crate::source::Source;
 use lists::Items;
 use policy_grammar::{ParseFault, Terminal};
-use policy_tree::{KeySyntax, OrderSyntax};
+use policy_syntax::{KeySyntax, OrderSyntax};
 
 impl<'a> Source<'a> {
     /// An order.

@@ -15,7 +15,8 @@ ghost use Rattle.policy_parser.specs.Answers.{Answers};
 use crate::source::Source;
 use lists::Items;
 use policy_grammar::{ParseFault, Terminal};
-use policy_tree::{AttrSyntax, ElectSyntax, IntSyntax, LoadSyntax, Name, PlaceSyntax, RangeSyntax};
+use policy_syntax::{AttrSyntax, ElectSyntax, IntSyntax, LoadSyntax, PlaceSyntax, RangeSyntax};
+use policy_tree::Name;
 
 impl<'a> Source<'a> {
     /// A number that may have a sign.

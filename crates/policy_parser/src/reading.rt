@@ -1,7 +1,7 @@
 //! The syntax of a text.
 
 ghost use Rattle.std.specs.Prelude.{◌≤◌, length, IfOk, IfErr};
-ghost use Rattle.policy_tree.specs.SyntaxTrees.{SyntaxTree, syntax_tree};
+ghost use Rattle.policy_syntax.specs.SyntaxTrees.{SyntaxTree, syntax_tree};
 ghost use Rattle.policy_lexer.specs.Tokens.{SpellsTokens};
 ghost use Rattle.sched_base.specs.declared.limits.TheConstants.{MAX_POLICY_BYTES};
 ghost use Rattle.policy_grammar.specs.Correct.{IsParseFault, IsWithin};
@@ -14,7 +14,7 @@ use crate::source::Source;
 use crate::words::lexemes;
 use policy_grammar::{POLICY_LIMITS, ParseFault};
 use policy_lexer::Token;
-use policy_tree::Syntax;
+use policy_syntax::Syntax;
 use std::alloc::Global;
 
 /// The syntax of a text with these tokens, or its first fault.

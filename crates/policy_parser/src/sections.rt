@@ -8,17 +8,18 @@ ghost use Rattle.policy_grammar.specs.Expressions.{IsOrder};
 ghost use Rattle.policy_grammar.specs.Policies.{IsPolicy};
 ghost use Rattle.policy_grammar.specs.Machine.{Symbol, the, load_rule, attrs, place, elect, handlers, condition, order};
 ghost use Rattle.policy_grammar.specs.Machine.{start, go};
-ghost use Rattle.policy_tree.specs.SyntaxTrees.{condition_tree, handler_syntax_tree, syntax_tree};
+ghost use Rattle.policy_syntax.specs.SyntaxTrees.{condition_tree, handler_syntax_tree, syntax_tree};
 ghost use Rattle.policy_parser.specs.Answers.{Answers};
 ghost use Rattle.policy_parser.specs.Sections.{IsHeader, IsRules, IsFront, IsChoices, IsBack};
 
 use crate::source::{Source, both};
 use lists::Items;
 use policy_grammar::{ParseFault, Terminal};
-use policy_tree::{
-    AttrSyntax, ConditionSyntax, ElectSyntax, HandlerSyntax, LoadSyntax, Name, OrderSyntax,
-    PlaceSyntax, Syntax,
+use policy_syntax::{
+    AttrSyntax, ConditionSyntax, ElectSyntax, HandlerSyntax, LoadSyntax, OrderSyntax, PlaceSyntax,
+    Syntax,
 };
+use policy_tree::Name;
 
 /// What stands before the handlers.
 #[derive(Drop)]

@@ -1,16 +1,16 @@
 -- What the grammar has of some tokens, it has of tokens that are alike: expressions and orders.
 use Rattle.std.proofs.Common.{◌≡◌, ◌∙◌, ◌+◌, ℕ, List, true, false, ap, subst}
-use Rattle.policy_tree.specs.declared.syntax.IntSyntax.{IntSyntax}
-use Rattle.policy_tree.specs.declared.syntax.RangeSyntax.{RangeSyntax}
-use Rattle.policy_tree.specs.declared.syntax.OperandSyntax.{OperandSyntax}
-use Rattle.policy_tree.specs.declared.syntax.OperandSyntax.TheVariants as operand
-use Rattle.policy_tree.specs.declared.syntax.FactorSyntax.{FactorSyntax}
-use Rattle.policy_tree.specs.declared.syntax.TimesSyntax.{TimesSyntax}
-use Rattle.policy_tree.specs.declared.syntax.TermSyntax.{TermSyntax}
-use Rattle.policy_tree.specs.declared.syntax.AddedSyntax.{AddedSyntax}
-use Rattle.policy_tree.specs.declared.syntax.ExprSyntax.{ExprSyntax}
-use Rattle.policy_tree.specs.declared.syntax.KeySyntax.{KeySyntax}
-use Rattle.policy_tree.specs.declared.syntax.OrderSyntax.{OrderSyntax}
+use Rattle.policy_syntax.specs.declared.syntax.IntSyntax.{IntSyntax}
+use Rattle.policy_syntax.specs.declared.syntax.RangeSyntax.{RangeSyntax}
+use Rattle.policy_syntax.specs.declared.syntax.OperandSyntax.{OperandSyntax}
+use Rattle.policy_syntax.specs.declared.syntax.OperandSyntax.TheVariants as operand
+use Rattle.policy_syntax.specs.declared.syntax.FactorSyntax.{FactorSyntax}
+use Rattle.policy_syntax.specs.declared.syntax.TimesSyntax.{TimesSyntax}
+use Rattle.policy_syntax.specs.declared.syntax.TermSyntax.{TermSyntax}
+use Rattle.policy_syntax.specs.declared.syntax.AddedSyntax.{AddedSyntax}
+use Rattle.policy_syntax.specs.declared.syntax.ExprSyntax.{ExprSyntax}
+use Rattle.policy_syntax.specs.declared.syntax.KeySyntax.{KeySyntax}
+use Rattle.policy_syntax.specs.declared.syntax.OrderSyntax.{OrderSyntax}
 use Rattle.policy_grammar.specs.declared.terminal.Lexeme.{Lexeme}
 use Rattle.policy_grammar.specs.Terminals.{kind_at, is_word}
 use Rattle.policy_grammar.specs.Expressions.{IsInt, int_plain, int_signed, IsRange, range_of, IsOperand, operand_number, operand_reference, IsFactor, factor_plain, factor_signed, IsTimes, times_none, times_more, IsTerm, term_of, IsAdded, added_none, added_more, IsExpr, expr_of, IsKey, key_of, IsKeys, keys_none, keys_more, IsOrder, order_first, order_keys}

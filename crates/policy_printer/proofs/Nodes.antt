@@ -1,8 +1,8 @@
 -- How many nodes a condition has, and the parts of a chain with the word before each.
 use Rattle.std.proofs.Common.{◌≡◌, ◌<◌, ◌≤◌, ◌+◌, ℕ, zero, suc, List, [], ◌∷◌, length, get_or, arith, ◌++◌, refl, ap}
 use Rattle.std.specs.List.{flat_map}
-use Rattle.policy_tree.specs.declared.syntax.ConditionSyntax.{ConditionSyntax}
-use Rattle.policy_tree.specs.SyntaxTrees.{ConditionTree, always, negated, grouped, all, any, test, ConditionTrees, no_more, more, condition_tree, condition_trees}
+use Rattle.policy_syntax.specs.declared.syntax.ConditionSyntax.{ConditionSyntax}
+use Rattle.policy_syntax.specs.SyntaxTrees.{ConditionTree, always, negated, grouped, all, any, test, ConditionTrees, no_more, more, condition_tree, condition_trees}
 use Rattle.policy_printer.specs.ConditionTexts.{condition_texts, further_texts}
 
 abbrev pub part_texts : List ℕ → ConditionSyntax → List (List ℕ)

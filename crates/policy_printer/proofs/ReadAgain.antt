@@ -1,7 +1,7 @@
 -- The printed text of a syntax has the tokens that the syntax was of, and so the grammar has it again.
 use Rattle.std.proofs.Common.{◌≡◌, ◌∙◌, ◌≤◌, ℕ, List, [], ◌∷◌, ◌++◌, length, map, None, ap, sym, arith, append-nil}
 use Rattle.std.proofs.lemmas.List.{drop_all, length-map}
-use Rattle.policy_tree.specs.SyntaxTrees.{SyntaxTree}
+use Rattle.policy_syntax.specs.SyntaxTrees.{SyntaxTree}
 use Rattle.policy_lexer.specs.declared.token.Token.{Token}
 use Rattle.policy_lexer.specs.Tokens.{SpellsTokens}
 use Rattle.policy_grammar.specs.declared.limits.TheConstants.{POLICY_LIMITS}

@@ -7,12 +7,12 @@ use Rattle.policy_tree.specs.declared.typed.Event.{Event}
 use Rattle.policy_tree.specs.declared.typed.Event.TheVariants as event
 use Rattle.policy_tree.specs.declared.typed.Put.{Put}
 use Rattle.policy_tree.specs.declared.typed.Put.TheVariants as put
-use Rattle.policy_tree.specs.declared.syntax.LoadSyntax.{LoadSyntax}
-use Rattle.policy_tree.specs.declared.syntax.AttrSyntax.{AttrSyntax}
-use Rattle.policy_tree.specs.declared.syntax.PlaceSyntax.{PlaceSyntax}
-use Rattle.policy_tree.specs.declared.syntax.ElectSyntax.{ElectSyntax}
-use Rattle.policy_tree.specs.declared.syntax.SetSyntax.{SetSyntax}
-use Rattle.policy_tree.specs.SyntaxTrees.{ConditionTree, ConditionTrees, no_more, more, CaseSyntaxTree, HandlerSyntaxTree, SyntaxTree}
+use Rattle.policy_syntax.specs.declared.syntax.LoadSyntax.{LoadSyntax}
+use Rattle.policy_syntax.specs.declared.syntax.AttrSyntax.{AttrSyntax}
+use Rattle.policy_syntax.specs.declared.syntax.PlaceSyntax.{PlaceSyntax}
+use Rattle.policy_syntax.specs.declared.syntax.ElectSyntax.{ElectSyntax}
+use Rattle.policy_syntax.specs.declared.syntax.SetSyntax.{SetSyntax}
+use Rattle.policy_syntax.specs.SyntaxTrees.{ConditionTree, ConditionTrees, no_more, more, CaseSyntaxTree, HandlerSyntaxTree, SyntaxTree}
 use Rattle.policy_lexer.specs.declared.token.Symbol.TheVariants as sign
 use Rattle.policy_lexer.specs.declared.token.Token.{Token}
 use Rattle.policy_grammar.specs.Lexemes.{reserved_words, lexemes_of}

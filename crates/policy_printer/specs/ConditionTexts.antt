@@ -1,7 +1,7 @@
 -- The tokens of conditions, each as it is spelled.
 use Rattle.std.specs.Prelude.{ℕ, List, [], ◌∷◌, ◌++◌, codes}
-use Rattle.policy_tree.specs.SyntaxTrees.{ConditionTree, always, negated, grouped, all, any, test, ConditionTrees}
-use Rattle.policy_tree.specs.SyntaxTrees.{no_more, more}
+use Rattle.policy_syntax.specs.SyntaxTrees.{ConditionTree, always, negated, grouped, all, any, test, ConditionTrees}
+use Rattle.policy_syntax.specs.SyntaxTrees.{no_more, more}
 use Rattle.policy_printer.specs.WordTexts.{compare_text}
 use Rattle.policy_printer.specs.ExpressionTexts.{expr_texts}
 

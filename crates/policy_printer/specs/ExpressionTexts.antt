@@ -1,17 +1,17 @@
 -- The tokens of expressions and orders, each as it is spelled.
 use Rattle.std.specs.Prelude.{ℕ, List, [], ◌∷◌, ◌++◌, Bool, true, false, codes, decimal, replicate}
 use Rattle.std.specs.List.{flat_map}
-use Rattle.policy_tree.specs.declared.syntax.IntSyntax.{IntSyntax}
-use Rattle.policy_tree.specs.declared.syntax.RangeSyntax.{RangeSyntax}
-use Rattle.policy_tree.specs.declared.syntax.OperandSyntax.{OperandSyntax}
-use Rattle.policy_tree.specs.declared.syntax.OperandSyntax.TheVariants as operand
-use Rattle.policy_tree.specs.declared.syntax.FactorSyntax.{FactorSyntax}
-use Rattle.policy_tree.specs.declared.syntax.TimesSyntax.{TimesSyntax}
-use Rattle.policy_tree.specs.declared.syntax.TermSyntax.{TermSyntax}
-use Rattle.policy_tree.specs.declared.syntax.AddedSyntax.{AddedSyntax}
-use Rattle.policy_tree.specs.declared.syntax.ExprSyntax.{ExprSyntax}
-use Rattle.policy_tree.specs.declared.syntax.KeySyntax.{KeySyntax}
-use Rattle.policy_tree.specs.declared.syntax.OrderSyntax.{OrderSyntax}
+use Rattle.policy_syntax.specs.declared.syntax.IntSyntax.{IntSyntax}
+use Rattle.policy_syntax.specs.declared.syntax.RangeSyntax.{RangeSyntax}
+use Rattle.policy_syntax.specs.declared.syntax.OperandSyntax.{OperandSyntax}
+use Rattle.policy_syntax.specs.declared.syntax.OperandSyntax.TheVariants as operand
+use Rattle.policy_syntax.specs.declared.syntax.FactorSyntax.{FactorSyntax}
+use Rattle.policy_syntax.specs.declared.syntax.TimesSyntax.{TimesSyntax}
+use Rattle.policy_syntax.specs.declared.syntax.TermSyntax.{TermSyntax}
+use Rattle.policy_syntax.specs.declared.syntax.AddedSyntax.{AddedSyntax}
+use Rattle.policy_syntax.specs.declared.syntax.ExprSyntax.{ExprSyntax}
+use Rattle.policy_syntax.specs.declared.syntax.KeySyntax.{KeySyntax}
+use Rattle.policy_syntax.specs.declared.syntax.OrderSyntax.{OrderSyntax}
 use Rattle.policy_printer.specs.WordTexts.{key_text, sign_text, owner_text}
 
 -- the sign of a number, where it has one

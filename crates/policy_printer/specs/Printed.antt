@@ -1,7 +1,7 @@
 -- The printed text of a syntax, and what it is a text of.
 use Rattle.std.specs.Prelude.{ℕ, List, [], ◌∷◌, ◌++◌}
 use Rattle.std.specs.List.{join_with_byte}
-use Rattle.policy_tree.specs.SyntaxTrees.{SyntaxTree}
+use Rattle.policy_syntax.specs.SyntaxTrees.{SyntaxTree}
 use Rattle.policy_lexer.specs.declared.token.Token.{Token}
 use Rattle.policy_lexer.specs.Tokens.{SpellsTokens}
 use Rattle.policy_grammar.specs.declared.limits.TheConstants.{POLICY_LIMITS}

@@ -1,13 +1,13 @@
 //! Prints conditions.
 
 ghost use Rattle.std.specs.Prelude.{OnOk};
-ghost use Rattle.policy_tree.specs.SyntaxTrees.{condition_tree, condition_trees};
+ghost use Rattle.policy_syntax.specs.SyntaxTrees.{condition_tree, condition_trees};
 ghost use Rattle.policy_printer.specs.Adds.{Prints};
 ghost use Rattle.policy_printer.specs.ConditionTexts.{condition_texts, parts_texts};
 
 use crate::printer::Printer;
 use crate::words::compare_text;
-use policy_tree::ConditionSyntax;
+use policy_syntax::ConditionSyntax;
 use std::alloc::AllocError;
 
 impl Printer {

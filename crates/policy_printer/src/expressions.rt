@@ -8,7 +8,7 @@ ghost use Rattle.policy_printer.specs.ExpressionTexts.{key_texts, further_key_te
 
 use crate::printer::Printer;
 use crate::words::{key_text, owner_text, sign_text};
-use policy_tree::{
+use policy_syntax::{
     AddedSyntax, ExprSyntax, FactorSyntax, IntSyntax, KeySyntax, OperandSyntax, OrderSyntax,
     RangeSyntax, TermSyntax, TimesSyntax,
 };

@@ -2,14 +2,14 @@
 
 ghost use Rattle.std.specs.Prelude.{OnOk, map};
 ghost use Rattle.std.specs.List.{flat_map};
-ghost use Rattle.policy_tree.specs.SyntaxTrees.{case_syntax_tree, handler_syntax_tree, syntax_tree};
+ghost use Rattle.policy_syntax.specs.SyntaxTrees.{case_syntax_tree, handler_syntax_tree, syntax_tree};
 ghost use Rattle.policy_printer.specs.Adds.{Prints};
 ghost use Rattle.policy_printer.specs.PolicyTexts.{load_texts, attr_texts, place_texts, elect_texts, set_texts};
 ghost use Rattle.policy_printer.specs.PolicyTexts.{case_texts, handler_texts, head_texts, phase_texts};
 
 use crate::printer::Printer;
 use crate::words::{event_text, kind_text, put_text};
-use policy_tree::{
+use policy_syntax::{
     AttrSyntax, CaseSyntax, ElectSyntax, HandlerSyntax, LoadSyntax, PlaceSyntax, SetSyntax, Syntax,
 };
 use std::alloc::AllocError;

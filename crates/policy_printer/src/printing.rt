@@ -1,12 +1,12 @@
 //! The text of a syntax.
 
 ghost use Rattle.std.specs.Prelude.{◌≡◌, ℕ, List, IfOk};
-ghost use Rattle.policy_tree.specs.SyntaxTrees.{syntax_tree};
+ghost use Rattle.policy_syntax.specs.SyntaxTrees.{syntax_tree};
 ghost use Rattle.policy_printer.specs.Printed.{IsTextOf, printed};
 
 use crate::fault::PrintFault;
 use crate::printer::Printer;
-use policy_tree::Syntax;
+use policy_syntax::Syntax;
 use std::alloc::Global;
 
 /// The tokens of the syntax, numbers without leading zeros, with one space between each two and a line feed at the end.

@@ -4,7 +4,8 @@ ghost use Rattle.std.specs.Prelude.{◌≡◌};
 ghost use Rattle.policy_printer.specs.WordTexts.{compare_text, event_text, key_text, kind_text, owner_text, put_text};
 ghost use Rattle.policy_printer.specs.WordTexts.{sign_text};
 
-use policy_tree::{Cmp, Event, Owner, Put};
+use policy_syntax::Owner;
+use policy_tree::{Cmp, Event, Put};
 
 /// Whose attribute is declared.
 pub(crate) fn kind_text(of_cores: bool) -> &'static str

@@ -12,7 +12,7 @@ use Rattle.policy_grammar.specs.Lexemes.{lexeme_of, lexemes_of}
 use Rattle.policy_parser.proofs.Lexed.{map-length, tokens-few}
 use Rattle.policy_tree.specs.declared.typed.Policy.{Policy}
 use Rattle.policy_tree.specs.Meaning.{Meaning, meaning_of}
-use Rattle.policy_tree.specs.SyntaxTrees.{SyntaxTree}
+use Rattle.policy_syntax.specs.SyntaxTrees.{SyntaxTree}
 use Rattle.policy_types.specs.declared.fault.TypeFault.{TypeFault}
 use Rattle.policy_types.specs.Correct.{IsLeast, IsOfGrammar}
 use Rattle.policy_types.specs.Faults.{IsFirst}

@@ -12,7 +12,7 @@ use Rattle.policy_grammar.specs.declared.fault.ParseFault.TheVariants as parse
 use Rattle.policy_grammar.specs.declared.limits.TheConstants.{POLICY_LIMITS}
 use Rattle.policy_grammar.specs.Lexemes.{lexemes_of}
 use Rattle.policy_grammar.proofs.Total.{each_has_answer}
-use Rattle.policy_tree.specs.SyntaxTrees.{SyntaxTree}
+use Rattle.policy_syntax.specs.SyntaxTrees.{SyntaxTree}
 use Rattle.policy_types.specs.declared.fault.TypeFault.{TypeFault}
 use Rattle.policy_types.specs.declared.fault.TypeFault.TheVariants as type
 use Rattle.policy_types.specs.Policies.{policy_meaning}

@@ -13,7 +13,7 @@ use Rattle.policy_grammar.specs.Correct.{IsParseFault, IsWithin}
 use Rattle.policy_grammar.specs.Lexemes.{lexemes_of}
 use Rattle.policy_grammar.proofs.OnePolicies.{policy-one}
 use Rattle.policy_tree.specs.Meaning.{Meaning}
-use Rattle.policy_tree.specs.SyntaxTrees.{SyntaxTree}
+use Rattle.policy_syntax.specs.SyntaxTrees.{SyntaxTree}
 use Rattle.policy_types.specs.declared.fault.TypeFault.{TypeFault}
 use Rattle.policy_types.specs.declared.fault.TypeFault.TheVariants as type
 use Rattle.policy_types.specs.Faults.{IsFirst, first_of}

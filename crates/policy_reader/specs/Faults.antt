@@ -8,7 +8,7 @@ use Rattle.policy_grammar.specs.declared.fault.ParseFault.{ParseFault}
 use Rattle.policy_grammar.specs.declared.limits.TheConstants.{POLICY_LIMITS}
 use Rattle.policy_grammar.specs.Correct.{IsParseFault}
 use Rattle.policy_grammar.specs.Lexemes.{lexemes_of}
-use Rattle.policy_tree.specs.SyntaxTrees.{SyntaxTree}
+use Rattle.policy_syntax.specs.SyntaxTrees.{SyntaxTree}
 use Rattle.policy_types.specs.declared.fault.TypeFault.{TypeFault}
 use Rattle.policy_types.specs.Correct.{IsLeast}
 use Rattle.policy_types.specs.Faults.{IsFirst}

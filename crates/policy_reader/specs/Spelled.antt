@@ -6,7 +6,7 @@ use Rattle.policy_grammar.specs.declared.limits.TheConstants.{POLICY_LIMITS}
 use Rattle.policy_grammar.specs.Correct.{IsWithin}
 use Rattle.policy_grammar.specs.Lexemes.{lexemes_of}
 use Rattle.policy_tree.specs.Meaning.{Meaning}
-use Rattle.policy_tree.specs.SyntaxTrees.{SyntaxTree}
+use Rattle.policy_syntax.specs.SyntaxTrees.{SyntaxTree}
 use Rattle.policy_types.specs.Policies.{policy_faults, policy_meaning}
 
 -- the text has these tokens, and they have this syntax, within the limits of the language

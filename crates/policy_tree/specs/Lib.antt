@@ -1,4 +1,4 @@
 pub mod Chains
 pub mod Meaning
 pub mod Trees
-pub mod SyntaxTrees
+pub mod Variables

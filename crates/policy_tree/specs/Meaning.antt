@@ -1,11 +1,13 @@
 -- A policy without the places where its trees lie in memory. Every definition on policies speaks of this record.
-use Rattle.std.specs.Prelude.{ℕ, Bool, List, map}
+use Rattle.std.specs.Prelude.{ℕ, List, map, Option, option_map}
 use Rattle.policy_tree.specs.declared.typed.Attr.{Attr}
+use Rattle.policy_tree.specs.declared.typed.Batch.{Batch}
 use Rattle.policy_tree.specs.declared.typed.Case.{Case}
 use Rattle.policy_tree.specs.declared.typed.Event.{Event}
 use Rattle.policy_tree.specs.declared.typed.Event.TheVariants as event
 use Rattle.policy_tree.specs.declared.typed.HandlerList.{HandlerList}
 use Rattle.policy_tree.specs.declared.typed.Key.{Key}
+use Rattle.policy_tree.specs.declared.typed.Key.TheVariants as key
 use Rattle.policy_tree.specs.declared.typed.Load.{Load}
 use Rattle.policy_tree.specs.declared.typed.PlaceRule.{PlaceRule}
 use Rattle.policy_tree.specs.declared.typed.PlaceRule.TheVariants as rule
@@ -23,16 +25,27 @@ abbrev pub place_tree : PlaceRule → PlaceTree
 place_tree rule.Here = here
 place_tree (rule.Least expr) = least (expr_tree expr)
 
--- a key of an order
-pub record KeyTree : Type 0 where
-  pub greatest : Bool
-  pub expr : ExprTree
+-- a key of an order: the lesser value first, the greater value first, or what the condition holds of first
+pub data KeyTree : Type 0 where
+  least_first : ExprTree → KeyTree
+  greatest_first : ExprTree → KeyTree
+  preferring : CondTree → KeyTree
 
 abbrev pub key_tree : Key → KeyTree
-key_tree key = record { greatest = key.greatest; expr = expr_tree key.expr }
+key_tree (key.Least expr) = least_first (expr_tree expr)
+key_tree (key.Greatest expr) = greatest_first (expr_tree expr)
+key_tree (key.Prefer condition) = preferring (cond_tree condition)
 
 abbrev pub order_tree : List Key → List KeyTree
 order_tree order = map key_tree order
+
+-- when a steal goes on to another thread, and how many it moves at most
+pub record BatchTree : Type 0 where
+  pub condition : CondTree
+  pub limit : ℕ
+
+abbrev pub batch_tree : Batch → BatchTree
+batch_tree b = record { condition = cond_tree b.cond; limit = b.limit }
 
 -- an assignment of a case
 pub record SetTree : Type 0 where
@@ -84,6 +97,7 @@ pub record Meaning : Type 0 where
   pub filter : CondTree
   pub choose : List KeyTree
   pub steal : List KeyTree
+  pub batch : Option BatchTree
 
 abbrev pub meaning_of : Policy → Meaning
 meaning_of p = record {
@@ -97,4 +111,5 @@ meaning_of p = record {
   filter = cond_tree p.filter;
   choose = order_tree p.choose;
   steal = order_tree p.steal;
+  batch = option_map batch_tree p.batch;
 }

@@ -2,7 +2,7 @@
 
 ghost use Rattle.std.specs.Prelude.{◌≡◌, ◌<◌, ◌≤◌, All, IfOk, false};
 ghost use Rattle.policy_tree.specs.Chains.{IsBelow, chained, is_link, linked, nodes_of};
-ghost use Rattle.policy_tree.specs.Meaning.{order_tree};
+ghost use Rattle.policy_tree.specs.Meaning.{key_tree, order_tree};
 ghost use Rattle.policy_tree.specs.Trees.{cond_tree, expr_tree};
 
 use crate::trees::{Cond, Expr};
@@ -121,10 +121,18 @@ pub fn copy_of_order(alloc: Global, order: &Order) -> Result<Order, AllocError>
     let keys = order.as_slice();
     let mut copy = Vec::new(alloc);
     for key in keys {
-        copy.push(Key {
-            greatest: key.greatest,
-            expr: copy_of_expr(alloc, &key.expr)?,
-        })?;
+        copy.push(copy_of_key(alloc, key)?)?;
     }
     Ok(Items::from_vec(copy))
+}
+
+/// A copy of a key.
+fn copy_of_key(alloc: Global, key: &Key) -> Result<Key, AllocError>
+    ensures { IfOk result (λ copy. key_tree copy ≡ key_tree key.now) }
+{
+    match key {
+        Key::Least(expr) => Ok(Key::Least(copy_of_expr(alloc, expr)?)),
+        Key::Greatest(expr) => Ok(Key::Greatest(copy_of_expr(alloc, expr)?)),
+        Key::Prefer(cond) => Ok(Key::Prefer(copy_of_cond(alloc, cond)?)),
+    }
 }

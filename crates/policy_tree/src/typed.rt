@@ -31,6 +31,8 @@ pub struct Policy {
     pub filter: Cond,
     pub choose: Order,
     pub steal: Order,
+    /// Without a batch a steal moves one thread.
+    pub batch: Option<Batch>,
 }
 
 /// What a thread adds to the load of its core.
@@ -62,10 +64,22 @@ pub enum PlaceRule {
 
 /// One key of an order.
 #[derive(Drop)]
-pub struct Key {
-    /// Whether the greater value comes first, and not the lesser.
-    pub greatest: bool,
-    pub expr: Expr,
+pub enum Key {
+    /// The lesser value comes first.
+    Least(Expr),
+    /// The greater value comes first.
+    Greatest(Expr),
+    /// What the condition holds of comes first.
+    Prefer(Cond),
+}
+
+/// When a steal goes on to another thread.
+#[derive(Drop)]
+pub struct Batch {
+    /// What must hold of thief and victim, as the moves so far left them, and of the thread that is next.
+    pub cond: Cond,
+    /// The most threads that one steal moves, from 1 to `MAX_STOLEN`.
+    pub limit: u32,
 }
 
 /// What a thread may meet.

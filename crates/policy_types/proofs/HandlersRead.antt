@@ -3,7 +3,7 @@ use Rattle.std.proofs.Common.{◌≡◌, Bool, true, false, ◌||◌, if◌then�
 use Rattle.policy_tree.specs.declared.typed.Event.{Event}
 use Rattle.policy_tree.specs.declared.typed.Event.TheVariants as event
 use Rattle.policy_tree.specs.Meaning.{CaseTree, HandlerTrees}
-use Rattle.policy_tree.specs.SyntaxTrees.{HandlerSyntaxTree}
+use Rattle.policy_syntax.specs.SyntaxTrees.{HandlerSyntaxTree}
 use Rattle.policy_types.specs.declared.handlers.Given.{Given}
 use Rattle.policy_types.specs.declared.scope.Scope.{Scope}
 use Rattle.policy_types.specs.Given.{cases_or, given_cases, given_or_default}

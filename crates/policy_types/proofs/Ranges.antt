@@ -4,7 +4,7 @@ use Rattle.std.specs.Int.{w32}
 use Rattle.std.proofs.lemmas.Int.{ints, fits_signed_from_abs}
 use Rattle.std.proofs.lemmas.Bool.{and_parts}
 use Rattle.sched_base.specs.declared.limits.TheConstants.{MAX_ATTRIBUTE}
-use Rattle.policy_tree.specs.declared.syntax.AttrSyntax.{AttrSyntax}
+use Rattle.policy_syntax.specs.declared.syntax.AttrSyntax.{AttrSyntax}
 use Rattle.policy_eval.specs.Resolved.{IsAttribute}
 use Rattle.policy_types.specs.Declarations.{attr_faults, attr_meaning, attrs_faults, declared_with, int_meaning, is_attribute_range, of_kind}
 use Rattle.policy_types.specs.declared.fault.TypeFault.{TypeFault}

@@ -2,22 +2,22 @@
 use Rattle.std.proofs.Common.{◌≡◌, ℕ, ◌+◌, ◌≤◌, Bool, true, false, List, [], ◌∷◌, All, map, length, refl, sym, subst, ◌∙◌, arith, Option, Some, None}
 use Rattle.std.proofs.lemmas.List.{length-map}
 use Rattle.std.proofs.lemmas.List.Elements.{All-cons, All-nil}
-use Rattle.policy_tree.specs.declared.syntax.ExprSyntax.{ExprSyntax}
-use Rattle.policy_tree.specs.declared.syntax.KeySyntax.{KeySyntax}
-use Rattle.policy_tree.specs.declared.syntax.OrderSyntax.{OrderSyntax}
-use Rattle.policy_tree.specs.Meaning.{KeyTree, Meaning}
-use Rattle.policy_tree.specs.SyntaxTrees.{ConditionTree, always, negated, grouped, all, any, test, ConditionTrees, no_more, more}
-use Rattle.policy_tree.specs.Trees.{CondTree}
+use Rattle.policy_syntax.specs.declared.syntax.ExprSyntax.{ExprSyntax}
+use Rattle.policy_syntax.specs.declared.syntax.KeySyntax.{KeySyntax}
+use Rattle.policy_syntax.specs.declared.syntax.OrderSyntax.{OrderSyntax}
+use Rattle.policy_tree.specs.Meaning.{Meaning}
+use Rattle.policy_syntax.specs.SyntaxTrees.{ConditionTree, always, negated, grouped, all, any, test, ConditionTrees, no_more, more}
+use Rattle.policy_tree.specs.Trees.{CondTree, ExprTree}
 use Rattle.policy_grammar.specs.declared.limits.TheConstants.{POLICY_LIMITS}
 use Rattle.policy_grammar.specs.Breaks as breaks
 use Rattle.policy_grammar.specs.Breaks.{breaks_condition, breaks_expr, breaks_keys, breaks_order, breaks_parts, comparisons, deep, first_of, many}
 use Rattle.policy_eval.specs.Forms as eval
 use Rattle.policy_eval.specs.Forms.{EachSide}
 use Rattle.policy_eval.specs.Sites as Sites
-use Rattle.policy_eval.specs.Resolved.{IsResolvedCond, IsResolvedExpr, IsResolvedOrder}
+use Rattle.policy_eval.specs.Resolved.{IsResolvedCond, IsResolvedExpr, IsResolvedKey, IsResolvedOrder}
 use Rattle.policy_types.specs.declared.scope.Scope.{Scope}
 use Rattle.policy_types.specs.declared.sites.Site.{Site}
-use Rattle.policy_types.specs.Conditions.{chain_meaning, condition_faults, condition_meaning, key_meaning, keys_faults, linked, order_faults, order_meaning, parts_faults}
+use Rattle.policy_types.specs.Conditions.{chain_meaning, condition_faults, condition_meaning, directed, key_meaning, keys_faults, linked, order_faults, order_meaning, parts_faults}
 use Rattle.policy_types.specs.Expressions.{expr_faults, expr_meaning}
 use Rattle.policy_types.proofs.Allowed.{declared, site_of}
 use Rattle.policy_types.proofs.Counted.{expr_few, keeps_many, keeps_parts}
@@ -33,6 +33,11 @@ linked_count : (both : Bool) (chain : Option CondTree) (c : CondTree) → eval.c
 linked_count both None c = omega arith
 linked_count true (Some left) c = refl
 linked_count false (Some left) c = refl
+
+-- a key is a resolved one where its expression is
+key_resolved : (p : Meaning) (at : Sites.Site) (greatest : Bool) (e : ExprTree) → IsResolvedExpr p at e → IsResolvedKey p at (directed greatest e)
+key_resolved p at true e is = is
+key_resolved p at false e is = is
 
 zero_plus : (n : ℕ) → 0 + n ≡ n
 zero_plus n = omega arith
@@ -130,14 +135,14 @@ module _ (p : Meaning) (cores : length p.core_attrs ≤ 8) (threads : length p.t
       let later = keys_few (count + 1) rest (omega arith) (keeps_parts (breaks_expr POLICY_LIMITS 0 k.value) (breaks_keys POLICY_LIMITS (count + 1) rest) first.1).1 in
       omega arith
 
-  keys_each : (count : ℕ) (keys : List KeySyntax) → keys_faults (declared p) site keys ≡ [] → breaks_keys POLICY_LIMITS count keys ≡ None → All (λ (key : KeyTree). IsResolvedExpr p (site_of site) key.expr) (map (key_meaning (declared p)) keys)
-  keys_each count [] none keeps = All-nil (λ (key : KeyTree). IsResolvedExpr p (site_of site) key.expr)
+  keys_each : (count : ℕ) (keys : List KeySyntax) → keys_faults (declared p) site keys ≡ [] → breaks_keys POLICY_LIMITS count keys ≡ None → All (IsResolvedKey p (site_of site)) (map (key_meaning (declared p)) keys)
+  keys_each count [] none keeps = All-nil (IsResolvedKey p (site_of site))
   keys_each count (k ∷ rest) none keeps =
       let empty = none_parts (expr_faults (declared p) site k.value) (keys_faults (declared p) site rest) none in
       let first = keeps_parts (many 4 k.at count) (first_of (breaks_expr POLICY_LIMITS 0 k.value) (breaks_keys POLICY_LIMITS (count + 1) rest)) keeps in
       let later = keeps_parts (breaks_expr POLICY_LIMITS 0 k.value) (breaks_keys POLICY_LIMITS (count + 1) rest) first.1 in
-      All-cons (λ (key : KeyTree). IsResolvedExpr p (site_of site) key.expr) (key_meaning (declared p) k) (map (key_meaning (declared p)) rest)
-      (resolved_expr 0 k.value empty.0 later.0) (keys_each (count + 1) rest empty.1 later.1)
+      All-cons (IsResolvedKey p (site_of site)) (key_meaning (declared p) k) (map (key_meaning (declared p)) rest)
+      (key_resolved p (site_of site) k.greatest (expr_meaning (declared p) k.value) (resolved_expr 0 k.value empty.0 later.0)) (keys_each (count + 1) rest empty.1 later.1)
 
   pub resolved_order : (order : OrderSyntax) → order_faults (declared p) site order ≡ [] → breaks_order POLICY_LIMITS order ≡ None → IsResolvedOrder p (site_of site) (order_meaning (declared p) order)
   resolved_order order none keeps =
@@ -146,4 +151,4 @@ module _ (p : Meaning) (cores : length p.core_attrs ≤ 8) (threads : length p.t
 
 -- an order without keys
 pub no_keys : (p : Meaning) (at : Sites.Site) → IsResolvedOrder p at []
-no_keys p at = record { few = omega arith; keys = All-nil (λ (key : KeyTree). IsResolvedExpr p at key.expr) }
+no_keys p at = record { few = omega arith; keys = All-nil (IsResolvedKey p at) }

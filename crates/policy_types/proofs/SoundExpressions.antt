@@ -1,12 +1,12 @@
 -- The meaning of an expression that breaks no rule and keeps the limits is a resolved expression.
 use Rattle.std.proofs.Common.{◌≡◌, ℕ, zero, suc, ◌≤◌, pos, List, [], ◌∷◌, ◌++◌, length}
-use Rattle.policy_tree.specs.declared.syntax.OperandSyntax.{OperandSyntax}
-use Rattle.policy_tree.specs.declared.syntax.OperandSyntax.TheVariants.{Number, Reference}
-use Rattle.policy_tree.specs.declared.syntax.FactorSyntax.{FactorSyntax}
-use Rattle.policy_tree.specs.declared.syntax.TimesSyntax.{TimesSyntax}
-use Rattle.policy_tree.specs.declared.syntax.TermSyntax.{TermSyntax}
-use Rattle.policy_tree.specs.declared.syntax.AddedSyntax.{AddedSyntax}
-use Rattle.policy_tree.specs.declared.syntax.ExprSyntax.{ExprSyntax}
+use Rattle.policy_syntax.specs.declared.syntax.OperandSyntax.{OperandSyntax}
+use Rattle.policy_syntax.specs.declared.syntax.OperandSyntax.TheVariants.{Number, Reference}
+use Rattle.policy_syntax.specs.declared.syntax.FactorSyntax.{FactorSyntax}
+use Rattle.policy_syntax.specs.declared.syntax.TimesSyntax.{TimesSyntax}
+use Rattle.policy_syntax.specs.declared.syntax.TermSyntax.{TermSyntax}
+use Rattle.policy_syntax.specs.declared.syntax.AddedSyntax.{AddedSyntax}
+use Rattle.policy_syntax.specs.declared.syntax.ExprSyntax.{ExprSyntax}
 use Rattle.policy_tree.specs.Meaning.{Meaning}
 use Rattle.policy_tree.specs.Trees.{ExprTree, times}
 use Rattle.policy_eval.specs.Sites as eval

@@ -2,14 +2,14 @@
 use Rattle.std.proofs.Common.{◌≡◌, ℕ, ◌+◌, ◌<◌, ◌≤◌, Bool, true, false, not, List, [], ◌∷◌, ◌++◌, All, map, length, refl, sym, subst, arith, Option, Some, None, if◌then◌else◌}
 use Rattle.std.proofs.lemmas.List.{length-map}
 use Rattle.std.proofs.lemmas.List.Elements.{All-cons, All-nil}
-use Rattle.policy_tree.specs.declared.syntax.SetSyntax.{SetSyntax}
+use Rattle.policy_syntax.specs.declared.syntax.SetSyntax.{SetSyntax}
 use Rattle.policy_tree.specs.declared.typed.Attr.{Attr}
 use Rattle.policy_tree.specs.declared.typed.Event.{Event}
 use Rattle.policy_tree.specs.declared.typed.Event.TheVariants as event
 use Rattle.policy_tree.specs.declared.typed.Put.{Put}
 use Rattle.policy_tree.specs.declared.typed.Put.TheVariants as put
 use Rattle.policy_tree.specs.Meaning.{CaseTree, Meaning, cases_on}
-use Rattle.policy_tree.specs.SyntaxTrees.{CaseSyntaxTree, HandlerSyntaxTree}
+use Rattle.policy_syntax.specs.SyntaxTrees.{CaseSyntaxTree, HandlerSyntaxTree}
 use Rattle.policy_grammar.specs.declared.limits.TheConstants.{POLICY_LIMITS}
 use Rattle.policy_grammar.specs.Breaks.{breaks_cases, breaks_condition, breaks_expr, breaks_handlers, breaks_sets, first_of, many}
 use Rattle.policy_eval.specs.Resolved.{IsResolvedCase, IsResolvedHandler, IsResolvedSet}

@@ -1,13 +1,13 @@
 -- A syntax that breaks no rule and keeps the limits is a resolved policy.
 use Rattle.std.proofs.Common.{◌≡◌, ◌≤◌, [], ◌++◌, length, refl, sym, subst, Option, Some, None, Result, Ok, Err, IfOk}
-use Rattle.policy_tree.specs.declared.syntax.ElectSyntax.{ElectSyntax}
-use Rattle.policy_tree.specs.declared.syntax.PlaceSyntax.{PlaceSyntax}
-use Rattle.policy_tree.specs.declared.syntax.PlaceSyntax.TheVariants.{Here, Least}
+use Rattle.policy_syntax.specs.declared.syntax.ElectSyntax.{ElectSyntax}
+use Rattle.policy_syntax.specs.declared.syntax.PlaceSyntax.{PlaceSyntax}
+use Rattle.policy_syntax.specs.declared.syntax.PlaceSyntax.TheVariants.{Here, Least}
 use Rattle.policy_tree.specs.declared.typed.Event.{Event}
 use Rattle.policy_tree.specs.declared.typed.Event.TheVariants as event
 use Rattle.policy_tree.specs.declared.typed.Policy.{Policy}
 use Rattle.policy_tree.specs.Meaning.{Meaning, cases_on, meaning_of}
-use Rattle.policy_tree.specs.SyntaxTrees.{SyntaxTree}
+use Rattle.policy_syntax.specs.SyntaxTrees.{SyntaxTree}
 use Rattle.policy_grammar.specs.declared.limits.TheConstants.{POLICY_LIMITS}
 use Rattle.policy_grammar.specs.Breaks.{breaks_attrs, breaks_condition, breaks_elect, breaks_handlers, breaks_order, breaks_place, first_of}
 use Rattle.policy_eval.specs.Resolved.{IsResolved, IsResolvedOrder, IsResolvedPlace}
@@ -69,6 +69,7 @@ policy_resolved s of none =
       filter = resolved_condition p cores threads Filter s.filter none4.0 kept5.0;
       choose = resolved_order p cores threads Choose s.choose none5.0 kept6.0;
       steal = resolved_order p cores threads Steal s.steal none5.1 kept6.1;
+      batch = tt;
     }
   where
     same : (e : Event) → cases_on (policy_meaning s).handlers e ≡ cases_for (scope_of s) e s.handlers

@@ -1,6 +1,6 @@
 -- A sum as far as it is read.
 use Rattle.std.proofs.Common.{◌≡◌, ℕ, ◌+◌, ◌<◌, List, [], ◌++◌, length, drop, get_or, refl, sym, ap, subst, ◌∙◌}
-use Rattle.policy_tree.specs.declared.syntax.AddedSyntax.{AddedSyntax}
+use Rattle.policy_syntax.specs.declared.syntax.AddedSyntax.{AddedSyntax}
 use Rattle.policy_tree.specs.Trees.{ExprTree}
 use Rattle.policy_types.specs.declared.fault.TypeFault.{TypeFault}
 use Rattle.policy_types.specs.declared.scope.Scope.{Scope}

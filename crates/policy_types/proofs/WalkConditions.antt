@@ -1,6 +1,6 @@
 -- The faults of a condition stand in the order of its tokens.
 use Rattle.std.proofs.Common.{◌≡◌, ℕ, ◌+◌, ◌^◌, ◌≤◌, List, [], ◌∷◌, ◌++◌, refl, sym, ap, subst, arith}
-use Rattle.policy_tree.specs.SyntaxTrees.{ConditionTree, ConditionTrees, no_more, more}
+use Rattle.policy_syntax.specs.SyntaxTrees.{ConditionTree, ConditionTrees, no_more, more}
 use Rattle.policy_grammar.specs.declared.terminal.Lexeme.{Lexeme}
 use Rattle.policy_grammar.specs.Conditions.{IsAnds, ands_none, ands_more, IsCondition, condition_of, IsConjunction, conjunction_of, IsOrs, ors_none, ors_more, IsUnit, unit_always, unit_not, unit_group, unit_test, conjunction, disjunction}
 use Rattle.policy_types.specs.declared.fault.TypeFault.{TypeFault}

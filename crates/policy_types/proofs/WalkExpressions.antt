@@ -1,14 +1,14 @@
 -- The faults of an expression stand in the order of its tokens.
 use Rattle.std.proofs.Common.{◌≡◌, ℕ, suc, ◌+◌, ◌^◌, ◌<◌, ◌≤◌, Bool, true, false, not, ◌&&◌, List, [], ◌∷◌, ◌++◌, refl, sym, subst, arith, append_assoc, Option, Some, None, if◌then◌else◌}
-use Rattle.policy_tree.specs.declared.syntax.Owner.{Owner}
-use Rattle.policy_tree.specs.declared.syntax.OperandSyntax.{OperandSyntax}
-use Rattle.policy_tree.specs.declared.syntax.FactorSyntax.{FactorSyntax}
-use Rattle.policy_tree.specs.declared.syntax.TimesSyntax.{TimesSyntax}
-use Rattle.policy_tree.specs.declared.syntax.TermSyntax.{TermSyntax}
-use Rattle.policy_tree.specs.declared.syntax.AddedSyntax.{AddedSyntax}
-use Rattle.policy_tree.specs.declared.syntax.ExprSyntax.{ExprSyntax}
-use Rattle.policy_tree.specs.declared.syntax.KeySyntax.{KeySyntax}
-use Rattle.policy_tree.specs.declared.syntax.OrderSyntax.{OrderSyntax}
+use Rattle.policy_syntax.specs.declared.syntax.Owner.{Owner}
+use Rattle.policy_syntax.specs.declared.syntax.OperandSyntax.{OperandSyntax}
+use Rattle.policy_syntax.specs.declared.syntax.FactorSyntax.{FactorSyntax}
+use Rattle.policy_syntax.specs.declared.syntax.TimesSyntax.{TimesSyntax}
+use Rattle.policy_syntax.specs.declared.syntax.TermSyntax.{TermSyntax}
+use Rattle.policy_syntax.specs.declared.syntax.AddedSyntax.{AddedSyntax}
+use Rattle.policy_syntax.specs.declared.syntax.ExprSyntax.{ExprSyntax}
+use Rattle.policy_syntax.specs.declared.syntax.KeySyntax.{KeySyntax}
+use Rattle.policy_syntax.specs.declared.syntax.OrderSyntax.{OrderSyntax}
 use Rattle.policy_tree.specs.Trees.{ExprTree, times}
 use Rattle.policy_grammar.specs.declared.terminal.Lexeme.{Lexeme}
 use Rattle.policy_grammar.specs.Expressions.{IsOperand, operand_number, operand_reference, IsFactor, factor_plain, factor_signed, IsTimes, times_none, times_more, IsTerm, term_of, IsAdded, added_none, added_more, IsExpr, expr_of, IsKey, key_of, IsKeys, keys_none, keys_more, IsOrder, order_first, order_keys}

@@ -1,14 +1,14 @@
 -- The faults of a policy stand in the order of its tokens.
 use Rattle.std.proofs.Common.{◌≡◌, ◌≢◌, ◌⊎◌, inl, inr, ℕ, ◌+◌, ◌^◌, ◌<◌, ◌≤◌, not, List, [], ◌∷◌, ◌++◌, length, refl, arith, Option, Some, None, Result, Ok, Err, IfErr}
-use Rattle.policy_tree.specs.declared.syntax.AttrSyntax.{AttrSyntax}
-use Rattle.policy_tree.specs.declared.syntax.ElectSyntax.{ElectSyntax}
-use Rattle.policy_tree.specs.declared.syntax.IntSyntax.{IntSyntax}
-use Rattle.policy_tree.specs.declared.syntax.LoadSyntax.{LoadSyntax}
-use Rattle.policy_tree.specs.declared.syntax.PlaceSyntax.{PlaceSyntax}
-use Rattle.policy_tree.specs.declared.syntax.RangeSyntax.{RangeSyntax}
-use Rattle.policy_tree.specs.declared.syntax.SetSyntax.{SetSyntax}
+use Rattle.policy_syntax.specs.declared.syntax.AttrSyntax.{AttrSyntax}
+use Rattle.policy_syntax.specs.declared.syntax.ElectSyntax.{ElectSyntax}
+use Rattle.policy_syntax.specs.declared.syntax.IntSyntax.{IntSyntax}
+use Rattle.policy_syntax.specs.declared.syntax.LoadSyntax.{LoadSyntax}
+use Rattle.policy_syntax.specs.declared.syntax.PlaceSyntax.{PlaceSyntax}
+use Rattle.policy_syntax.specs.declared.syntax.RangeSyntax.{RangeSyntax}
+use Rattle.policy_syntax.specs.declared.syntax.SetSyntax.{SetSyntax}
 use Rattle.policy_tree.specs.declared.typed.Event.{Event}
-use Rattle.policy_tree.specs.SyntaxTrees.{CaseSyntaxTree, HandlerSyntaxTree, SyntaxTree}
+use Rattle.policy_syntax.specs.SyntaxTrees.{CaseSyntaxTree, HandlerSyntaxTree, SyntaxTree}
 use Rattle.policy_grammar.specs.declared.terminal.Lexeme.{Lexeme}
 use Rattle.policy_grammar.specs.Expressions.{IsInt, int_plain, int_signed, IsRange, range_of}
 use Rattle.policy_grammar.specs.Policies.{IsLoad, load_count, load_weight, IsAttr, attr_of, IsAttrs, attrs_none, attrs_more, IsPlace, place_none, place_here, place_least, IsElect, elect_none, elect_some, IsSets, sets_none, sets_more, IsCase, case_of, IsCases, cases_none, cases_more, handler_of, IsHandlers, handlers_none, handlers_more, IsPolicy, policy_of}

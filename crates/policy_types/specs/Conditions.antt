@@ -1,14 +1,14 @@
 -- The conditions and orders that a syntax is, and the rules that they break, in the order of the text. `and` and `or`
 -- group to the left.
 use Rattle.std.specs.Prelude.{Bool, true, false, List, [], ◌∷◌, ◌++◌, map, Option, Some, None}
-use Rattle.policy_tree.specs.declared.syntax.ElectSyntax.{ElectSyntax}
-use Rattle.policy_tree.specs.declared.syntax.KeySyntax.{KeySyntax}
-use Rattle.policy_tree.specs.declared.syntax.OrderSyntax.{OrderSyntax}
-use Rattle.policy_tree.specs.Meaning.{KeyTree}
+use Rattle.policy_syntax.specs.declared.syntax.ElectSyntax.{ElectSyntax}
+use Rattle.policy_syntax.specs.declared.syntax.KeySyntax.{KeySyntax}
+use Rattle.policy_syntax.specs.declared.syntax.OrderSyntax.{OrderSyntax}
+use Rattle.policy_tree.specs.Meaning.{KeyTree, greatest_first, least_first}
 use Rattle.policy_tree.specs.Trees as tree
-use Rattle.policy_tree.specs.Trees.{CondTree}
-use Rattle.policy_tree.specs.SyntaxTrees.{ConditionTree, always, negated, grouped, all, any, test, ConditionTrees}
-use Rattle.policy_tree.specs.SyntaxTrees.{no_more, more}
+use Rattle.policy_tree.specs.Trees.{CondTree, ExprTree}
+use Rattle.policy_syntax.specs.SyntaxTrees.{ConditionTree, always, negated, grouped, all, any, test, ConditionTrees}
+use Rattle.policy_syntax.specs.SyntaxTrees.{no_more, more}
 use Rattle.policy_types.specs.declared.fault.TypeFault.{TypeFault}
 use Rattle.policy_types.specs.declared.scope.Scope.{Scope}
 use Rattle.policy_types.specs.declared.sites.Site.{Site}
@@ -55,15 +55,23 @@ abbrev mutual
   parts_faults scope site no_more = []
   parts_faults scope site (more part rest) = condition_faults scope site part ++ parts_faults scope site rest
 
+-- the key that puts the greater value first, or the lesser
+abbrev pub directed : Bool → ExprTree → KeyTree
+directed true e = greatest_first e
+directed false e = least_first e
+
 abbrev pub key_meaning : Scope → KeySyntax → KeyTree
-key_meaning scope k = record { greatest = k.greatest; expr = expr_meaning scope k.value }
+key_meaning scope k = directed k.greatest (expr_meaning scope k.value)
 
 abbrev pub order_meaning : Scope → OrderSyntax → List KeyTree
 order_meaning scope order = map (key_meaning scope) order.keys
 
+abbrev pub key_faults : Scope → Site → KeySyntax → List TypeFault
+key_faults scope site k = expr_faults scope site k.value
+
 abbrev pub keys_faults : Scope → Site → List KeySyntax → List TypeFault
 keys_faults scope site [] = []
-keys_faults scope site (k ∷ rest) = expr_faults scope site k.value ++ keys_faults scope site rest
+keys_faults scope site (k ∷ rest) = key_faults scope site k ++ keys_faults scope site rest
 
 abbrev pub order_faults : Scope → Site → OrderSyntax → List TypeFault
 order_faults scope site order = keys_faults scope site order.keys

@@ -1,11 +1,11 @@
 -- The load and the attributes that a syntax declares, and the rules that they break, in the order of the text.
 use Rattle.std.specs.Prelude.{ℤ, pos, neg_ℤ, int_le, Bool, true, false, cond, not, ◌&&◌, List, [], ◌∷◌, ◌++◌, is_some}
 use Rattle.sched_base.specs.declared.limits.TheConstants.{MAX_ATTRIBUTE, MAX_WEIGHT}
-use Rattle.policy_tree.specs.declared.syntax.AttrSyntax.{AttrSyntax}
-use Rattle.policy_tree.specs.declared.syntax.IntSyntax.{IntSyntax}
-use Rattle.policy_tree.specs.declared.syntax.LoadSyntax.{LoadSyntax}
-use Rattle.policy_tree.specs.declared.syntax.LoadSyntax.TheVariants as syntax
-use Rattle.policy_tree.specs.declared.syntax.RangeSyntax.{RangeSyntax}
+use Rattle.policy_syntax.specs.declared.syntax.AttrSyntax.{AttrSyntax}
+use Rattle.policy_syntax.specs.declared.syntax.IntSyntax.{IntSyntax}
+use Rattle.policy_syntax.specs.declared.syntax.LoadSyntax.{LoadSyntax}
+use Rattle.policy_syntax.specs.declared.syntax.LoadSyntax.TheVariants as syntax
+use Rattle.policy_syntax.specs.declared.syntax.RangeSyntax.{RangeSyntax}
 use Rattle.policy_tree.specs.declared.typed.Attr.{Attr}
 use Rattle.policy_tree.specs.declared.typed.Load.{Load}
 use Rattle.policy_tree.specs.declared.typed.Load.TheVariants.{Count, Weight}

@@ -1,9 +1,9 @@
 -- The policy that a syntax is, and the rules that it breaks, in the order of the text.
 use Rattle.std.specs.Prelude.{List, [], ◌++◌, Option, Some, None}
-use Rattle.policy_tree.specs.declared.syntax.PlaceSyntax.{PlaceSyntax}
-use Rattle.policy_tree.specs.declared.syntax.PlaceSyntax.TheVariants.{Here, Least}
+use Rattle.policy_syntax.specs.declared.syntax.PlaceSyntax.{PlaceSyntax}
+use Rattle.policy_syntax.specs.declared.syntax.PlaceSyntax.TheVariants.{Here, Least}
 use Rattle.policy_tree.specs.Meaning.{Meaning, PlaceTree, here, least}
-use Rattle.policy_tree.specs.SyntaxTrees.{SyntaxTree}
+use Rattle.policy_syntax.specs.SyntaxTrees.{SyntaxTree}
 use Rattle.policy_types.specs.declared.fault.TypeFault.{TypeFault}
 use Rattle.policy_types.specs.declared.scope.Scope.{Scope}
 use Rattle.policy_types.specs.declared.sites.Site.TheVariants.{Choose, Filter, Placement, Steal}
@@ -28,7 +28,7 @@ place_faults scope (Some (Least at e)) = expr_faults scope Placement e
 abbrev pub scope_of : SyntaxTree → Scope
 scope_of s = scope_after nothing_declared s.attrs
 
--- the policy, where what it declares is this
+-- the policy, where what it declares is this. No text spells a batch
 abbrev pub meaning_in : Scope → SyntaxTree → Meaning
 meaning_in scope s = record {
   name = s.name;
@@ -41,6 +41,7 @@ meaning_in scope s = record {
   filter = condition_meaning scope s.filter;
   choose = order_meaning scope s.choose;
   steal = order_meaning scope s.steal;
+  batch = None;
 }
 
 abbrev pub policy_meaning : SyntaxTree → Meaning

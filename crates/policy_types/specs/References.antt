@@ -3,8 +3,8 @@ use Rattle.std.specs.Prelude.{ℕ, ◌+◌, nat_lt, Bool, true, false, if◌then
 use Rattle.std.specs.Prelude.{codes}
 use Rattle.std.specs.Str.{bytes_eq}
 use Rattle.sched_base.specs.declared.limits.TheConstants.{MAX_ATTRIBUTES, MAX_VARIABLES}
-use Rattle.policy_tree.specs.declared.syntax.Owner.{Owner}
-use Rattle.policy_tree.specs.declared.syntax.Owner.TheVariants.{Itself, Victim, Core, Thread}
+use Rattle.policy_syntax.specs.declared.syntax.Owner.{Owner}
+use Rattle.policy_syntax.specs.declared.syntax.Owner.TheVariants.{Itself, Victim, Core, Thread}
 use Rattle.policy_tree.specs.declared.typed.Attr.{Attr}
 use Rattle.policy_tree.specs.declared.typed.Event.{Event}
 use Rattle.policy_tree.specs.declared.typed.Event.TheVariants as event

@@ -1,18 +1,19 @@
 //! Which condition and which order a syntax is.
 
 ghost use Rattle.std.specs.Prelude.{◌≡◌, IfOk, IfErr, [], None, option_map};
-ghost use Rattle.policy_tree.specs.Meaning.{order_tree};
+ghost use Rattle.policy_tree.specs.Meaning.{key_tree, order_tree};
 ghost use Rattle.policy_tree.specs.Trees.{cond_tree};
-ghost use Rattle.policy_tree.specs.SyntaxTrees.{condition_tree, condition_trees};
+ghost use Rattle.policy_syntax.specs.SyntaxTrees.{condition_tree, condition_trees};
 ghost use Rattle.policy_types.specs.Conditions.{chain_meaning, condition_faults, condition_meaning, linked};
-ghost use Rattle.policy_types.specs.Conditions.{order_faults, order_meaning, parts_faults};
+ghost use Rattle.policy_types.specs.Conditions.{key_faults, key_meaning, order_faults, order_meaning, parts_faults};
 ghost use Rattle.policy_types.specs.Faults.{IsFirst};
 
 use crate::fault::TypeFault;
 use crate::scope::Scope;
 use crate::sites::Site;
 use lists::Items;
-use policy_tree::{Cond, ConditionSyntax, Key, Order, OrderSyntax};
+use policy_syntax::{ConditionSyntax, KeySyntax, OrderSyntax};
+use policy_tree::{Cond, Key, Order};
 use std::alloc::{AllocError, Global};
 
 impl Scope<'_> {
@@ -91,12 +92,23 @@ impl Scope<'_> {
         let mut keys = Vec::new(alloc);
         let read = order.keys.as_slice();
         for key in read {
-            keys.push(Key {
-                greatest: key.greatest,
-                expr: self.expr(alloc, site, &key.value)?,
-            })?;
+            keys.push(self.key(alloc, site, key)?)?;
         }
         Ok(Items::from_vec(keys))
+    }
+
+    /// A key.
+    fn key(&self, alloc: Global, site: Site, key: &KeySyntax) -> Result<Key, TypeFault>
+        ensures tree { IfOk result (λ k. key_tree k ≡ key_meaning self.now key.now) }
+        ensures sound { IfOk result (λ k. key_faults self.now site key.now ≡ []) }
+        ensures fault { IfErr result (IsFirst (key_faults self.now site key.now)) }
+    {
+        let expr = self.expr(alloc, site, &key.value)?;
+        if key.greatest {
+            Ok(Key::Greatest(expr))
+        } else {
+            Ok(Key::Least(expr))
+        }
     }
 }
 

@@ -10,7 +10,8 @@ use crate::attributes::Attributes;
 use crate::fault::TypeFault;
 use crate::scope::Scope;
 use lists::Items;
-use policy_tree::{Attr, AttrSyntax, IntSyntax, Load, LoadSyntax, Name};
+use policy_syntax::{AttrSyntax, IntSyntax, LoadSyntax};
+use policy_tree::{Attr, Load, Name};
 use sched_base::{MAX_ATTRIBUTE, MAX_WEIGHT};
 use std::alloc::{AllocError, Global};
 

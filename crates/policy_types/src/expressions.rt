@@ -15,9 +15,8 @@ use crate::products::Product;
 use crate::scope::Scope;
 use crate::sites::{Site, allows, variable_of};
 use crate::sums::Form;
-use policy_tree::{
-    AddedSyntax, Expr, ExprSyntax, FactorSyntax, Name, OperandSyntax, Owner, TermSyntax,
-};
+use policy_syntax::{AddedSyntax, ExprSyntax, FactorSyntax, OperandSyntax, Owner, TermSyntax};
+use policy_tree::{Expr, Name};
 use sched_base::MAX_COEFFICIENT;
 use std::alloc::{AllocError, Global};
 

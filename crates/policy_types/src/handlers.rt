@@ -4,7 +4,7 @@ ghost use Rattle.std.specs.Prelude.{◌≡◌, ◌<◌, ◌^◌, length, [], IfO
 ghost use Rattle.std.specs.Prelude.{if◌then◌else◌, Some};
 ghost use Rattle.policy_tree.specs.declared.typed.Event.{Event};
 ghost use Rattle.policy_tree.specs.Meaning.{case_tree, handler_trees, set_tree};
-ghost use Rattle.policy_tree.specs.SyntaxTrees.{case_syntax_tree, handler_syntax_tree};
+ghost use Rattle.policy_syntax.specs.SyntaxTrees.{case_syntax_tree, handler_syntax_tree};
 ghost use Rattle.policy_types.specs.Faults.{IsFirst};
 ghost use Rattle.policy_types.specs.Given.{cases_or, given_cases, given_or_default};
 ghost use Rattle.policy_types.specs.Handlers.{case_faults, case_meaning, cases_faults, default_cases, default_put};
@@ -16,10 +16,8 @@ use crate::fault::TypeFault;
 use crate::scope::{Scope, feature_among};
 use crate::sites::{Feature, Site, allows_put};
 use lists::Items;
-use policy_tree::{
-    Case, CaseList, CaseSyntax, Cond, Event, HandlerList, HandlerSyntax, Name, Put, Set, SetList,
-    SetSyntax,
-};
+use policy_syntax::{CaseSyntax, HandlerSyntax, SetSyntax};
+use policy_tree::{Case, CaseList, Cond, Event, HandlerList, Name, Put, Set, SetList};
 use std::alloc::{AllocError, Global};
 
 /// The cases of the events whose handlers were read.

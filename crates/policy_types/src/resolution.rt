@@ -2,7 +2,7 @@
 
 ghost use Rattle.std.specs.Prelude.{◌≡◌, Option, IfOk, IfErr, []};
 ghost use Rattle.policy_tree.specs.Meaning.{meaning_of, order_tree, place_tree};
-ghost use Rattle.policy_tree.specs.SyntaxTrees.{syntax_tree};
+ghost use Rattle.policy_syntax.specs.SyntaxTrees.{syntax_tree};
 ghost use Rattle.policy_types.specs.Conditions.{elect_faults, elect_meaning};
 ghost use Rattle.policy_eval.specs.Resolved.{IsResolved};
 ghost use Rattle.policy_types.specs.Correct.{IsLeast, IsOfGrammar};
@@ -15,7 +15,8 @@ use crate::fault::TypeFault;
 use crate::scope::Scope;
 use crate::sites::Site;
 use lists::Items;
-use policy_tree::{ElectSyntax, Load, Name, Order, PlaceRule, PlaceSyntax, Policy, Syntax};
+use policy_syntax::{ElectSyntax, PlaceSyntax, Syntax};
+use policy_tree::{Load, Name, Order, PlaceRule, Policy};
 use std::alloc::Global;
 
 /// The policy of that syntax, or the first rule of names, ranges and phases that it breaks.
@@ -78,6 +79,7 @@ impl Scope<'_> {
             filter,
             choose,
             steal,
+            batch: None,
         })
     }
 

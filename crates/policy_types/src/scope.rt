@@ -5,7 +5,8 @@ ghost use Rattle.policy_types.specs.References.{attributes_of, feature_among, fe
 
 use crate::attributes::Attributes;
 use crate::sites::{Feature, variable_of};
-use policy_tree::{Name, Owner};
+use policy_syntax::Owner;
+use policy_tree::Name;
 use sched_base::MAX_VARIABLES;
 
 /// The attributes that a policy declares, of cores and of threads.

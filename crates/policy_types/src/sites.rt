@@ -3,7 +3,8 @@
 ghost use Rattle.std.specs.Prelude.{◌≡◌, ◌≤◌};
 ghost use Rattle.policy_types.specs.References.{allows, allows_put, attribute_from, variable_of};
 
-use policy_tree::{Event, Owner, Put, variables};
+use policy_syntax::Owner;
+use policy_tree::{Event, Put, variables};
 use sched_base::{MAX_ATTRIBUTES, MAX_VARIABLES};
 
 /// Where an expression or a condition stands.

@@ -29,7 +29,7 @@ pub fn law_still_rounds()
 {}
 
 /// A policy that meets its obligations wastes no core in still rounds, in every legal history of
-/// every plan that fits it: for 1 to 32 cores, up to 1,023 threads and 4,096 rounds, and every
+/// every plan that fits it: for 1 to 64 cores, up to 1,023 threads and 4,096 rounds, and every
 /// interleaving of the cores' turns within a round.
 pub fn law_main_theorem()
     ensures { MainTheorem }

@@ -18,7 +18,7 @@ use crate::plan::Plan;
 use crate::windows::reads_fit;
 use policy_eval::CoreValues;
 use policy_tree::{PlaceRule, Policy};
-use sched_base::{CoreId, MAX_ATTRIBUTES, MAX_CORES, Reads};
+use sched_base::{CoreId, MAX_CORES, Reads};
 
 /// Where the core places a thread by these reads, and `None` where they aren't such as it may have made.
 pub(crate) fn placement(
@@ -141,7 +141,7 @@ fn values_read(plan: &Plan, past: &Past, reads: &Reads) -> [CoreValues; MAX_CORE
     ensures values { (p : Meaning) → OfEach p plan.now past.now (λ history. (c : ℕ) → c < plan.now.cores →
         values_in result c ≡ values_at p plan.now history reads.now c) }
 {
-    let mut values = [NO_VALUES; MAX_CORES];
+    let mut values = [CoreValues::NONE; MAX_CORES];
     for core in 0..plan.cores {
         values[core as usize] = value_of(plan, past, reads, core);
     }
@@ -166,10 +166,3 @@ fn value_of(plan: &Plan, past: &Past, reads: &Reads, core: CoreId) -> CoreValues
         consts: *plan.consts.get(core),
     }
 }
-
-/// What is known of a core that isn't there.
-const NO_VALUES: CoreValues = CoreValues {
-    nr: 0,
-    load: 0,
-    consts: [0; MAX_ATTRIBUTES],
-};

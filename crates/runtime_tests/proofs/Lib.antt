@@ -1,3 +1,4 @@
+pub mod Crossing
 pub mod Dealing
 pub mod Fitting
 pub mod Joined

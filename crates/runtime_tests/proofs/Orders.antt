@@ -1,21 +1,12 @@
--- What a queue asks of orders and of tasks.
-use Rattle.std.proofs.Common.{◌≤◌, ◌≤ℤ◌, ℕ, ℤ, Bool, [], ◌∷◌, pos, negsuc, FitsSigned, w32, to_z, of_z, to_z-of_z, refl, sym, subst, arith}
+-- What a queue asks of tasks.
+use Rattle.std.proofs.Common.{◌≤◌, ◌≤ℤ◌, ℕ, ℤ, [], ◌∷◌, pos, negsuc, FitsSigned, w32, to_z, of_z, to_z-of_z, refl, sym, subst, arith}
 use Rattle.std.proofs.lemmas.Int.{ints}
 use Rattle.sched_base.specs.declared.task.Place.{Place}
-use Rattle.policy_tree.specs.Trees.{variable}
-use Rattle.policy_eval.specs.Evaluable.{IsEvaluableOrder}
 use Rattle.policy_eval.specs.Ranges.{AreIn, IsIn, range, wide_ranges}
 use Rattle.policy_eval.specs.Sights.{thread_values}
 use Rattle.policy_eval.proofs.Wide.{thread_wide}
 use Rattle.fair_policy.proofs.FairResolved.{fair_resolved}
 use Rattle.fair_policy.specs.Fair.{fair_meaning}
-
--- an order of one variable
-pub evaluable_22 : (greatest : Bool) → IsEvaluableOrder (record { greatest = greatest; expr = variable 22 } ∷ [])
-evaluable_22 greatest = (record { linear = tt; known = refl }, tt)
-
-pub evaluable_4 : (greatest : Bool) → IsEvaluableOrder (record { greatest = greatest; expr = variable 4 } ∷ [])
-evaluable_4 greatest = (record { linear = tt; known = refl }, tt)
 
 small : (z : ℤ) → pos 0 ≤ℤ z → z ≤ℤ pos 1000 → FitsSigned w32 z
 small (pos n) least most = record { sfits = omega (arith, ints) }

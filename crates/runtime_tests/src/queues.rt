@@ -1,13 +1,12 @@
 //! A queue played against a plain list.
 
 ghost use Rattle.std.specs.Prelude.{◌≡◌, ◌<◌, ◌≤◌, ◌≤ℤ◌, [], ◌∷◌, pos, IfOk, IfSome, length};
-ghost use Rattle.policy_tree.specs.Meaning.{order_tree};
-ghost use Rattle.policy_tree.specs.Trees.{variable};
+ghost use Rattle.policy_tree.specs.Meaning.{key_tree, order_tree};
 ghost use Rattle.run_queue.specs.Tasks.{IsSeenTask};
 
 use lists::Items;
 use policy_tree::variables::{THREAD_ATTRIBUTES, WEIGHT};
-use policy_tree::{Expr, Key, Order};
+use policy_tree::{Cmp, Cond, Expr, Key, Order};
 use run_queue::Queue;
 use sched_base::{MAX_ATTRIBUTES, Place, Task, ThreadId};
 use std::alloc::{AllocError, Global};
@@ -34,14 +33,11 @@ enum Asked {
 }
 
 /// The order of one key.
-fn order_of(alloc: Global, greatest: bool, at: u32) -> Result<Order, AllocError>
-    ensures { IfOk result (λ order. order_tree order ≡ record { greatest = greatest; expr = variable at } ∷ []) }
+fn order_of(alloc: Global, key: Key) -> Result<Order, AllocError>
+    ensures { IfOk result (λ order. order_tree order ≡ key_tree key ∷ []) }
 {
     let mut keys = Vec::new(alloc);
-    keys.push(Key {
-        greatest,
-        expr: Expr::Var(at),
-    })?;
+    keys.push(key)?;
     Ok(Order::from_vec(keys))
 }
 
@@ -200,8 +196,8 @@ pub(crate) fn rolled(dice: u64) -> u64 {
 
 #[test]
 fn a_queue_against_a_plain_list(rt: HostRuntime) -> Result<(), Fail> {
-    let elect = order_of(rt.alloc(), false, THREAD_ATTRIBUTES)?;
-    let steal = order_of(rt.alloc(), true, WEIGHT)?;
+    let elect = order_of(rt.alloc(), Key::Least(Expr::Var(THREAD_ATTRIBUTES)))?;
+    let steal = order_of(rt.alloc(), Key::Greatest(Expr::Var(WEIGHT)))?;
     let mut queue = Queue::with_room(rt.alloc(), ROOM, &elect)?;
     let mut seats = Items::from_vec(Vec::new(rt.alloc()));
     let mut dice: u64 = 2026;
@@ -212,5 +208,35 @@ fn a_queue_against_a_plain_list(rt: HostRuntime) -> Result<(), Fail> {
         let heaviest = number_at(&seats, best_place(&seats, Asked::Steal));
         assert_eq!(rt; queue.best_for_steal(&steal), heaviest, "at {turn}");
     }
+    Ok(())
+}
+
+// A thread of that weight that was never used.
+fn weighing(id: ThreadId, weight: u32) -> Task
+    requires weight { 1 ≤ weight }
+    requires light { weight ≤ 8 }
+    ensures { IsSeenTask result }
+{
+    task_of(Seat {
+        id,
+        weight,
+        used: 0,
+    })
+}
+
+// Those that weigh 3 or more come first, of equals the earliest.
+#[test]
+fn a_queue_that_prefers(rt: HostRuntime) -> Result<(), Fail> {
+    let heavy = Cond::Test(Cmp::Ge, Expr::Var(WEIGHT), Expr::Num(3));
+    let elect = order_of(rt.alloc(), Key::Prefer(heavy))?;
+    let mut queue = Queue::with_room(rt.alloc(), ROOM, &elect)?;
+    queue.push(weighing(1, 1));
+    queue.push(weighing(2, 4));
+    queue.push(weighing(3, 2));
+    queue.push(weighing(4, 5));
+    for id in [2, 4, 1, 3] {
+        assert_eq!(rt; number_of(queue.pop_best()), Some(id));
+    }
+    assert!(rt; queue.is_empty());
     Ok(())
 }

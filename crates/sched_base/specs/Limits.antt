@@ -8,11 +8,18 @@ use Rattle.sched_base.specs.declared.limits.TheConstants.{MAX_OPERATORS, MAX_NES
 use Rattle.sched_base.specs.declared.limits.TheConstants.{MAX_SYSTEM_CASES, MAX_ROWS, MAX_END, MAX_ROW_COEFFICIENT}
 use Rattle.sched_base.specs.declared.limits.TheConstants.{MAX_ROW_BOUND, MAX_SPLITS, CHECK_BUDGET, MAX_NAME_BYTES}
 use Rattle.sched_base.specs.declared.limits.TheConstants.{MAX_DIGITS, MAX_POLICY_BYTES, MAX_TRACE_BYTES}
-use Rattle.sched_base.specs.declared.limits.TheConstants.{MAX_HISTORY_BYTES}
+use Rattle.sched_base.specs.declared.limits.TheConstants.{MAX_HISTORY_BYTES, MAX_CERTIFICATE_BYTES, MAX_STOLEN}
+use Rattle.sched_base.specs.declared.limits.TheConstants.{MAX_LEVELS, MAX_LEVEL_COMPARISONS, MAX_LEVEL_KEYS}
+use Rattle.sched_base.specs.declared.limits.TheConstants.{MAX_WORKERS}
 
 -- each limit is this number
 pub record LimitsAreSaid : Type 0 where
-  pub cores : MAX_CORES ≡ 32
+  pub cores : MAX_CORES ≡ 64
+  pub workers : MAX_WORKERS ≡ 64
+  pub stolen : MAX_STOLEN ≡ 8
+  pub levels : MAX_LEVELS ≡ 3
+  pub level_comparisons : MAX_LEVEL_COMPARISONS ≡ 3
+  pub level_keys : MAX_LEVEL_KEYS ≡ 2
   pub threads : MAX_THREADS ≡ 1023
   pub weight : MAX_WEIGHT ≡ 1048575
   pub load : MAX_LOAD ≡ 1072692225
@@ -45,3 +52,4 @@ pub record LimitsAreSaid : Type 0 where
   pub policy_bytes : MAX_POLICY_BYTES ≡ 65536
   pub trace_bytes : MAX_TRACE_BYTES ≡ 4194304
   pub history_bytes : MAX_HISTORY_BYTES ≡ 33554432
+  pub certificate_bytes : MAX_CERTIFICATE_BYTES ≡ 33554432

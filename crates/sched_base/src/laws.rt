@@ -2,7 +2,7 @@
 
 ghost use Rattle.sched_base.specs.Limits.{LimitsAreSaid};
 
-/// The limits are the numbers that the documents name.
+/// The limits are these numbers.
 pub fn law_limits()
     ensures { LimitsAreSaid }
 {}

@@ -1,7 +1,22 @@
 //! The limits of the project. No other crate writes one of these numbers.
 
 /// The most cores of a plan. A plan has at least one.
-pub const MAX_CORES: usize = 32;
+pub const MAX_CORES: usize = 64;
+
+/// The most workers that play the cores of a plan. There is at least one.
+pub const MAX_WORKERS: usize = 64;
+
+/// The most threads that one steal moves.
+pub const MAX_STOLEN: usize = 8;
+
+/// The most levels of a policy that balances by levels.
+pub const MAX_LEVELS: usize = 3;
+
+/// The most comparisons of a level's filter.
+pub const MAX_LEVEL_COMPARISONS: usize = 3;
+
+/// The most keys by which a policy that balances by levels chooses.
+pub const MAX_LEVEL_KEYS: usize = 2;
 
 /// The most threads of a plan, and the greatest number of a thread. The least number is 1.
 pub const MAX_THREADS: u32 = 1_023;
@@ -99,5 +114,8 @@ pub const MAX_TRACE_BYTES: u64 = 4_194_304;
 
 /// The most bytes of a history's text.
 pub const MAX_HISTORY_BYTES: u64 = 33_554_432;
+
+/// The most bytes of a text of certificates.
+pub const MAX_CERTIFICATE_BYTES: u64 = 33_554_432;
 
 const _: () = prove!(MAX_LOAD == MAX_THREADS * MAX_WEIGHT);

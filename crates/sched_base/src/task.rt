@@ -20,15 +20,6 @@ pub struct Place {
     pub done: u32,
 }
 
-/// What one turn of a core added.
-#[derive(Clone, Copy)]
-pub struct Turned {
-    /// The entries that it added to the history.
-    pub entries: u32,
-    /// The threads that ended in it.
-    pub ended: u32,
-}
-
 /// A thread that has entered.
 #[derive(Clone, Copy)]
 pub struct Task {

@@ -41,7 +41,7 @@ thread-length thread is = let digits = length-decimal-le 4 thread (omega arith) 
 position-length : (position : ℕ) → IsPosition position → length (spaced_number position) ≤ 6
 position-length position is = let digits = length-decimal-le 5 position (omega arith) (omega arith) (omega arith) in omega (arith, digits)
 
--- six bytes a position, and so 192 for the most of them
+-- six bytes a position, and so 384 for the most of them
 positions-length : (reads : List ℕ) → All IsPosition reads → length (spaced reads) ≤ 6 * length reads
 positions-length [] is = omega (arith, length-spaced-nil)
 positions-length (read ∷ reads) is =
@@ -49,7 +49,7 @@ positions-length (read ∷ reads) is =
     let rest = positions-length reads (All-tail IsPosition read reads is) in
     omega (arith, first, rest, length-spaced-cons read reads)
 
-reads-length : (reads : List ℕ) → AreReads reads → length (spaced reads) ≤ 192
+reads-length : (reads : List ℕ) → AreReads reads → length (spaced reads) ≤ 384
 reads-length reads are = let each = positions-length reads are.positions in omega (arith, each, are.few)
 
 -- the words of an entry with reads, part by part
@@ -77,7 +77,7 @@ unit-length by (did.Blocked thread) is = work-length by thread (codes " block") 
 unit-length by (did.Ended thread) is = work-length by thread (codes " end") is.0 is.1 (omega arith)
 
 -- the longest words are those of an entry of three numbers, five letters and all reads
-pub length-words_of_entry : (e : Entry) → IsPrintable e → length (words_of_entry e) ≤ 210
+pub length-words_of_entry : (e : Entry) → IsPrintable e → length (words_of_entry e) ≤ 402
 length-words_of_entry (entry.Round number) is = omega (arith, length-spaced-one number, round-length number is)
 length-words_of_entry (entry.Enter thread by at reads) is =
     omega (

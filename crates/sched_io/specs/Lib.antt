@@ -8,3 +8,4 @@ pub mod Shown
 pub mod Sinks
 pub mod Told
 pub mod Written
+pub mod Numbers

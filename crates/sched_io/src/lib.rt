@@ -4,6 +4,7 @@
 mod disk_files;
 mod faults;
 mod gates;
+pub mod laws;
 mod lines;
 mod memory_files;
 mod memory_sink;

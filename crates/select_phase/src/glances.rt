@@ -8,7 +8,7 @@ ghost use Rattle.select_phase.specs.Glances.{AreGlanced};
 
 use core_table::{Seat, Table};
 use policy_eval::CoreValues;
-use sched_base::{MAX_ATTRIBUTES, MAX_CORES, Reads};
+use sched_base::{MAX_CORES, Reads};
 
 /// Reads each core once, in the order of their numbers: of each the position at which it was read, and in its place
 /// what the policy may ask of it by that.
@@ -35,11 +35,4 @@ pub(crate) fn glance(table: &Table, seat: &mut Seat, values: &mut [CoreValues; M
 }
 
 /// What is known of all cores before any is read.
-pub(crate) const NOTHING_READ: [CoreValues; MAX_CORES] = [NO_VALUES; MAX_CORES];
-
-/// What is known of a core that isn't there.
-const NO_VALUES: CoreValues = CoreValues {
-    nr: 0,
-    load: 0,
-    consts: [0; MAX_ATTRIBUTES],
-};
+pub(crate) const NOTHING_READ: [CoreValues; MAX_CORES] = [CoreValues::NONE; MAX_CORES];

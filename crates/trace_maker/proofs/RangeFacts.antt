@@ -3,12 +3,12 @@ use Rattle.std.proofs.Common.{◌≡◌, ℕ, ◌+◌, ◌≤◌, ◌/◌, ◌%�
 use Rattle.std.specs.Prelude.{◌==◌}
 use Rattle.std.proofs.lemmas.Bool.Decides.{nat_tests}
 use Rattle.std.proofs.lemmas.Nat.{mod_below}
-use Rattle.sched_base.specs.declared.limits.TheConstants.{MAX_BLOCK_ROUNDS, MAX_CORES, MAX_ROUNDS, MAX_THREADS, MAX_UNITS, MAX_WEIGHT}
+use Rattle.sched_base.specs.declared.limits.TheConstants.{MAX_BLOCK_ROUNDS, MAX_ROUNDS, MAX_THREADS, MAX_UNITS, MAX_WEIGHT}
 use Rattle.round_model.specs.declared.plan.Ending.TheVariants as ending
 use Rattle.job_trace.specs.declared.trace.TraceLine.TheVariants.{Thread}
 use Rattle.job_trace.specs.Forms.{burst}
 use Rattle.job_trace.specs.Rules.{Measure, burst_measures, first_passed, measures, passed_end, ranged}
-use Rattle.trace_maker.specs.Made.{bursts_of_kind, made_bursts, made_thread}
+use Rattle.trace_maker.specs.Made.{bursts_of_kind, made_bursts, made_cores, made_thread}
 
 within-range : (value low high : ℕ) → low ≤ value → value ≤ high → passed_end (ranged value low high) ≡ None
 within-range value low high above below =
@@ -36,7 +36,7 @@ bursts-within kind units rounds some few some_rounds few_rounds = by (kind == 0)
         (next-within rounds 1 MAX_BLOCK_ROUNDS (burst_measures 2 (burst units ending.End ∷ [])) some_rounds few_rounds last)
     by false false false = next-within units 1 MAX_UNITS (burst_measures 2 (burst units ending.End ∷ [])) some few last
 
-pub thread-within : (id draw : ℕ) → 1 ≤ id → id ≤ MAX_THREADS → first_passed (measures MAX_CORES (Thread (made_thread id draw))) ≡ None
+pub thread-within : (id draw : ℕ) → 1 ≤ id → id ≤ MAX_THREADS → first_passed (measures made_cores (Thread (made_thread id draw))) ≡ None
 thread-within id draw some few =
     let core = mod_below draw 4 (omega arith) in
     let round = mod_below (draw / 4) 8 (omega arith) in
@@ -46,8 +46,8 @@ thread-within id draw some few =
     let bursts : List Measure = burst_measures 1 (made_bursts draw) in
     let weighs : List Measure = ranged (1 + draw / 32 % 8) 1 MAX_WEIGHT ∷ bursts in
     let enters : List Measure = ranged (1 + draw / 4 % 8) 1 MAX_ROUNDS ∷ weighs in
-    next-within id 1 MAX_THREADS (ranged (draw % 4) 0 (MAX_CORES - 1) ∷ enters) some few
-    (next-within (draw % 4) 0 (MAX_CORES - 1) enters (omega arith) (omega (arith, core))
+    next-within id 1 MAX_THREADS (ranged (draw % 4) 0 (made_cores - 1) ∷ enters) some few
+    (next-within (draw % 4) 0 (made_cores - 1) enters (omega arith) (omega (arith, core))
     (next-within (1 + draw / 4 % 8) 1 MAX_ROUNDS weighs (omega arith) (omega (arith, round))
     (next-within (1 + draw / 32 % 8) 1 MAX_WEIGHT bursts (omega arith) (omega (arith, weight))
     (bursts-within (draw / 4096 % 4) (1 + draw / 256 % 16) (1 + draw / 16384 % 8) (omega arith) (omega (arith, units)) (omega arith) (omega (arith, rounds))))))

@@ -2,13 +2,13 @@
 use Rattle.std.proofs.Common.{ℕ, ◌+◌, ◌≤◌, ◌<◌, ◌^◌, ◌/◌, ◌%◌, Bool, true, false, cond, List, [], ◌∷◌, codes, arith, lit<}
 use Rattle.std.specs.Prelude.{decimal, ◌==◌}
 use Rattle.std.proofs.lemmas.Nat.{mod_below}
-use Rattle.sched_base.specs.declared.limits.TheConstants.{MAX_CORES, MAX_DIGITS, MAX_ENTRIES, MAX_THREADS}
+use Rattle.sched_base.specs.declared.limits.TheConstants.{MAX_DIGITS, MAX_ENTRIES, MAX_THREADS}
 use Rattle.round_model.specs.declared.plan.Ending.TheVariants as ending
 use Rattle.text_forms.proofs.DecimalLemmas.{decimal-read}
 use Rattle.job_trace.specs.declared.trace.TraceLine.TheVariants.{Cores, Rounds, Entries, Thread}
 use Rattle.job_trace.specs.Forms.{SpellsNumber, SpellsProgram, burst, cores_line, entries_line, rounds_line, run_block, run_end, run_forever, run_yield, some_weight, thread_line}
 use Rattle.job_trace.specs.Rules.{HasSpelling}
-use Rattle.trace_maker.specs.Made.{bursts_of_kind, made_rounds, made_thread}
+use Rattle.trace_maker.specs.Made.{bursts_of_kind, made_cores, made_rounds, made_thread}
 
 -- numbers up to a million have a spelling
 spelt : (n : ℕ) → n ≤ 1000000 → SpellsNumber (decimal n) n
@@ -48,8 +48,8 @@ thread-spelt id draw few =
           (some_weight (decimal (1 + draw / 32 % 8)) (spelt (1 + draw / 32 % 8) (omega (arith, weight)))) runs,
     )
 
-pub cores-spelt : HasSpelling (Cores MAX_CORES)
-cores-spelt = (codes "cores" ∷ decimal MAX_CORES ∷ [], cores_line (decimal MAX_CORES) (spelt MAX_CORES (omega arith)))
+pub cores-spelt : HasSpelling (Cores made_cores)
+cores-spelt = (codes "cores" ∷ decimal made_cores ∷ [], cores_line (decimal made_cores) (spelt made_cores (omega arith)))
 
 pub rounds-spelt : HasSpelling (Rounds made_rounds)
 rounds-spelt = (codes "rounds" ∷ decimal made_rounds ∷ [], rounds_line (decimal made_rounds) (spelt made_rounds (omega arith)))

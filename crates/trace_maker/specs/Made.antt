@@ -1,7 +1,7 @@
 -- The made trace.
 use Rattle.std.specs.Prelude.{◌≡◌, ℕ, zero, suc, ◌+◌, ◌/◌, ◌%◌, ◌==◌, List, [], ◌∷◌, ◌++◌, Result, Ok, Err, nat_lt}
 use Rattle.std.specs.Prelude.{◌||◌, if◌then◌else◌}
-use Rattle.sched_base.specs.declared.limits.TheConstants.{MAX_CORES, MAX_ENTRIES, MAX_THREADS}
+use Rattle.sched_base.specs.declared.limits.TheConstants.{MAX_ENTRIES, MAX_THREADS}
 use Rattle.round_model.specs.declared.plan.Burst.{Burst}
 use Rattle.round_model.specs.declared.plan.Ending.TheVariants as ending
 use Rattle.round_model.specs.declared.plan.Planned.{Planned}
@@ -12,6 +12,10 @@ use Rattle.job_trace.specs.TraceText.{numbered}
 use Rattle.trace_maker.specs.declared.fault.MakeFault.{MakeFault}
 use Rattle.trace_maker.specs.declared.fault.MakeFault.TheVariants.{Size, Memory}
 use Rattle.trace_maker.specs.Generator.{drawn, state_after}
+
+-- the cores of a made trace
+abbrev pub made_cores : ℕ
+made_cores = 32
 
 -- the rounds of a made trace
 abbrev pub made_rounds : ℕ
@@ -41,7 +45,7 @@ made_thread id draw = record {
 
 -- the lines before the threads
 abbrev pub header : List Numbered
-header = numbered 1 (Cores MAX_CORES) ∷ numbered 2 (Rounds made_rounds) ∷ numbered 3 (Entries MAX_ENTRIES) ∷ []
+header = numbered 1 (Cores made_cores) ∷ numbered 2 (Rounds made_rounds) ∷ numbered 3 (Entries MAX_ENTRIES) ∷ []
 
 -- the line of the thread of that number
 abbrev pub thread_line : ℕ → ℕ → Numbered

@@ -11,8 +11,11 @@ use crate::generator::{drawn, next_state};
 use job_trace::{Numbered, Trace, TraceLine};
 use lists::Items;
 use round_model::{Burst, BurstList, Ending, Planned};
-use sched_base::{MAX_CORES, MAX_ENTRIES, MAX_THREADS, ThreadId};
+use sched_base::{MAX_ENTRIES, MAX_THREADS, ThreadId};
 use std::alloc::{AllocError, Global};
+
+/// The cores of a made trace: fewer than there can be.
+const MADE_CORES: u32 = 32;
 
 /// The rounds of a made trace.
 const MADE_ROUNDS: u32 = 60;
@@ -38,7 +41,7 @@ fn header(alloc: Global) -> Result<Vec<Numbered>, AllocError>
     ensures { IfOk result (λ lines. lines.items ≡ header) }
 {
     let mut lines = Vec::new(alloc);
-    add(&mut lines, 1, TraceLine::Cores(MAX_CORES as u32))?;
+    add(&mut lines, 1, TraceLine::Cores(MADE_CORES))?;
     add(&mut lines, 2, TraceLine::Rounds(MADE_ROUNDS))?;
     add(&mut lines, 3, TraceLine::Entries(MAX_ENTRIES))?;
     Ok(lines)

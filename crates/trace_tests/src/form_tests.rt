@@ -168,7 +168,7 @@ fn texts_that_are_read(rt: HostRuntime) -> Result<(), Fail> {
     let cases = [
         ("cores 2\nrounds 0", 2),
         ("cores 1\nrounds 0\n", 2),
-        ("cores 32\nrounds 4096\n", 2),
+        ("cores 64\nrounds 4096\n", 2),
         ("cores 0000000000000000002\nrounds 00\n", 2),
         ("\tcores \t2 \r\n\r\n# \u{e9}\nrounds 1\n#", 2),
         ("#cores 2\ncores 2\n  #rounds 1\nrounds 1\n", 2),

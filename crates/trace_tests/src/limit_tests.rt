@@ -9,8 +9,8 @@ fn numbers_out_of_range(rt: HostRuntime) -> Result<(), Fail> {
     let alloc = rt.alloc();
     let cases = [
         ("cores 0\nrounds 0\n", 1, 1),
-        ("cores 33\nrounds 0\n", 1, 32),
-        ("cores 9999999999999999999\n", 1, 32),
+        ("cores 65\nrounds 0\n", 1, 64),
+        ("cores 9999999999999999999\n", 1, 64),
         ("cores 1\nrounds 4097\n", 2, 4_096),
         ("cores 2\nrounds 1\ncores 0\n", 3, 1),
         ("cores 2\nrounds 1\nrounds 4097\n", 3, 4_096),
@@ -23,9 +23,9 @@ fn numbers_out_of_range(rt: HostRuntime) -> Result<(), Fail> {
         ("cores 2\nrounds 1\nthread 1 core 2 round 1 forever\n", 3, 1),
         ("cores 1\nrounds 1\nthread 1 core 1 round 1 forever\n", 3, 0),
         (
-            "cores 32\nrounds 1\nthread 1 core 32 round 1 forever\n",
+            "cores 64\nrounds 1\nthread 1 core 64 round 1 forever\n",
             3,
-            31,
+            63,
         ),
         ("cores 2\nrounds 1\nthread 1 core 0 round 0 forever\n", 3, 1),
         (

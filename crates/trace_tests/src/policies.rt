@@ -39,6 +39,7 @@ pub(crate) fn policy(alloc: Global, load: Load, declared: &[Declared]) -> Result
         filter: Cond::Always,
         choose: Order::from_vec(Vec::new(alloc)),
         steal: Order::from_vec(Vec::new(alloc)),
+        batch: None,
     })
 }
 

@@ -27,8 +27,8 @@ fn printed_texts(rt: HostRuntime) -> Result<(), Fail> {
     let texts = [
         ("cores 2\nrounds 1", "cores 2\nrounds 1\n"),
         (
-            "# x\n\tcores \t0032 \r\n\r\n  rounds  00  \n#",
-            "cores 32\nrounds 0\n",
+            "# x\n\tcores \t0064 \r\n\r\n  rounds  00  \n#",
+            "cores 64\nrounds 0\n",
         ),
         (
             "cores 1\n#\nrounds 4096\n \n# run\nentries 0065536\n",
@@ -78,11 +78,11 @@ fn printed_texts(rt: HostRuntime) -> Result<(), Fail> {
 #[test]
 fn longest_lines(rt: HostRuntime) -> Result<(), Fail> {
     let alloc = rt.alloc();
-    let mut text = String::from_str(alloc, "cores 32\nrounds 4096\norder 4096")?;
+    let mut text = String::from_str(alloc, "cores 64\nrounds 4096\norder 4096")?;
     for _core in 0..256 {
-        text.push_str(" 31")?;
+        text.push_str(" 63")?;
     }
-    text.push_str("\nthread 1023 core 31 round 4096 weight 1048575")?;
+    text.push_str("\nthread 1023 core 63 round 4096 weight 1048575")?;
     for _burst in 0..15 {
         text.push_str(" run 1048575 block 4096")?;
     }

@@ -10,7 +10,7 @@ ghost use Rattle.turn_tests.specs.Memory.{IsReady, fresh_of, history_of, plan_of
 use crate::memory_calls::MemoryCalls;
 use policy_eval::CoreValues;
 use round_model::{History, Plan, round_start};
-use sched_base::{CoreId, MAX_ATTRIBUTES, MAX_CORES, Pos, Reads};
+use sched_base::{CoreId, MAX_CORES, Pos, Reads};
 
 /// One past the last of the entries that touches the core, and 0 where none does.
 fn touched(history: &History, core: CoreId) -> Pos
@@ -46,7 +46,7 @@ impl MemoryCalls<'_> {
         ensures known { IsKnown (view_of self.now) }
         ensures read { AreGlanced (view_of self.now) reads.now result }
     {
-        let mut values = [NO_VALUES; MAX_CORES];
+        let mut values = [CoreValues::NONE; MAX_CORES];
         for core in 0..self.plan.cores {
             let seen = self.past.seen_at(core, reads.get(core));
             values[core as usize] = CoreValues {
@@ -58,10 +58,3 @@ impl MemoryCalls<'_> {
         values
     }
 }
-
-/// What is known of a core that isn't there.
-const NO_VALUES: CoreValues = CoreValues {
-    nr: 0,
-    load: 0,
-    consts: [0; MAX_ATTRIBUTES],
-};

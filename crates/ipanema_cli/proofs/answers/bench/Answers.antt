@@ -11,6 +11,7 @@ use Rattle.policy_checker.specs.declared.verdict.CheckFault.{CheckFault}
 use Rattle.policy_checker.specs.declared.verdict.CheckFault.TheVariants.{Cases}
 use Rattle.fair_policy.proofs.FairResolved.{fair_resolved}
 use Rattle.ipanema_cli.proofs.BenchTruths.{few_cases, sized}
+use Rattle.ipanema_cli.proofs.Failing.{if_failed}
 use Rattle.ipanema_cli.proofs.answers.bench.Goals as goal
 
 pub check_policy-requires : goal.check_policy-requires
@@ -30,3 +31,6 @@ unreachable-requires c =
     let none = ap (λ (p : Meaning). first_crowded p ob_names) c.in_ok-policy.ensures.meaning ∙ few_cases in
     let clash = sym none ∙ first in
     absurd (cc)
+
+pub returns-in_err-play_bench-in-Ok-Accepted-clause-memory : goal.returns-in_err-play_bench-in-Ok-Accepted-clause-memory
+returns-in_err-play_bench-in-Ok-Accepted-clause-memory c = if_failed _ c.from_residual-in_err-play_bench-in-Ok-Accepted.result c.from_residual-in_err-play_bench-in-Ok-Accepted.ensures.1

@@ -1,6 +1,6 @@
 use Rattle.std.proofs.Common.{sym}
-use Rattle.policy_tree.specs.declared.syntax.Syntax.{Syntax}
-use Rattle.policy_tree.specs.SyntaxTrees.{syntax_tree}
+use Rattle.policy_syntax.specs.declared.syntax.Syntax.{Syntax}
+use Rattle.policy_syntax.specs.SyntaxTrees.{syntax_tree}
 use Rattle.language_tests.proofs.AgainLemmas.{is-within, lexed, parsed}
 use Rattle.language_tests.proofs.reading_again.read_again.Goals as goal
 

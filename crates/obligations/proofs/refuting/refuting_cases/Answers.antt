@@ -3,17 +3,20 @@ use Rattle.std.specs.List.{AllByRecursion}
 use Rattle.policy_tree.specs.Meaning.{CaseTree, case_tree, cases_on, meaning_of}
 use Rattle.policy_eval.specs.Forms.{EachSide, IsLinear}
 use Rattle.obligations.specs.Tallies.{guards_of}
-use Rattle.obligations.proofs.Linear.{filter-linear, guards-linear}
+use Rattle.obligations.proofs.Linear.{filter-linear, further-linear, guards-linear}
 use Rattle.obligations.proofs.refuting.refuting_cases.Goals as goal
 
-pub with_filter-requires-clause-filter : goal.with_filter-requires-clause-filter
-with_filter-requires-clause-filter c = filter-linear (meaning_of c.args.policy.now) c.requires
+pub with_condition-requires-clause-condition : goal.with_condition-requires-clause-condition
+with_condition-requires-clause-condition c = filter-linear (meaning_of c.args.policy.now) c.requires
 
-pub with_filter-requires-in-VictimIsOverloaded-clause-filter : goal.with_filter-requires-in-VictimIsOverloaded-clause-filter
-with_filter-requires-in-VictimIsOverloaded-clause-filter c = filter-linear (meaning_of c.args.policy.now) c.requires
+pub with_condition-requires-in-VictimIsOverloaded-clause-condition : goal.with_condition-requires-in-VictimIsOverloaded-clause-condition
+with_condition-requires-in-VictimIsOverloaded-clause-condition c = filter-linear (meaning_of c.args.policy.now) c.requires
 
-pub with_filter-requires-in-MoveNarrowsGap-clause-filter : goal.with_filter-requires-in-MoveNarrowsGap-clause-filter
-with_filter-requires-in-MoveNarrowsGap-clause-filter c = filter-linear (meaning_of c.args.policy.now) c.requires
+pub with_condition-requires-in-MoveNarrowsGap-clause-condition : goal.with_condition-requires-in-MoveNarrowsGap-clause-condition
+with_condition-requires-in-MoveNarrowsGap-clause-condition c = filter-linear (meaning_of c.args.policy.now) c.requires
+
+pub further_cases-requires-clause-batch : goal.further_cases-requires-clause-batch
+further_cases-requires-clause-batch c = let p = meaning_of c.args.policy.now in further-linear p c.requires p.batch c.requires.batch
 
 pub overlap_cases-requires-clause-linear : goal.overlap_cases-requires-clause-linear
 overlap_cases-requires-clause-linear c =

@@ -2,6 +2,11 @@ use Rattle.std.proofs.Common.{ap, arith}
 use Rattle.round_model.specs.declared.plan.Plan.{Plan}
 use Rattle.core_table.specs.Public.{view_of}
 use Rattle.parallel_play.specs.Playing.{merged_in}
+use mathlib.Core.List.{◌∷◌, []}
+use denote.Exit.{no}
+use denote.Param.{param}
+use denote.Param.Send.{IsSync, arg_send, param_send, sendable, shr_send}
+use Rattle.parallel_play.proofs.Crossing.{number_sync, plan_sync, policy_sync, seat_send, table_sync, tuple_send, turned_send}
 use Rattle.parallel_play.proofs.Seating.{played_more, played_none}
 use Rattle.parallel_play.proofs.turns.+fn-play_from-join+arg3+play_from.Goals as goal
 
@@ -9,6 +14,15 @@ pub returns-then-core-cores-clause-played : goal.returns-then-core-cores-clause-
 returns-then-core-cores-clause-played g t c =
     let cores = ap (λ (p : Plan). p.cores) c.requires.seat.opening.plan in let count = c.cores.ensures in let high = c.if-core-cores.true in
     played_none c.args.core c.args.tally (view_of c.args.seat) (omega arith) c.requires.idle (let small = c.args.tally.small in omega arith)
+
+pub join-own-requires-send-F : goal.join-own-requires-send-F
+join-own-requires-send-F g t c κs within =
+    let runs : IsSync (param 0 g.row.R) = search sendable depth 4 in let gates : IsSync (param 1 g.row.G) = search sendable depth 4 in
+    param_send 1 _ (arg_send _ no _ (tuple_send _ (_ ∷ _ ∷ _ ∷ _ ∷ _ ∷ _ ∷ _ ∷ _ ∷ [])
+    (shr_send _ _ _ runs, (shr_send _ _ _ table_sync, (shr_send _ _ _ policy_sync, (shr_send _ _ _ plan_sync, (shr_send _ _ _ number_sync, (shr_send _ _ _ gates, (seat_send, (shr_send _ _ _ number_sync, tt))))))))))
+
+pub join-own-requires-send-A : goal.join-own-requires-send-A
+join-own-requires-send-A g t c κs within = param_send 3 _ (arg_send _ no _ (tuple_send _ (_ ∷ _ ∷ []) (seat_send, (turned_send, tt))))
 
 pub take_back-requires-clause-seat : goal.take_back-requires-clause-seat
 take_back-requires-clause-seat g t c = c.join-own.ensures.second.0

@@ -1,5 +1,5 @@
 use Rattle.std.proofs.Common.{◌≡◌, ◌∙◌, List, ℕ, codes, sym, subst}
-use Rattle.policy_tree.specs.SyntaxTrees.{syntax_tree}
+use Rattle.policy_syntax.specs.SyntaxTrees.{syntax_tree}
 use Rattle.policy_printer.specs.Printed.{printed, IsTextOf}
 use Rattle.policy_printer.proofs.AddsLemmas.{◌⊳◌, whole, reads_as}
 use Rattle.policy_printer.proofs.ReadAgain.{printed-again}

@@ -2,7 +2,7 @@
 use Rattle.std.proofs.Common.{sym, subst}
 use Rattle.std.proofs.lemmas.Result.{err_from_is_err_and}
 use Rattle.policy_lexer.specs.Tokens.{SpellsTokens}
-use Rattle.policy_tree.specs.SyntaxTrees.{syntax_tree}
+use Rattle.policy_syntax.specs.SyntaxTrees.{syntax_tree}
 use Rattle.policy_reader.specs.Spelled.{SpellsSyntax}
 use Rattle.policy_reader.proofs.Answered.{of_grammar, told_of_tokens, told_of_syntax, told_of_policy}
 use Rattle.policy_reader.proofs.reading.read.Goals as goal

@@ -1,5 +1,5 @@
 -- A syntax without fault is a resolved policy, and the first fault has the least token.
-use Rattle.policy_tree.specs.SyntaxTrees.{syntax_tree}
+use Rattle.policy_syntax.specs.SyntaxTrees.{syntax_tree}
 use Rattle.policy_types.proofs.SoundPolicies.{answer_resolved}
 use Rattle.policy_types.proofs.WalkPolicies.{answer_least}
 use Rattle.policy_types.proofs.resolution.resolve.Goals as goal

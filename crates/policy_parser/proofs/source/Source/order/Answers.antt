@@ -1,6 +1,6 @@
 use Rattle.std.proofs.Common.{◌∷◌, ◌∙◌, ◌+◌, ◌++◌, List, [], sym, ap, subst, arith}
 use Rattle.std.proofs.lemmas.Result.{err_from_is_err_and}
-use Rattle.policy_tree.specs.declared.syntax.KeySyntax.{KeySyntax}
+use Rattle.policy_syntax.specs.declared.syntax.KeySyntax.{KeySyntax}
 use Rattle.policy_grammar.specs.Expressions.{IsOrder, order_first}
 use Rattle.policy_parser.proofs.Moves.{yes, isnt, passes, order-first, order-key, keys-goes, keys-over}
 use Rattle.policy_parser.proofs.Chains.{keyed-one, keyed-snoc, keyed-order}

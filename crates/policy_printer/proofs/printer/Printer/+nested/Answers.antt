@@ -1,6 +1,6 @@
 use Rattle.std.proofs.Common.{◌≡◌, ◌∙◌, List, [], ◌∷◌, ℕ, codes, refl, sym, ap, subst, arith}
-use Rattle.policy_tree.specs.SyntaxTrees.{grouped, condition_tree, condition_trees}
-use Rattle.policy_tree.proofs.Rows.{and_tree, or_tree}
+use Rattle.policy_syntax.specs.SyntaxTrees.{grouped, condition_tree, condition_trees}
+use Rattle.policy_syntax.proofs.Rows.{and_tree, or_tree}
 use Rattle.policy_printer.specs.Adds.{Adds}
 use Rattle.policy_printer.specs.ExpressionTexts.{expr_texts}
 use Rattle.policy_printer.specs.ConditionTexts.{condition_texts, parts_texts}

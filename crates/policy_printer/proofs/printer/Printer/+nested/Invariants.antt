@@ -1,7 +1,7 @@
 -- The parts so far; each part has fewer nodes than the chain.
 use Rattle.std.proofs.Common.{◌+◌, ◌*◌, take}
 use Rattle.std.specs.List.{flat_map}
-use Rattle.policy_tree.specs.SyntaxTrees.{condition_tree, condition_trees}
+use Rattle.policy_syntax.specs.SyntaxTrees.{condition_tree, condition_trees}
 use Rattle.policy_printer.specs.Adds.{Adds}
 use Rattle.policy_printer.proofs.Nodes.{nodes, nodes_of, part_texts}
 use Rattle.policy_printer.proofs.printer.Printer.+nested.Given as goal

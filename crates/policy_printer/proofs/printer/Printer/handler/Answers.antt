@@ -1,5 +1,5 @@
 use Rattle.std.proofs.Common.{◌∷◌, [], codes}
-use Rattle.policy_tree.specs.SyntaxTrees.{case_syntax_tree}
+use Rattle.policy_syntax.specs.SyntaxTrees.{case_syntax_tree}
 use Rattle.policy_printer.specs.Adds.{Adds}
 use Rattle.policy_printer.specs.PolicyTexts.{case_texts}
 use Rattle.policy_printer.proofs.AddsLemmas.{◌⊳◌, one_more, all_trees, reads_as, on_ok}

@@ -1,7 +1,7 @@
 -- The tokens of the items so far.
 use Rattle.std.proofs.Common.{take}
 use Rattle.std.specs.List.{flat_map}
-use Rattle.policy_tree.specs.SyntaxTrees.{case_syntax_tree}
+use Rattle.policy_syntax.specs.SyntaxTrees.{case_syntax_tree}
 use Rattle.policy_printer.specs.Adds.{Adds}
 use Rattle.policy_printer.specs.PolicyTexts.{case_texts}
 use Rattle.policy_printer.proofs.printer.Printer.handler.Given as goal

@@ -1,5 +1,5 @@
 use Rattle.std.proofs.Common.{refl}
-use Rattle.policy_tree.specs.SyntaxTrees.{handler_syntax_tree}
+use Rattle.policy_syntax.specs.SyntaxTrees.{handler_syntax_tree}
 use Rattle.policy_printer.specs.PolicyTexts.{handler_texts}
 use Rattle.policy_printer.proofs.AddsLemmas.{one_more, all_trees}
 use Rattle.policy_printer.proofs.printer.Printer.handlers.Goals as goal

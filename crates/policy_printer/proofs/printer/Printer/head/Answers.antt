@@ -1,6 +1,6 @@
 use Rattle.std.proofs.Common.{ap, map}
 use Rattle.std.specs.List.{flat_map}
-use Rattle.policy_tree.specs.SyntaxTrees.{handler_syntax_tree}
+use Rattle.policy_syntax.specs.SyntaxTrees.{handler_syntax_tree}
 use Rattle.policy_printer.specs.Adds.{Adds}
 use Rattle.policy_printer.specs.PolicyTexts.{attr_texts, handler_texts}
 use Rattle.policy_printer.proofs.AddsLemmas.{◌⊳◌, same_texts, on_ok}

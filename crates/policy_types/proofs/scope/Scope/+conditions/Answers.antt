@@ -1,7 +1,7 @@
 -- The parts of a chain are those of its vector.
 use Rattle.std.proofs.Common.{ap, ◌∙◌}
-use Rattle.policy_tree.specs.SyntaxTrees.{condition_tree}
-use Rattle.policy_tree.proofs.Rows.{and_tree, or_tree}
+use Rattle.policy_syntax.specs.SyntaxTrees.{condition_tree}
+use Rattle.policy_syntax.proofs.Rows.{and_tree, or_tree}
 use Rattle.policy_types.proofs.scope.Scope.+conditions.Goals as goal
 
 pub condition-returns-in-And-clause-tree : goal.condition-returns-in-And-clause-tree

@@ -1,6 +1,6 @@
 -- The parts that are left, with the chain so far, are the whole chain, and break the same rules.
 use Rattle.std.proofs.Common.{◌≡◌, None, drop, option_map}
-use Rattle.policy_tree.specs.SyntaxTrees.{condition_trees}
+use Rattle.policy_syntax.specs.SyntaxTrees.{condition_trees}
 use Rattle.policy_tree.specs.Trees.{cond_tree}
 use Rattle.policy_types.specs.Conditions.{chain_meaning, parts_faults}
 use Rattle.policy_types.proofs.scope.Scope.+conditions.Given as goal

@@ -1,7 +1,7 @@
 -- The cases so far are read, and those that are left break the same rules.
 use Rattle.std.proofs.Common.{◌≡◌, drop, map, take, vec_len}
 use Rattle.policy_tree.specs.Meaning.{case_tree}
-use Rattle.policy_tree.specs.SyntaxTrees.{case_syntax_tree}
+use Rattle.policy_syntax.specs.SyntaxTrees.{case_syntax_tree}
 use Rattle.policy_types.specs.Handlers.{case_meaning, cases_faults}
 use Rattle.policy_types.proofs.scope.Scope.cases.Given as goal
 

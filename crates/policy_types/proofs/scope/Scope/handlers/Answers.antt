@@ -1,10 +1,10 @@
 -- A handler more, and no handler left.
 use Rattle.std.proofs.lemmas.List.{drop_all}
 use Rattle.std.proofs.Common.{sym, ap, ◌∙◌, arith, map, drop, subst, ◌+◌, List, Some, if◌then◌else◌}
-use Rattle.policy_tree.specs.declared.syntax.HandlerSyntax.{HandlerSyntax}
-use Rattle.policy_tree.specs.declared.syntax.CaseSyntax.{CaseSyntax}
+use Rattle.policy_syntax.specs.declared.syntax.HandlerSyntax.{HandlerSyntax}
+use Rattle.policy_syntax.specs.declared.syntax.CaseSyntax.{CaseSyntax}
 use Rattle.policy_tree.specs.Meaning.{CaseTree}
-use Rattle.policy_tree.specs.SyntaxTrees.{HandlerSyntaxTree, case_syntax_tree, handler_syntax_tree}
+use Rattle.policy_syntax.specs.SyntaxTrees.{HandlerSyntaxTree, case_syntax_tree, handler_syntax_tree}
 use Rattle.policy_types.specs.Given.{given_cases}
 use Rattle.policy_types.specs.Handlers.{case_meaning, cases_faults, same_event}
 use Rattle.policy_types.proofs.Firsts.{drop_item}

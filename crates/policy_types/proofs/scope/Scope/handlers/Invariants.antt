@@ -1,6 +1,6 @@
 -- What was given, and the handlers that are left.
 use Rattle.std.proofs.Common.{drop, map}
-use Rattle.policy_tree.specs.SyntaxTrees.{handler_syntax_tree}
+use Rattle.policy_syntax.specs.SyntaxTrees.{handler_syntax_tree}
 use Rattle.policy_types.proofs.HandlersRead.{IsGivenTo}
 use Rattle.policy_types.proofs.scope.Scope.handlers.Given as goal
 

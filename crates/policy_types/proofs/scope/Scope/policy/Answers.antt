@@ -1,8 +1,8 @@
 -- The first fault of the filter, or of the choice, is that of the policy: what stands before it breaks no rule.
 use Rattle.std.proofs.Common.{[], ◌∙◌, List, ap, map, sym}
 use Rattle.std.proofs.lemmas.Result.{err_from_is_err_and}
-use Rattle.policy_tree.specs.declared.syntax.HandlerSyntax.{HandlerSyntax}
-use Rattle.policy_tree.specs.SyntaxTrees.{handler_syntax_tree, syntax_tree}
+use Rattle.policy_syntax.specs.declared.syntax.HandlerSyntax.{HandlerSyntax}
+use Rattle.policy_syntax.specs.SyntaxTrees.{handler_syntax_tree, syntax_tree}
 use Rattle.policy_types.specs.declared.sites.Site.TheVariants.{Choose, Filter, Steal}
 use Rattle.policy_types.specs.Conditions.{condition_faults, elect_faults, order_faults}
 use Rattle.policy_types.specs.Handlers.{handlers_faults}

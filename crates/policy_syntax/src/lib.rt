@@ -1,0 +1,10 @@
+//! The syntax of a policy's text: what a parser reads, a printer spells, and names are resolved in.
+#![tactic(auto)]
+
+mod syntax;
+
+pub use syntax::{
+    AddedSyntax, AttrSyntax, CaseSyntax, ConditionSyntax, ElectSyntax, ExprSyntax, FactorSyntax,
+    HandlerSyntax, IntSyntax, KeySyntax, LoadSyntax, OperandSyntax, OrderSyntax, Owner,
+    PlaceSyntax, RangeSyntax, SetSyntax, Syntax, TermSyntax, TimesSyntax,
+};

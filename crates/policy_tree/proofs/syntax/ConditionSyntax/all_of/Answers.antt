@@ -1,5 +1,0 @@
-use Rattle.policy_tree.proofs.Rows.{and_tree}
-use Rattle.policy_tree.proofs.syntax.ConditionSyntax.all_of.Goals as goal
-
-pub returns : goal.returns
-returns c = and_tree c.args.at c.args.parts

@@ -1,5 +1,0 @@
-use Rattle.policy_tree.proofs.Rows.{or_tree}
-use Rattle.policy_tree.proofs.syntax.ConditionSyntax.any_of.Goals as goal
-
-pub returns : goal.returns
-returns c = or_tree c.args.at c.args.parts
