@@ -23,7 +23,7 @@ use Rattle.steal_phase.proofs.Added.{added_one, added_two}
 use Rattle.steal_phase.proofs.Drawn.{agrees_before}
 use Rattle.core_calls.specs.Code.Finishes.{Finished, Glimpsed}
 use Rattle.core_calls.specs.Code.Wakes.{WokenBy}
-use Rattle.core_calls.specs.Steps.{Adds, HasLetAllIn, HasNoneDue, IsNext, MayWake, Woken}
+use Rattle.core_calls.specs.Steps.{Adds, HasLetAllIn, HasNoneDue, IsNext, MayWake, ReadsAtMost, Woken}
 
 -- what a seat knew before it held a core
 module _ (v : View) (free : v.held ≡ []) where
@@ -145,10 +145,10 @@ woke_behind a reads v w g of_core (Some at) now woke = record {
 }
 
 -- and the reads were made for it
-pub woke_late : (a : ℕ) (reads : List ℕ) (v : View) → AreLate v reads → (result : Option ℕ) (now : View) → MatchOption result (HasNoneDue a v now) (λ at. WokenBy a reads at v now)
+pub woke_late : (a : ℕ) (reads : List ℕ) (v : View) → AreLate v reads → (result : Option ℕ) (now : View) → ReadsAtMost 5 v now reads → MatchOption result (HasNoneDue a v now) (λ at. WokenBy a reads at v now)
     → MatchOption result (HasNoneDue a v now) (λ at. Woken a at v now)
-woke_late a reads v late None now none = none
-woke_late a reads v late (Some at) now woke = record { thread = woke.thread; to = woke.to; reads = reads; late = late; adds = woke.adds }
+woke_late a reads v late None now all none = none
+woke_late a reads v late (Some at) now all woke = record { thread = woke.thread; to = woke.to; reads = reads; late = late; all = all; adds = woke.adds }
 
 each_behind : {X : Type 0} (P : X → Type 0) (xs ys : List X) → Each P (xs ++ ys) → Each P ys
 each_behind P [] ys all = all
@@ -159,3 +159,29 @@ pub late_behind : (a : ℕ) (reads : List ℕ) (v w : View) → Glimpsed a v w �
 late_behind a reads v w g late =
     each_behind (λ x. x.core < length reads → x.at ≤ slice_index reads x.core) g.more v.notes
     (subst (Each (λ x. x.core < length reads → x.at ≤ slice_index reads x.core)) (ap (λ (x : View). x.notes) g.rest) late)
+
+-- How many notes come. A core that is held is noted
+pub held_count : (c : ℕ) (y : CoreView) (v : View) → c < v.plan.cores → length (holding c y v).notes ≡ suc (length v.notes)
+held_count c y v low = ap length (notes_held c y v low)
+
+-- and once it is let go
+pub glimpsed_count : (c : ℕ) (y : CoreView) (v now : View) → c < v.plan.cores → now ≡ giving (holding c y v) → length now.notes ≡ suc (length v.notes)
+glimpsed_count c y v now low is = ap (λ (t : View). length t.notes) is ∙ held_count c y v low
+
+pub two_held_count : (b c : ℕ) (y z : CoreView) (v : View) → b < v.plan.cores → c < v.plan.cores → length (holding c z (holding b y v)).notes ≡ suc (suc (length v.notes))
+two_held_count b c y z v low high = held_count c z (holding b y v) high ∙ ap suc (held_count b y v low)
+
+pub two_glimpsed_count : (b c : ℕ) (y z : CoreView) (v now : View) → b < v.plan.cores → c < v.plan.cores → now ≡ giving (giving (holding c z (holding b y v))) → length now.notes ≡ suc (suc (length v.notes))
+two_glimpsed_count b c y z v now low high is = ap (λ (t : View). length t.notes) is ∙ two_held_count b c y z v low high
+
+-- its word is noted as it is written
+pub finished_count : (c : ℕ) (y : CoreView) (v w now : View) → c < v.plan.cores → w ≡ holding c y v → (e : Entry) (b at : ℕ) → Finished e b at w now → length now.notes ≡ suc (suc (length v.notes))
+finished_count c y v w now low is e b at f =
+    ap (λ (t : View). length t.notes) (f.given ∙ ap (λ (t : View). giving (publishing b f.state t)) f.draws.view)
+    ∙ (ap (λ (t : View). suc (length t.notes)) is ∙ ap suc (held_count c y v low))
+
+pub two_finished_count : (b c : ℕ) (y z : CoreView) (v w u x now : View) → b < v.plan.cores → c < v.plan.cores → w ≡ holding c z (holding b y v) → (e : Entry) (at : ℕ) → Draws e w at u → (k l : ℕ) (y_now z_now : CoreView)
+    → x ≡ publishing l z_now (publishing k y_now u) → now ≡ giving (giving x) → length now.notes ≡ suc (suc (suc (suc (length v.notes))))
+two_finished_count b c y z v w u x now low high is e at drawn k l y_now z_now shown given =
+    ap (λ (t : View). length t.notes) (given ∙ ap (λ (t : View). giving (giving t)) (shown ∙ ap (λ (t : View). publishing l z_now (publishing k y_now t)) drawn.view))
+    ∙ (ap (λ (t : View). suc (suc (length t.notes))) is ∙ ap (λ n. suc (suc n)) (two_held_count b c y z v low high))

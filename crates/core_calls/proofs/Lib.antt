@@ -8,3 +8,4 @@ pub mod Sending
 pub mod Turning
 pub mod Arrivals
 pub mod TurnEnds
+pub mod Crossing

@@ -76,6 +76,7 @@ module _ (a n : ℕ) (v w x : View) (s : HasDrawn a n v w) (did : Did) (work : W
     first = subst (λ (u : View). IsFalse (has_attempted (own_entries_in u))) (sym l.read.is) none_tried;
     free = ap (λ (u : View). u.held) l.read.is ∙ work.adds.added.free;
     looked = l.looked;
+    last = l.last;
   }
 
   -- the look read, and the attempt was drawn

@@ -1,5 +1,5 @@
 -- The steps of a core with its own threads: what each needs, and what comes of it.
-use Rattle.std.specs.Prelude.{◌≡◌, ℕ, List, [], ◌∷◌, ◌++◌, length, true, IsFalse, IsNone, IsSomeAnd}
+use Rattle.std.specs.Prelude.{◌≡◌, ℕ, ◌+◌, ◌<◌, ◌≤◌, List, [], ◌∷◌, ◌++◌, length, true, IsFalse, IsNone, IsSomeAnd}
 use Rattle.round_model.specs.declared.entry.Did.{Did}
 use Rattle.round_model.specs.declared.entry.Entry.{Entry}
 use Rattle.round_model.specs.declared.entry.Entry.TheVariants as entry
@@ -51,19 +51,28 @@ pub record Adds (core at : ℕ) (e : Entry) (before now : View) : Type 0 where
   pub added : HasAdded core at e before now
   pub next : IsNext at e before
 
--- the thread entered by the core, and was placed by these reads, none earlier than it knew its core
+-- where a placement looks, no more was read than this. Beside it so many notes may come, by holds and by words written
+abbrev pub ReadsAtMost : (others : ℕ) → (before now : View) → List ℕ → Type 0
+ReadsAtMost others before now reads = 0 < length reads →
+    length now.notes ≤ length reads + others + length before.notes
+
+-- the thread entered by the core, and was placed by these reads, none earlier than it knew its core. One core was held
+-- and shown
 pub record Entered (core thread at : ℕ) (before now : View) : Type 0 where
   pub to : ℕ
   pub reads : List ℕ
   pub late : AreLate before reads
+  pub all : ReadsAtMost 2 before now reads
   pub adds : Adds core at (entry.Enter thread core to reads) before now
 
--- a thread of the core woke, and was placed by these reads, none earlier than it knew its core
+-- a thread of the core woke, and was placed by these reads, none earlier than it knew its core. The core was held to
+-- see who is due, and at most two cores were held and shown
 pub record Woken (core at : ℕ) (before now : View) : Type 0 where
   pub thread : ℕ
   pub to : ℕ
   pub reads : List ℕ
   pub late : AreLate before reads
+  pub all : ReadsAtMost 5 before now reads
   pub adds : Adds core at (entry.Wake thread core to reads) before now
 
 -- the core ran its unit, of which this is said

@@ -6,6 +6,7 @@ ghost use Rattle.core_table.specs.Public.{IsOf, plan_of, policy_of, view_of};
 ghost use Rattle.select_phase.specs.Seen.{Placed};
 ghost use Rattle.steal_phase.specs.Taking.{AreTwo};
 ghost use Rattle.core_calls.specs.Actors.{core_of, table_of};
+ghost use Rattle.core_calls.specs.Code.Finishes.{HasFewMore};
 ghost use Rattle.core_calls.specs.Code.Sends.{Sends};
 ghost use Rattle.core_calls.specs.Code.Wakes.{WokenBy};
 ghost use Rattle.core_calls.specs.Steps.{HasNoneDue, MayWake};
@@ -34,6 +35,7 @@ impl Actor<'_> {
         ensures seat { IsOf (table_of self.now) seat.new }
         ensures woken { MatchOption result (HasNoneDue (core_of self.now) (view_of seat.old) (view_of seat.new))
             (λ at. WokenBy (core_of self.now) reads at (view_of seat.old) (view_of seat.new)) }
+        ensures few { HasFewMore 4 (view_of seat.old) (view_of seat.new) }
     {
         let mut held = self.table.hold_two(rt, seat, self.core, at);
         let Some(thread) = self.send_between(&mut held, round) else {

@@ -5,7 +5,7 @@ ghost use Rattle.core_table.specs.Public.{IsOf, view_of};
 ghost use Rattle.core_table.specs.Told.{IsSeatOf};
 ghost use Rattle.select_phase.specs.Seen.{Placed};
 ghost use Rattle.core_calls.specs.Actors.{core_of, table_of};
-ghost use Rattle.core_calls.specs.Code.Finishes.{Glimpsed};
+ghost use Rattle.core_calls.specs.Code.Finishes.{Glimpsed, HasFewMore};
 ghost use Rattle.core_calls.specs.Code.Wakes.{WokenBy};
 ghost use Rattle.core_calls.specs.Steps.{HasNoneDue, MayWake, Woken};
 
@@ -47,6 +47,7 @@ impl Actor<'_> {
         requires round { round ≡ (view_of seat.old).round }
         ensures seat { IsOf (table_of self.now) seat.new }
         ensures same { Glimpsed (core_of self.now) (view_of seat.old) (view_of seat.new) }
+        ensures few { HasFewMore 1 (view_of seat.old) (view_of seat.new) }
         ensures none { IsFalse result → HasNoneDue (core_of self.now) (view_of seat.old) (view_of seat.new) }
     {
         let held = self.table.hold(rt, seat, self.core);
@@ -64,6 +65,7 @@ impl Actor<'_> {
         ensures seat { IsOf (table_of self.now) seat.new }
         ensures woken { MatchOption result (HasNoneDue (core_of self.now) (view_of seat.old) (view_of seat.new))
             (λ at. WokenBy (core_of self.now) reads at (view_of seat.old) (view_of seat.new)) }
+        ensures few { HasFewMore 4 (view_of seat.old) (view_of seat.new) }
     {
         let mut held = self.table.hold(rt, seat, self.core);
         let Some(thread) = held.state.due(round) else {

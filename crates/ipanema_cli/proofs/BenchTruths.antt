@@ -17,7 +17,7 @@ use Rattle.bench_play.specs.Bench.{IsSize}
 use Rattle.command_words.specs.Numbers.{is_size}
 use Rattle.ipanema_cli.specs.Answers.{AnswersBench}
 use Rattle.ipanema_cli.specs.Ends.{Writes}
-use Rattle.ipanema_cli.specs.Truths.{BenchesTruly}
+use Rattle.ipanema_cli.specs.BenchTruths.{BenchesTruly}
 use Rattle.ipanema_cli.specs.declared.answers.Answer.{Answer}
 use Rattle.ipanema_cli.specs.declared.answers.Answer.TheVariants as answer
 use Rattle.ipanema_cli.proofs.CheckTruths.{Stopped, at_4, at_5, at_6}
@@ -67,6 +67,7 @@ benches seed size before after code (answer.Checked (checked.Judged (verdict.Und
     benches = λ h. absurd (omega (arith, e, h));
     lines = λ h. record {
       verdict = verdict.Undecided answers kept;
+      of = is.2;
       reasons = is.0;
       words = told_truly fair_meaning (verdict.Undecided answers kept) fair_resolved is.0;
       written = whole _ _ _ _ writes (λ five. omega (arith, five, h));

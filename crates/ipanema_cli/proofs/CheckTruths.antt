@@ -22,7 +22,7 @@ use Rattle.ipanema_cli.specs.Causes.{OneOf}
 use Rattle.ipanema_cli.specs.Ends.{Writes}
 use Rattle.ipanema_cli.specs.Status.{check_status, code_of, refusal_status, verdict_status}
 use Rattle.ipanema_cli.specs.Texts.{MayBeLong, MayRead}
-use Rattle.ipanema_cli.specs.Truths.{AcceptedPolicy, AnswersFor, ChecksTruly, Decides, Holds, Refuses, TellsFault}
+use Rattle.ipanema_cli.specs.CheckTruths.{AcceptedPolicy, AnswersFor, ChecksTruly, Decides, Holds, Refuses, TellsFault}
 use Rattle.ipanema_cli.specs.declared.answers.Answer.{Answer}
 use Rattle.ipanema_cli.specs.declared.answers.Answer.TheVariants as answer
 use Rattle.ipanema_cli.specs.declared.texts.TextKind.{TextKind}
@@ -77,6 +77,7 @@ verdict_answers policy text v before after code read is own added = record {
   p = meaning_of (policy_of v);
   verdict = v;
   spelled = (text, read, is.spells);
+  of = refl;
   reasons = is.is;
   words = told_truly (meaning_of (policy_of v)) v (resolved policy text (meaning_of (policy_of v)) read is.spells) is.is;
   written = added;

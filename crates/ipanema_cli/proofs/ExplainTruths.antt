@@ -28,7 +28,7 @@ use Rattle.ipanema_cli.specs.Causes.{OneOf}
 use Rattle.ipanema_cli.specs.Ends.{Writes}
 use Rattle.ipanema_cli.specs.Status.{code_of, explain_status, outcome_status}
 use Rattle.ipanema_cli.specs.Texts.{MayBeLong, MayRead}
-use Rattle.ipanema_cli.specs.Truths.{ExplainsTruly, ShowsFailure}
+use Rattle.ipanema_cli.specs.ExplainTruths.{ExplainsTruly, ShowsFailure}
 use Rattle.ipanema_cli.specs.declared.answers.Answer.{Answer}
 use Rattle.ipanema_cli.specs.declared.answers.Answer.TheVariants as answer
 use Rattle.ipanema_cli.specs.declared.texts.TextKind.TheVariants as kind

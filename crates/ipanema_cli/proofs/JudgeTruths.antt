@@ -37,7 +37,9 @@ use Rattle.ipanema_cli.specs.Answers.{AnswersJudging, IsAccepted, JudgesTexts, J
 use Rattle.ipanema_cli.specs.Ends.{Writes}
 use Rattle.ipanema_cli.specs.Status.{check_status, code_of, history_refusal_status, history_status, refusal_status, verdict_status}
 use Rattle.ipanema_cli.specs.Texts.{MayRead}
-use Rattle.ipanema_cli.specs.Truths.{Decides, DoHoldAll, Holds, JudgesTruly, MayJudge, MustJudge, Refuses, SaysReport, SaysWhole, Spells, TellsWhy, illegal, short}
+use Rattle.ipanema_cli.specs.CheckTruths.{Decides, Holds, Refuses, Spells}
+use Rattle.ipanema_cli.specs.JudgeTruths.{DoHoldAll, JudgesTruly, MayJudge, MustJudge, SaysReport, SaysWhole, TellsWhy}
+use Rattle.ipanema_cli.specs.JudgeTruths.{illegal, short}
 use Rattle.ipanema_cli.specs.declared.answers.Answer.{Answer}
 use Rattle.ipanema_cli.specs.declared.answers.Answer.TheVariants as answer
 use Rattle.ipanema_cli.specs.declared.texts.TextKind.TheVariants as kind

@@ -15,7 +15,7 @@ use Rattle.trace_printer.specs.Printed.{renumbered, trace_text}
 use Rattle.trace_printer.proofs.ReadAgain.{read-again}
 use Rattle.ipanema_cli.specs.Answers.{AnswersMake}
 use Rattle.ipanema_cli.specs.Ends.{Writes}
-use Rattle.ipanema_cli.specs.Truths.{MakesTruly}
+use Rattle.ipanema_cli.specs.MakeTruths.{MakesTruly}
 use Rattle.ipanema_cli.specs.declared.answers.Answer.{Answer}
 use Rattle.ipanema_cli.specs.declared.answers.Answer.TheVariants as answer
 use Rattle.ipanema_cli.proofs.CheckTruths.{Stopped, at_4, at_5, at_6}

@@ -26,7 +26,7 @@ use Rattle.policy_check.specs.declared.reading.Refusal.{Refusal}
 use Rattle.policy_check.specs.declared.reading.Refusal.TheVariants as refusal
 use Rattle.ipanema_cli.specs.Status.{check_status, code_of, refusal_status, verdict_status}
 use Rattle.ipanema_cli.specs.Texts.{MayRead}
-use Rattle.ipanema_cli.specs.Truths.{AllToldTruly, Decides, Holds, IsToldTruly, Refuses, SomeIsOpen, Spells}
+use Rattle.ipanema_cli.specs.CheckTruths.{AllToldTruly, Decides, Holds, IsToldTruly, Refuses, SomeIsOpen, Spells}
 use Rattle.ipanema_cli.specs.declared.texts.TextKind.{TextKind}
 use Rattle.ipanema_cli.specs.declared.texts.TextKind.TheVariants as kind
 

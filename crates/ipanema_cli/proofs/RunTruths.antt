@@ -24,7 +24,7 @@ use Rattle.ipanema_cli.specs.Answers.{AnswersPlay, play_status}
 use Rattle.ipanema_cli.specs.Causes.{OneOf}
 use Rattle.ipanema_cli.specs.Ends.{Writes}
 use Rattle.ipanema_cli.specs.Status.{code_of}
-use Rattle.ipanema_cli.specs.Truths.{DoPlay, MustAnswer, MustRun, RunsTruly}
+use Rattle.ipanema_cli.specs.TraceTruths.{DoPlay, MustAnswer, MustRun, RunsTruly}
 use Rattle.ipanema_cli.specs.declared.answers.Answer.{Answer}
 use Rattle.ipanema_cli.proofs.CheckTruths.{Stopped}
 use Rattle.ipanema_cli.proofs.TraceTruths.{Read, broken_trace, held_play, may_play, others_played, same_plan, stopped_trace, traces_truly, weaker_0, weaker_8, weaker_both}

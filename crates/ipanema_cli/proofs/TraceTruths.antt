@@ -39,7 +39,8 @@ use Rattle.ipanema_cli.specs.Causes.{OneOf}
 use Rattle.ipanema_cli.specs.Ends.{Writes}
 use Rattle.ipanema_cli.specs.Status.{check_status, code_of, refusal_status, verdict_status}
 use Rattle.ipanema_cli.specs.Texts.{MayRead}
-use Rattle.ipanema_cli.specs.Truths.{Decides, DoHold, DoPlay, Holds, MayPlay, MustAnswer, Refuses, Spells, TracesTruly}
+use Rattle.ipanema_cli.specs.CheckTruths.{Decides, Holds, Refuses, Spells}
+use Rattle.ipanema_cli.specs.TraceTruths.{DoHold, DoPlay, MayPlay, MustAnswer, TracesTruly}
 use Rattle.ipanema_cli.specs.declared.answers.Answer.{Answer}
 use Rattle.ipanema_cli.specs.declared.answers.Answer.TheVariants as answer
 use Rattle.ipanema_cli.specs.declared.texts.TextKind.TheVariants as kind

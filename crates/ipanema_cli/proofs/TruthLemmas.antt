@@ -1,12 +1,13 @@
 -- From what a call came to, and how it ends by that, to the truth of what it says.
-use Rattle.std.proofs.Common.{◌≡◌, ℕ, List, Option, Result, Ok, Err, IfErr, IfOk, Some, None, arith}
+use Rattle.std.proofs.Common.{◌≡◌, ◌≢◌, ℕ, List, Option, Result, Ok, Err, IfErr, IfOk, Some, None, arith, refl}
 use Rattle.sched_io.specs.Shown.{Shown}
 use Rattle.sched_io.specs.Told.{Told}
 use Rattle.command_words.specs.Command.{Asked, bench, check, explain, make, play, replay, report, run}
 use Rattle.ipanema_cli.specs.Answers.{IsGatedAnswer}
 use Rattle.ipanema_cli.specs.Ends.{Concludes, Writes}
 use Rattle.ipanema_cli.specs.Stops.{IsStop, IsUnread}
-use Rattle.ipanema_cli.specs.Truths.{IsTruthful, SaysReport, SaysWhole}
+use Rattle.ipanema_cli.specs.JudgeTruths.{SaysReport, SaysWhole}
+use Rattle.ipanema_cli.specs.Truths.{IsTruthful, NonePassed}
 use Rattle.ipanema_cli.specs.declared.answers.Answer.{Answer}
 use Rattle.ipanema_cli.specs.declared.answers.Answer.TheVariants as answer
 use Rattle.ipanema_cli.specs.declared.stop.Stop.{Stop}
@@ -19,6 +20,19 @@ use Rattle.ipanema_cli.proofs.JudgeTruths.{replays, reports, stopped_judge}
 use Rattle.ipanema_cli.proofs.MakeTruths.{makes, stopped_make}
 use Rattle.ipanema_cli.proofs.PlayTruths.{plays_truly, stopped_play}
 use Rattle.ipanema_cli.proofs.RunTruths.{runs_truly, stopped_run}
+
+-- what is no run says nothing of a gate
+pub passed_by_any : (Passed : ℕ → ℕ → Type 0) (asked : Option Asked) (told : List ℕ → Told) (before after : Option (List ℕ)) (code : ℕ) → ((policy trace : List ℕ) → asked ≢ Some (run policy trace))
+    → IsTruthful NonePassed asked told before after code → IsTruthful Passed asked told before after code
+passed_by_any Passed None told before after code other is = is
+passed_by_any Passed (Some (check policy)) told before after code other is = is
+passed_by_any Passed (Some (explain policy name)) told before after code other is = is
+passed_by_any Passed (Some (play policy trace)) told before after code other is = is
+passed_by_any Passed (Some (run policy trace)) told before after code other is = absurd (other policy trace refl)
+passed_by_any Passed (Some (replay policy trace history)) told before after code other is = is
+passed_by_any Passed (Some (report policy trace history)) told before after code other is = is
+passed_by_any Passed (Some (make seed size)) told before after code other is = is
+passed_by_any Passed (Some (bench seed size)) told before after code other is = is
 
 module _ (Passed : ℕ → ℕ → Type 0) where
   -- a stop says nothing, and no file is unread where the command has none

@@ -1,14 +1,14 @@
 -- What a command answers, and when that is its answer.
 use Rattle.std.specs.Prelude.{◌≡◌, ℕ, Bool, true, false, List, [], ◌∷◌, IsFalse, Ok, Option, Some, None, codes}
 use Rattle.sched_base.specs.declared.limits.TheConstants.{CHECK_BUDGET}
-use Rattle.policy_tree.specs.Meaning.{Meaning}
+use Rattle.policy_tree.specs.Meaning.{Meaning, meaning_of}
 use Rattle.policy_reader.specs.Spelled.{SpellsPolicy}
 use Rattle.job_trace.specs.declared.trace.Numbered.{Numbered}
 use Rattle.obligations.specs.declared.names.ObName.{ObName}
 use Rattle.obligations.specs.Counts.{first_crowded}
 use Rattle.obligations.specs.Names.{ob_names}
 use Rattle.policy_checker.specs.Certified.{IsCertified}
-use Rattle.policy_checker.specs.Verdicts.{IsVerdict}
+use Rattle.policy_checker.specs.Verdicts.{IsVerdict, policy_of}
 use Rattle.policy_checker.specs.declared.verdict.Verdict.TheVariants as verdict
 use Rattle.policy_check.specs.declared.answer.CheckAnswer.{CheckAnswer}
 use Rattle.policy_check.specs.declared.answer.CheckAnswer.TheVariants as checked
@@ -240,6 +240,7 @@ AnswersMake seed size answer.BadWords = ⊥
 -- the verdict on the policy `fair`, which isn't that it is accepted
 abbrev pub IsFairVerdict : CheckAnswer → Type 0
 IsFairVerdict (checked.Judged v) = IsVerdict fair_meaning CHECK_BUDGET v × IsFalse (accepts (checked.Judged v))
+    × (meaning_of (policy_of v) ≡ fair_meaning)
 IsFairVerdict (checked.Unjudged why) = ⊥
 
 -- the answer of `bench`: what the bench comes to, or the verdict on its policy, where that isn't accepted

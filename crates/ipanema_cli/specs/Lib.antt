@@ -1,9 +1,14 @@
 pub mod Answers
-pub mod Arguments
+pub mod BenchTruths
 pub mod Causes
+pub mod CheckTruths
 pub mod Ends
+pub mod ExplainTruths
+pub mod JudgeTruths
 pub mod Loads
+pub mod MakeTruths
 pub mod Status
 pub mod Stops
 pub mod Texts
+pub mod TraceTruths
 pub mod Truths

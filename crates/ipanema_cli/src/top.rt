@@ -1,15 +1,16 @@
 //! The top call: every command over files, a sink and a gate that are handed in.
 
-ghost use Rattle.std.specs.Prelude.{◌≡◌, ◌⊎◌, ℕ, [], ◌∷◌, IfErr, IfOk, IsErrOf, IsTrue, OnOk};
+ghost use Rattle.std.specs.Prelude.{◌≡◌, ◌≢◌, ◌⊎◌, ℕ, List, [], ◌∷◌, IfErr, IfOk, IsErrOf, IsFalse};
+ghost use Rattle.std.specs.Prelude.{IsTrue, OnOk, Some, codes, slice_get};
 ghost use Rattle.sched_io.specs.Faults.{Rose};
 ghost use Rattle.sched_io.specs.Loads.{AreRequested};
-ghost use Rattle.command_words.specs.Command.{asked_by, words_of};
-ghost use Rattle.ipanema_cli.specs.Answers.{CanBePut, IsGatedAnswer};
+ghost use Rattle.command_words.specs.Command.{asked_by, run as asks_run, words_of};
+ghost use Rattle.ipanema_cli.specs.Answers.{CanBePut, IsAnswer, IsGatedAnswer};
 ghost use Rattle.ipanema_cli.specs.Ends.{Ends};
 ghost use Rattle.ipanema_cli.specs.Causes.{HasCause, OneOf};
 ghost use Rattle.ipanema_cli.specs.Loads.{FirstAreLoaded, files_of};
 ghost use Rattle.ipanema_cli.specs.Stops.{IsStop};
-ghost use Rattle.ipanema_cli.specs.Truths.{IsTruthful};
+ghost use Rattle.ipanema_cli.specs.Truths.{IsTruthful, NonePassed};
 
 use crate::answers::Answer;
 use crate::commands::{answer_of, run};
@@ -55,7 +56,65 @@ pub fn ipanema<R: Threads + Wait + Sync, F: Files, S: Sink, G: Gate + Sync>(
     ensures calm { (result ≡ 4) ⊎ (F.faults files.new ≡ F.faults files.old) }
     ensures quiet { (result ≡ 5) ⊎ ((S.shown out.new).faults ≡ (S.shown out.old).faults) }
 {
-    conclude(answer(rt, alloc, words.as_slice(), files, gate), out)
+    let list = words.as_slice();
+    if begins_with_run(list) {
+        return conclude(answer(rt, alloc, list, files, gate), out);
+    }
+    serial_command(alloc, words, files, out)
+}
+
+/// Carries out the command that the words are, where the first of them isn't `run`.
+///
+/// All that `ipanema` promises is promised here. But this call has no runtime and no gate, so it can't wait: it
+/// returns, as every call does that has no leave to wait.
+pub fn serial_command<F: Files, S: Sink>(
+    alloc: Global,
+    words: &Vec<String>,
+    files: &mut F,
+    out: &mut S,
+) -> u8
+    requires serial { slice_get (words_of words.now.items) 0 ≢ Some (codes "run") }
+    ensures ends { Ends (asked_by (words_of words.now.items)) (F.told files.old)
+        (Rose (F.faults files.old) (F.faults files.new)) (S.shown out.old) (S.shown out.new) result }
+    ensures causes { HasCause (asked_by (words_of words.now.items)) (F.told files.old)
+        (Rose (F.faults files.old) (F.faults files.new)) (S.shown out.old) (S.shown out.new) result }
+    ensures truthful { IsTruthful NonePassed (asked_by (words_of words.now.items)) (F.told files.old)
+        (S.shown out.old).written (S.shown out.new).written result }
+    ensures loads { FirstAreLoaded (asked_by (words_of words.now.items)) (F.told files.old)
+        (F.requested files.old) (F.requested files.new) }
+    ensures loaded { OneOf (0 ∷ 1 ∷ 2 ∷ 3 ∷ 7 ∷ 8 ∷ 9 ∷ []) result →
+        AreRequested (files_of (asked_by (words_of words.now.items))) (F.requested files.old) (F.requested files.new) }
+    ensures calm { (result ≡ 4) ⊎ (F.faults files.new ≡ F.faults files.old) }
+    ensures quiet { (result ≡ 5) ⊎ ((S.shown out.new).faults ≡ (S.shown out.old).faults) }
+{
+    conclude(serial_answer(alloc, words.as_slice(), files), out)
+}
+
+/// Whether the first word is `run`.
+fn begins_with_run(words: &[String]) -> bool
+    ensures { IsFalse result → slice_get (words_of words.now) 0 ≢ Some (codes "run") }
+{
+    match words {
+        [first, ..] => first.as_str() == "run",
+        [] => false,
+    }
+}
+
+/// The answer to what the words ask for, where that is no run.
+fn serial_answer<F: Files>(alloc: Global, words: &[String], files: &mut F) -> Result<Answer, Stop>
+    requires serial { (policy trace : List ℕ) → asked_by (words_of words.now) ≢ Some (asks_run policy trace) }
+    ensures answer { IfOk result (IsAnswer (asked_by (words_of words.now)) (F.told files.old)) }
+    ensures shown { IfOk result CanBePut }
+    ensures stop { IfErr result (IsStop (asked_by (words_of words.now)) (F.told files.old)
+        (Rose (F.faults files.old) (F.faults files.new))) }
+    ensures loads { FirstAreLoaded (asked_by (words_of words.now)) (F.told files.old)
+        (F.requested files.old) (F.requested files.new) }
+    ensures loaded { OnOk result (AreRequested (files_of (asked_by (words_of words.now)))
+        (F.requested files.old) (F.requested files.new)) }
+    ensures calm { IsErrOf result Stop.Unread ⊎ (F.faults files.new ≡ F.faults files.old) }
+{
+    let request = request_of(alloc, words)?;
+    answer_of(alloc, request, files)
 }
 
 /// The answer to what the words ask for.

@@ -7,7 +7,7 @@ ghost use Rattle.linear_form.specs.System.{IsBound};
 
 use crate::form::{Bound, Row};
 
-// Whether each row is of the form of differences.
+/// Whether each row is of the form of differences.
 pub fn are_differences(rows: &[Row]) -> bool
     ensures { IsTrue result ↔ IsDifference rows.now }
 {
@@ -33,7 +33,7 @@ fn is_difference(row: &Row) -> bool
     }
 }
 
-// How many lists of one value from each range there are, if that fits.
+/// How many lists of one value from each range there are, if that fits.
 pub fn points_of(bounds: &[Bound]) -> Option<u128>
     requires { All IsBound bounds.now }
     ensures { SomeIff result (points_of bounds.now < 2 ^ 128) (points_of bounds.now) }

@@ -7,7 +7,7 @@ ghost use Rattle.linear_form.specs.System.{IsRow, IsTerm};
 use crate::form::{Bound, Row, Term};
 use sched_base::{MAX_ROW_COEFFICIENT, MAX_VARIABLES};
 
-// Whether each value lies in its range.
+/// Whether each value lies in its range.
 pub fn all_within(bounds: &[Bound], vals: &[i64]) -> bool
     requires { length vals.now ≡ length bounds.now }
     ensures { IsTrue result ↔ LiesWithin bounds.now vals.now }
@@ -20,7 +20,7 @@ pub fn all_within(bounds: &[Bound], vals: &[i64]) -> bool
     true
 }
 
-// Whether each row holds.
+/// Whether each row holds.
 pub fn all_hold(rows: &[Row], vals: &[i64]) -> bool
     requires few { length vals.now ≤ MAX_VARIABLES }
     requires rows { All (IsRow (length vals.now)) rows.now }

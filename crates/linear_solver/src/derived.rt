@@ -83,6 +83,7 @@ pub fn combine(
     sum_of(alloc, shape, b / divisor, a / divisor, p, q)
 }
 
+/// `x` times the first row and `y` times the second, with what it was made from, if its numbers stay in range.
 pub fn sum_of(
     alloc: Global,
     shape: Shape,

@@ -39,6 +39,7 @@ fn next_list(
     Ok(Some(next))
 }
 
+/// Whether the variable has no part in the row.
 pub fn lacks(row: &Derived, variable: u32) -> bool
     ensures { result ≡ lacks variable row.now }
 {

@@ -41,6 +41,7 @@ pub fn first_list(
     Ok(list)
 }
 
+/// The row of this number as elimination begins with it: one of the system, or one that says an end of a range.
 pub fn first_row(
     alloc: Global,
     shape: Shape,

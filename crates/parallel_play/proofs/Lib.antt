@@ -3,4 +3,3 @@ pub mod Counting
 pub mod Rounding
 pub mod Seating
 pub mod Summing
-pub mod Crossing

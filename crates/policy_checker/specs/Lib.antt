@@ -3,4 +3,5 @@ pub mod Certified
 pub mod Laws
 pub mod Outcomes
 pub mod Refuted
+pub mod Smaller
 pub mod Verdicts

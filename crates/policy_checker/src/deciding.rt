@@ -5,6 +5,7 @@ ghost use Rattle.linear_form.specs.Difference.{IsDifference};
 ghost use Rattle.policy_checker.specs.Answers.{IsAnswer, IsFound};
 
 use crate::answer::ObAnswer;
+use crate::smaller::smaller;
 use difference_solver::{Decided, decide_differences};
 use linear_form::System;
 use linear_solver::{Answer, decide};
@@ -30,8 +31,19 @@ pub(crate) fn answer_to(
     Ok(answer)
 }
 
-/// What is found of a system: one of differences goes to the solver that always decides.
+/// What is found of a system. A point is made smaller, so that its numbers are easier to read.
 fn found_of(alloc: Global, system: &System, budget: u64) -> Result<Answer, AllocError>
+    ensures { IfOk result (IsFound budget system.now) }
+{
+    match decided(alloc, system, budget)? {
+        Answer::Holds(cert) => Ok(Answer::Holds(cert)),
+        Answer::Fails(point) => Ok(Answer::Fails(smaller(alloc, system, point)?)),
+        Answer::Undecided(points) => Ok(Answer::Undecided(points)),
+    }
+}
+
+/// What the solvers find of a system: one of differences goes to the one that always decides.
+fn decided(alloc: Global, system: &System, budget: u64) -> Result<Answer, AllocError>
     ensures { IfOk result (IsFound budget system.now) }
 {
     if system.is_difference() {

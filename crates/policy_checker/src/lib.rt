@@ -8,6 +8,7 @@ mod checking;
 mod deciding;
 mod laws;
 mod one;
+mod smaller;
 mod verdict;
 
 pub use accepted::AcceptedPolicy;

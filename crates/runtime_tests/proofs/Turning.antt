@@ -9,7 +9,7 @@ use Rattle.round_model.specs.Kinds.{is_attempt, is_work}
 use Rattle.core_table.specs.declared.views.View.{View}
 use Rattle.core_table.specs.Told.{IsSeatOf}
 use Rattle.select_phase.specs.declared.looks.Look.{Look}
-use Rattle.select_phase.specs.Seen.{HasMoreNotes, Looked}
+use Rattle.select_phase.specs.Seen.{AreLast, HasMoreNotes, Looked}
 use Rattle.steal_phase.specs.Attempts.{HasAdded, MayAttempt}
 use Rattle.core_calls.specs.Steps.{Entered, HasLetAllIn, HasNoneDue, MayEnter, MayWake, MayWork, Woken, Worked}
 use Rattle.runtime_tests.specs.declared.players.Stage.{Stage}
@@ -92,8 +92,8 @@ module _ (v : View) (core : ℕ) where
       (done_more v w core did.at (entry.Work core what) false false did.adds.added turn.stage.2)
 
   -- the look
-  pub looked_now : (look : Look) (w : View) → IsTurn v core stage.Looking → HasMoreNotes v w → look.by ≡ core → Looked w look → IsTurn w core (stage.Attempting look)
-  looked_now look w turn more by looked = record {
+  pub looked_now : (look : Look) (w : View) → IsTurn v core stage.Looking → HasMoreNotes v w → look.by ≡ core → Looked w look → AreLast w look.reads → IsTurn w core (stage.Attempting look)
+  looked_now look w turn more by looked last = record {
     plan = subst IsCrowd (sym (ap (λ (x : View). x.plan) more.is)) turn.plan;
     there = subst (λ (x : Plan). core < x.cores) (sym (ap (λ (x : View). x.plan) more.is)) turn.there;
     round = ap (λ (x : View). x.round) more.is ∙ turn.round;
@@ -102,6 +102,7 @@ module _ (v : View) (core : ℕ) where
     stage = (
       by,
       looked,
+      last,
       subst (λ (x : View). HasDone x true false) (sym more.is) (record { work = turn.stage.work; attempt = turn.stage.attempt }),
     );
   }
@@ -110,10 +111,11 @@ module _ (v : View) (core : ℕ) where
   pub may_attempt : (look : Look) → IsTurn v core (stage.Attempting look) → MayAttempt v look
   may_attempt look turn = record {
     of_core = subst (IsSeatOf v) (sym turn.stage.0) turn.of_core;
-    worked = turn.stage.2.work;
-    first = turn.stage.2.attempt;
+    worked = turn.stage.3.work;
+    first = turn.stage.3.attempt;
     free = turn.free;
     looked = turn.stage.1;
+    last = turn.stage.2;
   }
 
   pub attempted_now : (look : Look) (at : ℕ) (e : Entry) (w : View) → IsTurn v core (stage.Attempting look) → HasAdded look.by at e v w → IsTurn w core stage.Over

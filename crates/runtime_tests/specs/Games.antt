@@ -17,7 +17,7 @@ use Rattle.core_table.specs.declared.views.Turn.TheVariants as turn
 use Rattle.core_table.specs.declared.views.View.{View}
 use Rattle.core_table.specs.Public.{IsOf, plan_of, policy_of, view_of}
 use Rattle.core_table.specs.Told.{IsIn, IsSeatOf}
-use Rattle.select_phase.specs.Seen.{Looked}
+use Rattle.select_phase.specs.Seen.{AreLast, Looked}
 use Rattle.steal_phase.specs.Attempts.{own_entries_in}
 use Rattle.core_calls.specs.Steps.{HasLetAllIn}
 use Rattle.runtime_tests.specs.declared.game.Game.{Game}
@@ -92,7 +92,7 @@ IsStage v core (stage.Entering place) = HasLetIn v core place × HasDone v false
 IsStage v core stage.Waking = HasLetAllIn v core × HasDone v false false
 IsStage v core stage.Working = (v.role ≡ role.Core core true) × HasLetAllIn v core × HasDone v false false
 IsStage v core stage.Looking = HasDone v true false
-IsStage v core (stage.Attempting look) = (look.by ≡ core) × Looked v look × HasDone v true false
+IsStage v core (stage.Attempting look) = (look.by ≡ core) × Looked v look × AreLast v look.reads × HasDone v true false
 IsStage v core stage.Over = Unit {0}
 
 -- the view is that of a core's seat in round 1, which holds nothing, and the core has come so far

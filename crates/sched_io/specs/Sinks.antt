@@ -1,5 +1,5 @@
 -- The sinks in memory, as contracts see them.
-use Rattle.std.specs.Prelude.{◌≢◌, ℕ, List, [], None, Option, Some, ◌+◌, ◌<◌, ◌⊎◌, Contains, length}
+use Rattle.std.specs.Prelude.{◌≢◌, ℕ, List, [], None, Option, Some, ◌+◌, ◌<◌, ◌⊎◌, Contains, length, min}
 use Rattle.sched_io.specs.declared.memory_sink.MemorySink.{MemorySink}
 use Rattle.sched_io.specs.declared.steady_sink.SteadySink.{SteadySink}
 use Rattle.sched_io.specs.InMemory.{pieces_in, told_unless}
@@ -12,6 +12,10 @@ bytes_of s = s.bytes.items
 -- how many bytes it has room for in all
 abbrev pub room_of : MemorySink → ℕ
 room_of s = s.room
+
+-- how many bytes of a piece it takes at most
+abbrev pub bite_of : MemorySink → ℕ
+bite_of s = s.bite
 
 -- the numbers of the puts that fail
 abbrev pub failing_puts_of : MemorySink → List ℕ
@@ -31,10 +35,11 @@ offered_to s = pieces_in s.offered
 abbrev pub shown_by_memory : MemorySink → Shown
 shown_by_memory s = record { written = Some (bytes_of s); offered = offered_to s; faults = put_faults_of s }
 
--- the next put of this piece fails: it isn't empty, and its number was chosen or there is no room for it
+-- The next put of this piece fails: it isn't empty, and its number was chosen or there is no room for what the sink
+-- would take of it.
 abbrev pub FailsNext : MemorySink → List ℕ → Type 0
-FailsNext s piece =
-    (piece ≢ []) × (Contains (failing_puts_of s) (puts_of s) ⊎ (room_of s < length (bytes_of s) + length piece))
+FailsNext s piece = (piece ≢ [])
+    × (Contains (failing_puts_of s) (puts_of s) ⊎ (room_of s < length (bytes_of s) + min (bite_of s) (length piece)))
 
 -- the bytes that the sink kept: the first that it was given, as far as it has room
 abbrev pub kept_by : SteadySink → List ℕ

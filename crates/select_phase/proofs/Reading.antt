@@ -22,7 +22,7 @@ use Rattle.core_table.specs.declared.views.Note.{Note}
 use Rattle.core_table.specs.declared.views.View.{View}
 use Rattle.core_table.specs.Views.{meaning_in, noted, noting}
 use Rattle.core_table.specs.Told.{Agrees, Each}
-use Rattle.select_phase.specs.Seen.{AreAll, HasMoreNotes, HasRead}
+use Rattle.select_phase.specs.Seen.{AreAll, AreLast, HasMoreNotes, HasRead, IsAmongLast}
 use Rattle.select_phase.specs.Glances.{seen_in}
 
 pub one_more : (v v1 v2 : View) (x : Note) → HasMoreNotes v v1 → v2 ≡ noting x v1 → HasMoreNotes v v2
@@ -110,3 +110,19 @@ late_more v0 v reads longer k at pushed count m late latest i x there low = dite
 pub all_more : (v0 v w : View) (x : Note) (reads longer : List ℕ) (at : ℕ) → w ≡ noting x v → longer ≡ reads ++ at ∷ [] → AreAll v0 v reads → AreAll v0 w longer
 all_more v0 v w x reads longer at is pushed all =
     ap (λ (u : View). length u.notes) is ∙ (let count : suc (length v.notes) ≡ length longer + length v0.notes = omega (arith, ap length pushed, length_push reads at, all) in count)
+
+-- it is the last one, and those before it stay next to it
+pub last_more : (v w : View) (reads longer : List ℕ) (k at : ℕ) (seen : CountAndLoad) → w ≡ noting (noted k at seen) v → longer ≡ reads ++ at ∷ [] → length reads ≡ k → AreLast v reads → AreLast w longer
+last_more v w reads longer k at seen is pushed count last c inside = dite (ℕ_discrete c k)
+    (λ same.
+    let position : slice_index longer c ≡ at = ap (λ (l : List ℕ). slice_index l c) pushed ∙ (ap (λ n. slice_index (reads ++ at ∷ []) n) same ∙ read_last reads k at count) in
+    subst (λ (z : ℕ × ℕ). IsAmongLast w (length longer) z.0 z.1) (λ i. (sym same i, sym position i))
+    (record { place = 0; newest = omega (arith, inside); seen = seen; there = ap (λ (u : View). get_elem? u.notes 0) is }))
+    (λ other.
+    let many : length longer ≡ length reads + 1 = ap length pushed ∙ length_push reads at in
+    let below : c < length reads = omega (arith, inside, many, count, other) in
+    let old = last c below in
+    let low : old.place < length reads = old.newest in
+    let position : slice_index longer c ≡ slice_index reads c = ap (λ (l : List ℕ). slice_index l c) pushed ∙ read_at reads c at below in
+    subst (λ (q : ℕ). IsAmongLast w (length longer) c q) (sym position)
+    (record { place = suc old.place; newest = omega (arith, low, many); seen = old.seen; there = ap (λ (u : View). get_elem? u.notes (suc old.place)) is ∙ old.there }))

@@ -36,6 +36,17 @@ AreLate before reads = Each (λ x. x.core < length reads → x.at ≤ slice_inde
 abbrev pub AreAll : (before now : View) → List ℕ → Type 0
 AreAll before now reads = length now.notes ≡ length reads + length before.notes
 
+-- one of the seat's newest notes, of which we look at so many, is of the core at that position
+pub record IsAmongLast (v : View) (many c at : ℕ) : Type 0 where
+  pub place : ℕ
+  pub newest : place < many
+  pub seen : CountAndLoad
+  pub there : get_elem? v.notes place ≡ some (noted c at seen)
+
+-- these are the reads that the seat made last: as many newest notes as they are have each of them
+abbrev pub AreLast : View → List ℕ → Type 0
+AreLast v reads = (c : ℕ) → c < length reads → IsAmongLast v (length reads) c (slice_index reads c)
+
 -- what a policy may ask of each core, by what was read
 abbrev pub values_read : View → (ℕ → CountAndLoad) → ℕ → CoreValues
 values_read v seen c = values_of v.plan c (seen c)

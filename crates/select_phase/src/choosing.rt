@@ -2,7 +2,7 @@
 
 ghost use Rattle.std.specs.Prelude.{◌≡◌, ◌<◌};
 ghost use Rattle.core_table.specs.Public.{IsOf, plan_of, policy_of, view_of};
-ghost use Rattle.select_phase.specs.Seen.{AreAll, AreLate, HasMoreNotes, Looked};
+ghost use Rattle.select_phase.specs.Seen.{AreAll, AreLast, AreLate, HasMoreNotes, Looked};
 
 use crate::glances::{NOTHING_READ, glance};
 use crate::looks::Look;
@@ -20,6 +20,7 @@ pub fn look(table: &Table, seat: &mut Seat, policy: &Policy, core: CoreId) -> Lo
     ensures by { result.by ≡ core }
     ensures looked { Looked (view_of seat.new) result }
     ensures late { AreLate (view_of seat.old) result.reads }
+    ensures last { AreLast (view_of seat.new) result.reads }
     ensures all { AreAll (view_of seat.old) (view_of seat.new) result.reads }
 {
     let mut values = NOTHING_READ;

@@ -3,7 +3,7 @@
 ghost use Rattle.std.specs.Prelude.{◌≤◌};
 ghost use Rattle.core_table.specs.Public.{IsOf, plan_of, view_of};
 ghost use Rattle.core_table.specs.Told.{IsKnown};
-ghost use Rattle.select_phase.specs.Seen.{AreAll, AreLate, HasMoreNotes};
+ghost use Rattle.select_phase.specs.Seen.{AreAll, AreLast, AreLate, HasMoreNotes};
 ghost use Rattle.select_phase.specs.Glances.{AreGlanced};
 
 use core_table::{Seat, Table};
@@ -19,6 +19,7 @@ pub(crate) fn glance(table: &Table, seat: &mut Seat, values: &mut [CoreValues; M
     ensures known { IsKnown (view_of seat.new) }
     ensures seen { AreGlanced (view_of seat.new) result values.new }
     ensures late { AreLate (view_of seat.old) result }
+    ensures last { AreLast (view_of seat.new) result }
     ensures all { AreAll (view_of seat.old) (view_of seat.new) result }
 {
     let mut reads = Reads::empty();

@@ -21,7 +21,7 @@ use Rattle.core_table.specs.Above.{IsAbove}
 use Rattle.core_table.specs.Told.{Agrees, IsSeatOf}
 use Rattle.core_table.specs.Views.{meaning_in}
 use Rattle.select_phase.specs.declared.looks.Look.{Look}
-use Rattle.select_phase.specs.Seen.{Looked}
+use Rattle.select_phase.specs.Seen.{AreLast, Looked}
 use Rattle.steal_phase.specs.declared.outcome.Outcome.{Outcome}
 use Rattle.steal_phase.specs.declared.outcome.Outcome.TheVariants as outcome
 
@@ -29,13 +29,15 @@ use Rattle.steal_phase.specs.declared.outcome.Outcome.TheVariants as outcome
 abbrev pub own_entries_in : View → List Entry
 own_entries_in v = map (λ (l : Logged). l.entry) v.own
 
--- by this look the core may make its attempt: it has run its unit, has made no attempt in the round, and holds nothing
+-- by this look the core may make its attempt: it has run its unit, has made no attempt in the round, and holds nothing.
+-- The look is the last thing that it read
 pub record MayAttempt (v : View) (look : Look) : Type 0 where
   pub of_core : IsSeatOf v look.by
   pub worked : IsTrue (has_worked (own_entries_in v))
   pub first : IsFalse (has_attempted (own_entries_in v))
   pub free : v.held ≡ []
   pub looked : Looked v look
+  pub last : AreLast v look.reads
 
 -- the core that was chosen. Where none was, this is of no account
 abbrev pub victim_in : Option ℕ → ℕ

@@ -1,5 +1,5 @@
 -- What the calls of a core in memory come to, by the entry that was added.
-use Rattle.std.proofs.Common.{◌≡◌, ◌≢◌, ℕ, ◌⊎◌, ⊎_elim, true, cond, List, [], ◌∷◌, ◌++◌, length, Option, Some, None, refl, sym, ap, ◌∙◌, subst, arith, ne_eqb}
+use Rattle.std.proofs.Common.{◌≡◌, ◌≢◌, ℕ, ◌+◌, ◌<◌, ◌≤◌, ◌⊎◌, ⊎_elim, true, cond, List, [], ◌∷◌, ◌++◌, length, Option, Some, None, refl, sym, ap, ◌∙◌, subst, arith, ne_eqb}
 use Rattle.std.specs.Prelude.{IsNone, IsSomeAnd}
 use Rattle.std.proofs.lemmas.List.{append-nil}
 use Rattle.policy_tree.specs.Meaning.{Meaning}
@@ -21,13 +21,14 @@ use Rattle.round_model.proofs.OwedTotals.{room_for}
 use Rattle.core_state.specs.Logs.{logged}
 use Rattle.core_table.specs.Logs.{own_log}
 use Rattle.core_table.proofs.Histories.{own_grows}
-use Rattle.core_calls.specs.Steps.{Adds, Entered, HasLetAllIn, MayEnter, MayWork, Woken}
+use Rattle.core_calls.specs.Steps.{Adds, Entered, HasLetAllIn, MayEnter, MayWork, ReadsAtMost, Woken}
 use Rattle.turn_tests.specs.declared.memory_calls.MemoryCalls.{MemoryCalls}
 use Rattle.turn_tests.specs.Follows.{IsSame}
 use Rattle.turn_tests.specs.Memory.{HasGrown, IsNext, IsReady, core_of, history_of, meaning_in_memory, none_due_in, past_of, plan_of, policy_of, view_of}
 use Rattle.turn_tests.specs.Steps.{IsNextStep, did_in, wake_or_none, woken_in}
 use Rattle.turn_tests.proofs.Growing.{adds_one, longer_told, told}
-use Rattle.turn_tests.proofs.Stepping.{Wakes, arrives, placed_late, rests, wakes_to, woken_or_none, works_by}
+use Rattle.turn_tests.proofs.Rows.{row_count}
+use Rattle.turn_tests.proofs.Stepping.{Wakes, arrives, placed_each, placed_late, rests, wakes_to, woken_or_none, works_by}
 
 -- the step adds an entry, and so it is nothing else
 pub no_other : (step : NextStep) (e : Entry) → step ≡ next.Adds e → (step ≡ next.Looks) ⊎ (step ≡ next.Over) → ⊥
@@ -104,6 +105,11 @@ module _ (it : MemoryCalls) (ready : IsReady it) where
     pub adds_at : (at : ℕ) → at ≡ length h → Adds a at e (view_of it) (view_of now)
     adds_at at is = subst (λ (x : ℕ × MemoryCalls). Adds a x.0 e (view_of it) (view_of x.1)) (λ i. (sym is i, sym grown.is i)) (adds_one (policy_of it) plan a h (none_due_in it) e acting ready.agrees legal)
 
+    -- where a placement looks, no more notes come than it has reads
+    pub reads_few : (others : ℕ) (reads : List ℕ) → (0 < length reads → length reads ≡ plan.cores) → ReadsAtMost others (view_of it) (view_of now) reads
+    reads_few others reads each = subst (λ (x : MemoryCalls). ReadsAtMost others (view_of it) (view_of x) reads) (sym grown.is)
+        (λ some. let many = each some in let count = row_count p plan h e (no_round e a acting) in omega (arith, many, count))
+
   module _ (step : NextStep) (e : Entry) (is : step ≡ next.Adds e) (legal : MayAdd p plan h step) (acts : ActsBy a step) (now : MemoryCalls) (grown : HasGrown e it now) where
     may : LegalNext p plan h e
     may = subst (MayAdd p plan h) is legal
@@ -124,6 +130,7 @@ module _ (it : MemoryCalls) (ready : IsReady it) where
           to = w.0;
           reads = _;
           late = placed_late it ready;
+          all = reads_few e may by now grown 2 _ (placed_each it ready);
           adds = subst (λ (x : Entry). Adds a at x (view_of it) (view_of now)) (same_entry step e _ is w.1) (step_adds at count);
         }
 
@@ -147,6 +154,7 @@ module _ (it : MemoryCalls) (ready : IsReady it) where
           to = to;
           reads = _;
           late = placed_late it ready;
+          all = reads_few e may by now grown 5 _ (placed_each it ready);
           adds = subst (λ (x : Entry). Adds a at x (view_of it) (view_of now)) (same_entry step e _ is same) (step_adds at count);
         }
         by_kind (rests none) = absurd (not_woken (woken_is step e wakes).1 none)

@@ -15,6 +15,7 @@ use Rattle.round_model.specs.Reads.{value_read, values_of}
 use Rattle.core_table.specs.Views.{noted}
 use Rattle.select_phase.specs.Glances.{AreGlanced}
 use Rattle.select_phase.proofs.Reading.{seen_before, seen_now}
+use Rattle.select_phase.specs.Seen.{AreLast}
 use Rattle.turn_tests.specs.declared.memory_calls.MemoryCalls.{MemoryCalls}
 use Rattle.turn_tests.specs.Memory.{fresh_of, history_of, meaning_in_memory, plan_of, view_of}
 use Rattle.turn_tests.proofs.Rows.{fresh_each, fresh_noted}
@@ -46,4 +47,13 @@ glanced it reads values fresh long seen = record {
     };
   };
   each = λ c low. seen c low ∙ ap (λ (x : CoreValues). values_of (plan_of it) c (record { nr = x.nr; load = x.load })) (sym (seen c low));
+}
+
+-- a look just now is the last thing that it read
+pub fresh_last : (it : MemoryCalls) → AreLast (view_of it) (fresh_of (plan_of it) (history_of it))
+fresh_last it c inside = record {
+  place = c;
+  newest = inside;
+  seen = value_read (meaning_in_memory it) (plan_of it) (history_of it) c (slice_index (fresh_of (plan_of it) (history_of it)) c);
+  there = fresh_noted (meaning_in_memory it) (plan_of it) (history_of it) c (let each = fresh_each (plan_of it) (history_of it) in omega (arith, inside, each));
 }

@@ -1,7 +1,7 @@
 -- What a core in memory has read: its notes are true, no later than a look just now, and grow with each entry.
 use Rattle.std.proofs.Common.{◌≡◌, ℕ, zero, suc, ◌+◌, ◌-◌, ◌<◌, ◌≤◌, max, true, false, cond, List, [], ◌∷◌, ◌++◌, length, map, take, slice_index, refl, sym, ap, ap₂, ◌∙◌, subst, arith, take_all, length-take}
 use Rattle.std.specs.List.{range_with_len}
-use Rattle.std.proofs.lemmas.List.{append-nil}
+use Rattle.std.proofs.lemmas.List.{append-nil, length-append}
 use Rattle.std.proofs.lemmas.List.FromFn.{get_or-map-range_with_len, length-map-range_with_len}
 use mathlib.Core.Option.{some, some-ne-none, some-injective}
 use lib.ListN.{get_elem?}
@@ -150,3 +150,14 @@ module _ (p : Meaning) (plan : Plan) (h : List Entry) where
         let n : ℕ = length h - round_start h in let g : List Entry = h ++ e ∷ [] in let within = start_within h in let long = longer h e in let same = start_stays h e inner in
         let count : length g - round_start g ≡ suc n = omega arith in
         (row_at p plan g (round_start g + suc n), ap (rows_to p plan g) count ∙ ap (λ l. row_at p plan g (round_start g + suc n) ++ l) (rows_same n (omega arith)))
+
+    -- a note of each core comes
+    pub row_count : length (notes_of p plan (h ++ e ∷ [])) ≡ plan.cores + length (notes_of p plan h)
+    row_count =
+        let n : ℕ = length h - round_start h in let g : List Entry = h ++ e ∷ [] in let within = start_within h in let long = longer h e in let same = start_stays h e inner in
+        let count : length g - round_start g ≡ suc n = omega arith in
+        let row : List Note = row_at p plan g (round_start g + suc n) in
+        let each : length row ≡ plan.cores = length-map-range_with_len (note_at p plan g (round_start g + suc n)) 0 plan.cores in
+        ap (λ (k : ℕ). length (rows_to p plan g k)) count
+        ∙ (ap (λ (l : List Note). length (row ++ l)) (rows_same n (omega arith))
+        ∙ (length-append row (notes_of p plan h) ∙ ap (λ (k : ℕ). k + length (notes_of p plan h)) each))

@@ -42,7 +42,7 @@ use Rattle.turn_tests.specs.declared.memory_calls.MemoryCalls.{MemoryCalls}
 use Rattle.turn_tests.specs.Memory.{IsReady, core_of, fresh_of, history_of, meaning_in_memory, past_of, plan_of, view_of}
 use Rattle.turn_tests.specs.Steps.{IsNextStep, moment_of}
 use Rattle.turn_tests.proofs.Late.{attempted_worked, worked_late}
-use Rattle.turn_tests.proofs.Rows.{notes_late, notes_true}
+use Rattle.turn_tests.proofs.Rows.{fresh_each, notes_late, notes_true}
 
 -- a step by which the history grows by this entry adds it
 same_step : (s : SerialState) (a : ℕ) (fresh : List ℕ) (e : Entry) (step : NextStep) → with_entry s e ≡ with_step s a fresh step → step ≡ next.Adds e
@@ -74,6 +74,11 @@ fresh_same p plan h a = refl
 late_by : (v : View) (place : PlaceTree) (fresh : List ℕ) → AreLate v fresh → AreLate v (placement_by place fresh)
 late_by v here fresh late i x at inside = absurd (omega arith)
 late_by v (least e) fresh late i x at inside = late i x at inside
+
+-- a placement that looks has as many
+each_by : (plan : Plan) (place : PlaceTree) (fresh : List ℕ) → length fresh ≡ plan.cores → 0 < length (placement_by place fresh) → length (placement_by place fresh) ≡ plan.cores
+each_by plan here fresh each some = absurd (omega arith)
+each_by plan (least e) fresh each some = each
 
 -- whether the role has the mark that none is due
 abbrev is_marked : Role → Bool
@@ -108,6 +113,9 @@ module _ (it : MemoryCalls) (ready : IsReady it) where
 
   pub placed_late : AreLate (view_of it) reads
   placed_late = late_by (view_of it) p.place fresh fresh_late
+
+  pub placed_each : 0 < length reads → length reads ≡ plan.cores
+  placed_each some = each_by plan p.place fresh (fresh_each plan h) some
 
   -- the step by these looks is the next step
   adds_by : (look : Option (List ℕ)) (step : NextStep) (e : Entry) → step_of p plan (moment_of it look) a ≡ with_entry (moment_of it look) e → IsNextStep it look step → step ≡ next.Adds e

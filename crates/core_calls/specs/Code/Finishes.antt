@@ -1,5 +1,5 @@
 -- How a step on one core ends, as the code does it. No promise rests on this.
-use Rattle.std.specs.Prelude.{◌≡◌, ℕ, List, [], ◌++◌, true}
+use Rattle.std.specs.Prelude.{◌≡◌, ℕ, ◌+◌, ◌≤◌, List, [], ◌++◌, length, true}
 use Rattle.round_model.specs.declared.entry.Entry.{Entry}
 use Rattle.core_state.specs.Views.{CoreView}
 use Rattle.core_table.specs.declared.views.Note.{Note}
@@ -24,3 +24,7 @@ pub record Glimpsed (core : ℕ) (before now : View) : Type 0 where
   pub free : now.held ≡ []
   pub more : List Note
   pub rest : now ≡ record before { role = now.role; notes = more ++ before.notes }
+
+-- at most so many notes came
+abbrev pub HasFewMore : ℕ → (before now : View) → Type 0
+HasFewMore many before now = length now.notes ≤ many + length before.notes

@@ -6,7 +6,7 @@ use mathlib.Core.List.{◌∷◌, []}
 use denote.Exit.{no}
 use denote.Param.{param}
 use denote.Param.Send.{IsSync, arg_send, param_send, sendable, shr_send}
-use Rattle.parallel_play.proofs.Crossing.{number_sync, plan_sync, policy_sync, seat_send, table_sync, tuple_send, turned_send}
+use Rattle.core_calls.proofs.Crossing.{number_sync, plan_sync, policy_sync, seat_send, table_sync, tuple_send, turned_send}
 use Rattle.parallel_play.proofs.Seating.{played_more, played_none}
 use Rattle.parallel_play.proofs.turns.+fn-play_from-join+arg3+play_from.Goals as goal
 

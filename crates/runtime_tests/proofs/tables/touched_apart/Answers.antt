@@ -3,7 +3,7 @@ use mathlib.Core.List.{◌∷◌, []}
 use denote.Exit.{no}
 use denote.Param.{param}
 use denote.Param.Send.{IsSync, arg_send, param_send, sendable, shr_send}
-use Rattle.runtime_tests.proofs.Crossing.{seat_send, table_sync, tuple_send}
+use Rattle.core_calls.proofs.Crossing.{seat_send, table_sync, tuple_send}
 use Rattle.runtime_tests.proofs.tables.touched_apart.Goals as goal
 
 pub join-requires-send-F : goal.join-requires-send-F

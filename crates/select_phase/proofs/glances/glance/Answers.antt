@@ -5,7 +5,7 @@ use Rattle.core_table.specs.Public.{plan_of, view_of}
 use Rattle.core_table.specs.Told.{IsKnown}
 use Rattle.round_model.specs.declared.plan.Plan.{Plan}
 use Rattle.core_table.specs.Views.{noted}
-use Rattle.select_phase.proofs.Reading.{all_more, consts_are, late_more, one_more, read_more, values_more}
+use Rattle.select_phase.proofs.Reading.{all_more, consts_are, last_more, late_more, one_more, read_more, values_more}
 use Rattle.select_phase.proofs.glances.glance.Goals as goal
 
 pub loop-core-preserved : goal.loop-core-preserved
@@ -24,5 +24,6 @@ loop-core-preserved c =
       read = read_more (view_of c.loop-core.seat) (view_of c.read-read.new.seat) c.loop-core.reads c.push.new.self c.loop-core.values k read.at x e.view c.push.ensures i.one_each deep i.read;
       each = values_more (plan_of c.args.table.now) c.loop-core.values k x deep (consts_are (plan_of c.args.table.now) k c.consts.result.now c.consts.ensures) i.each;
       late = late_more (view_of c.args.seat.now) (view_of c.loop-core.seat) c.loop-core.reads c.push.new.self k read.at c.push.ensures i.one_each i.more i.late c.read-read.ensures.latest;
+      last = last_more (view_of c.loop-core.seat) (view_of c.read-read.new.seat) c.loop-core.reads c.push.new.self k read.at (record { nr = read.nr; load = read.load }) e.view c.push.ensures i.one_each i.last;
       all = all_more (view_of c.args.seat.now) (view_of c.loop-core.seat) (view_of c.read-read.new.seat) note c.loop-core.reads c.push.new.self read.at e.view c.push.ensures i.all;
     }

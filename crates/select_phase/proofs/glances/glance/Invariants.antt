@@ -4,7 +4,7 @@ use Rattle.round_model.specs.Choices.{values_in}
 use Rattle.round_model.specs.Reads.{values_of}
 use Rattle.core_table.specs.Public.{IsOf, plan_of, view_of}
 use Rattle.core_table.specs.Told.{Each, IsKnown}
-use Rattle.select_phase.specs.Seen.{AreAll, HasMoreNotes, HasRead}
+use Rattle.select_phase.specs.Seen.{AreAll, AreLast, HasMoreNotes, HasRead}
 use Rattle.select_phase.specs.Glances.{seen_in}
 use Rattle.select_phase.proofs.glances.glance.Given as goal
 
@@ -19,5 +19,6 @@ invariant-loop-core l = record {
   read : (c : ℕ) → c < l.core → HasRead (view_of l.seat) c (slice_index l.reads c) (seen_in l.values c);
   each : (c : ℕ) → c < l.core → values_in l.values c ≡ values_of (plan_of l.table) c (seen_in l.values c);
   late : Each (λ x. x.core < l.core → x.at ≤ slice_index l.reads x.core) (view_of l.initial.seat).notes;
+  last : AreLast (view_of l.seat) l.reads;
   all : AreAll (view_of l.initial.seat) (view_of l.seat) l.reads;
 }

@@ -1,4 +1,4 @@
-use Rattle.std.proofs.Common.{ℕ, ◌<◌, ◌≡◌, is_some, ap, ◌∙◌, sym, subst, true, false}
+use Rattle.std.proofs.Common.{ℕ, ◌<◌, ◌≡◌, arith, is_some, ap, ◌∙◌, sym, subst, true, false}
 use Rattle.std.specs.Prelude.{IsSomeAnd}
 use Rattle.policy_tree.specs.Meaning.{Meaning, meaning_of}
 use Rattle.round_model.specs.declared.entry.Entry.TheVariants as entry
@@ -13,7 +13,7 @@ use Rattle.core_table.specs.Told.{IsLocalIn}
 use Rattle.core_table.specs.Views.{holding, meaning_in}
 use Rattle.select_phase.proofs.Viewed.{placed_held}
 use Rattle.steal_phase.specs.Attempts.{own_entries_in}
-use Rattle.core_calls.proofs.Drawn.{adds_behind, adds_one, noted_only}
+use Rattle.core_calls.proofs.Drawn.{adds_behind, adds_one, finished_count, noted_only}
 use Rattle.core_calls.proofs.Held.{enters_plan, may_come, task_enters}
 use Rattle.core_calls.proofs.Local.{enter_local}
 use Rattle.core_calls.proofs.Moving.{enter_moved}
@@ -109,6 +109,9 @@ returns-clause-entered g c =
       to = at;
       reads = reads;
       late = c.place-at.ensures.late;
+      all = λ some.
+          let count = finished_count at y w (view_of c.hold-held.new.seat) (view_of c.finish.new.seat) low e.view (entry.Enter thread self.core at reads) c.hold-held.result.core c.finish.result c.finish.ensures.finished in
+          let read = c.place-at.ensures.all in omega (arith, count, read);
       adds = adds_behind self.core v w seen may.of_core c.finish.result (entry.Enter thread self.core at reads) (view_of c.finish.new.seat)
           (adds_one w self.core c.finish.result (entry.Enter thread self.core at reads) seen.of_core seen.free at y low
           (view_of c.hold-held.new.seat) (view_of c.finish.new.seat) e.view c.hold-held.result.core c.finish.ensures.finished);

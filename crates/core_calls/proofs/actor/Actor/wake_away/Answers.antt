@@ -10,7 +10,7 @@ use Rattle.steal_phase.proofs.Moving.{moved_as}
 use Rattle.steal_phase.proofs.Two.{two_held}
 use Rattle.core_calls.specs.Actors.{table_of}
 use Rattle.core_calls.specs.Code.Sends.{Sends}
-use Rattle.core_calls.proofs.Drawn.{adds_two}
+use Rattle.core_calls.proofs.Drawn.{adds_two, two_finished_count, two_glimpsed_count}
 use Rattle.core_calls.proofs.Sending.{SendsBetween, none_between, sent_between}
 use Rattle.core_calls.proofs.actor.Actor.wake_away.Goals as goal
 
@@ -85,3 +85,22 @@ returns-clause-woken g c =
           last.low.core last.high.core last.low.state last.high.state (view_of c.hold_two-held.new.seat) (view_of c.draw_two-position.new.seat) (view_of c.publish_two.new.seat) (view_of c.release_two-2.new.seat)
           e.held.view c.draw_two-position.ensures.drawn c.publish_two.ensures.seen.view c.release_two-2.ensures.home.view c.release_two-2.ensures.free;
     }
+
+pub returns-in_default-clause-few : goal.returns-in_default-clause-few
+returns-in_default-clause-few g c =
+    let v = view_of c.args.seat.now in let self = c.args.self.now in let o = c.requires.seat.opening in let e = c.hold_two-held.ensures in
+    let at = c.args.at in let held = c.hold_two-held.result in
+    let inside : self.core < v.plan.cores = subst (λ (x : Plan). self.core < x.cores) (sym o.plan) self.there in let above = c.requires.placed.there in
+    let count = two_glimpsed_count (min self.core at) (max self.core at) held.low.state held.high.state v (view_of c.release_two.new.seat) (omega arith) (omega arith)
+    (c.release_two.ensures.home.view ∙ ap (λ (x : View). giving (giving x)) e.held.view) in
+    omega (arith, count)
+
+pub returns-clause-few : goal.returns-clause-few
+returns-clause-few g c =
+    let v = view_of c.args.seat.now in let self = c.args.self.now in let o = c.requires.seat.opening in let e = c.hold_two-held.ensures in
+    let at = c.args.at in let held = c.hold_two-held.result in let last = c.draw_two-position.new.held in
+    let inside : self.core < v.plan.cores = subst (λ (x : Plan). self.core < x.cores) (sym o.plan) self.there in let above = c.requires.placed.there in
+    let count = two_finished_count (min self.core at) (max self.core at) held.low.state held.high.state v (view_of c.hold_two-held.new.seat) (view_of c.draw_two-position.new.seat)
+    (view_of c.publish_two.new.seat) (view_of c.release_two-2.new.seat) (omega arith) (omega arith) e.held.view (entry.Wake c.in-Some.thread self.core at c.args.reads) c.draw_two-position.result
+    c.draw_two-position.ensures.drawn last.low.core last.high.core last.low.state last.high.state c.publish_two.ensures.seen.view c.release_two-2.ensures.home.view in
+    omega (arith, count)

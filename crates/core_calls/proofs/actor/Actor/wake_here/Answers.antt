@@ -1,4 +1,4 @@
-use Rattle.std.proofs.Common.{ℕ, ◌<◌, ◌≡◌, ap, ◌∙◌, sym, subst, refl, false}
+use Rattle.std.proofs.Common.{ℕ, ◌<◌, ◌≡◌, arith, ap, ◌∙◌, sym, subst, refl, false}
 use Rattle.policy_tree.specs.Meaning.{meaning_of}
 use Rattle.round_model.specs.declared.entry.Entry.TheVariants as entry
 use Rattle.round_model.specs.declared.plan.Plan.{Plan}
@@ -12,7 +12,7 @@ use Rattle.core_table.specs.Told.{IsLocalIn}
 use Rattle.core_table.specs.Views.{giving, holding, meaning_in, taken}
 use Rattle.select_phase.proofs.Viewed.{placed_held}
 use Rattle.core_calls.specs.Code.Sends.{due_in}
-use Rattle.core_calls.proofs.Drawn.{adds_one}
+use Rattle.core_calls.proofs.Drawn.{adds_one, finished_count, glimpsed_count}
 use Rattle.core_calls.proofs.Held.{due_blocked, may_return, task_wakes}
 use Rattle.core_calls.proofs.Local.{wake_local}
 use Rattle.core_calls.proofs.Marking.{none_due_one, none_named}
@@ -95,3 +95,17 @@ returns-clause-woken g c =
       adds = adds_one v self.core c.finish.result (entry.Wake thread self.core self.core c.args.reads) may.of_core may.free self.core y low
           (view_of c.hold-held.new.seat) (view_of c.finish.new.seat) e.view c.hold-held.result.core c.finish.ensures.finished;
     }
+
+pub returns-in_default-clause-few : goal.returns-in_default-clause-few
+returns-in_default-clause-few g c =
+    let v = view_of c.args.seat.now in let self = c.args.self.now in let o = c.requires.seat.opening in let e = c.hold-held.ensures.held in
+    let low : self.core < v.plan.cores = subst (λ (x : Plan). self.core < x.cores) (sym o.plan) self.there in
+    let count = glimpsed_count self.core c.hold-held.result.state v (view_of c.release.new.seat) low (c.release.ensures.home.view ∙ ap giving e.view) in omega (arith, count)
+
+pub returns-clause-few : goal.returns-clause-few
+returns-clause-few g c =
+    let v = view_of c.args.seat.now in let self = c.args.self.now in let o = c.requires.seat.opening in let e = c.hold-held.ensures.held in
+    let low : self.core < v.plan.cores = subst (λ (x : Plan). self.core < x.cores) (sym o.plan) self.there in
+    let count = finished_count self.core c.hold-held.result.state v (view_of c.hold-held.new.seat) (view_of c.finish.new.seat) low e.view
+    (entry.Wake c.in-Some.thread self.core self.core c.args.reads) c.hold-held.result.core c.finish.result c.finish.ensures.finished in
+    omega (arith, count)

@@ -1,7 +1,8 @@
-use Rattle.std.proofs.Common.{[], refl, sym, subst}
-use Rattle.select_phase.specs.Seen.{AreLate}
+use Rattle.std.proofs.Common.{[], ◌+◌, ◌≤◌, length, refl, sym, subst, arith}
+use Rattle.select_phase.specs.Seen.{AreLast, AreLate}
 use Rattle.select_phase.proofs.Deciding.{all_fit, has_looked}
 use Rattle.turn_tests.specs.Memory.{core_of, meaning_in_memory, plan_of, view_of}
+use Rattle.turn_tests.proofs.Reading.{fresh_last}
 use Rattle.turn_tests.proofs.Stepping.{fresh_late}
 use Rattle.turn_tests.proofs.calling.MemoryCallsCoreCalls.look.Goals as goal
 
@@ -19,4 +20,6 @@ returns-clause-looked c =
           (core_of it) c.choice.result c.requires.ready.agrees.role.there c.choice.ensures.choice c.choice.ensures.there;
       late = subst (AreLate (view_of it)) (sym c.fresh_reads-reads.ensures) (fresh_late it c.requires.ready);
       read = record { more = []; is = refl };
+      last = subst (AreLast (view_of it)) (sym c.fresh_reads-reads.ensures) (fresh_last it);
+      all = omega arith;
     }

@@ -1,0 +1,13 @@
+//! What each command of the program answers, over files and a sink that are handed in.
+#![tactic(auto)]
+
+mod answers;
+mod commands;
+mod ending;
+mod status;
+mod stop;
+mod texts;
+mod top;
+
+pub use status::Status;
+pub use top::{ipanema, serial_command};

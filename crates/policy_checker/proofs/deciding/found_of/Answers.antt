@@ -1,4 +1,0 @@
-use Rattle.policy_checker.proofs.deciding.found_of.Goals as goal
-
-pub returns-then-is_difference : goal.returns-then-is_difference
-returns-then-is_difference c = c.by_differences.ensures c.args.budget
