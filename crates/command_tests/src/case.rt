@@ -3,9 +3,9 @@
 //! - `WORDS => STATUS RELATION TEXT`
 //! - `WORDS ; OPTIONS => STATUS RELATION TEXT`
 //!
-//! Words have a blank between them, and `''` is the empty word. The answer is the status and what is written: that `is`
-//! the text, `begins` or `ends` with it, or `has` it in it; `lines N` says how many lines it has. Where no relation stands,
-//! the status alone is asked for. Options have `, ` between them:
+//! Words have a blank between them, and `''` is the empty word. The answer is the status and what is written: that
+//! `is` the text, `begins` or `ends` with it, or `has` it in it; `lines N` says how many lines it has. Where no
+//! relation stands, the status alone is asked for. Options have `, ` between them:
 //!
 //! - `load N`, `put N`: the load or the put of that number fails, from 0;
 //! - `bite N`: a put takes at most so many bytes;

@@ -1,6 +1,6 @@
-//! Plays the tables of calls in `data/` over the program's top call, with files and a sink in memory, and prints of each
-//! table how many calls answered as expected, and every one that didn't. A few checks that no table can hold stand in
-//! code behind them.
+//! Plays the tables of calls in `data/` over the program's top call, with files and a sink in memory, and prints of
+//! each table how many calls answered as expected, and every one that didn't. A few checks that no table can hold
+//! stand in code behind them.
 #![tactic(auto)]
 
 mod calls;

@@ -1,6 +1,7 @@
 //! How texts are spelled in the tables. `|` stands for a line feed, and a piece in brackets for other bytes:
 //!
-//! - `[N:PART]` for PART N times, where PART may have such pieces in it, and `@` in it stands for the number of the time;
+//! - `[N:PART]` for PART N times, where PART may have such pieces in it, and `@` in it stands for the number of the
+//!   time;
 //! - `[#HH]` for the byte of that hexadecimal number;
 //! - `[NAME]` for the text of the file of that name, and `[NAME N]` for its first N lines.
 

@@ -1,55 +1,30 @@
 -- What a step leaves to its seat, and what its draw tells.
 use Rattle.std.proofs.Common.{◌≡◌, ℕ, suc, ◌+◌, ◌<◌, ◌≤◌, true, List, [], ◌∷◌, ◌++◌, length, slice_index, MatchOption, Option, Some, None, refl, sym, ap, ◌∙◌, subst}
 use Rattle.std.proofs.lemmas.List.{append_assoc}
-use Rattle.policy_tree.specs.Meaning.{Meaning}
 use Rattle.round_model.specs.declared.entry.Entry.{Entry}
 use Rattle.round_model.specs.declared.entry.Entry.TheVariants as entry
-use Rattle.round_model.specs.declared.plan.Plan.{Plan}
 use Rattle.round_model.specs.Legal.{Legal}
 use Rattle.core_state.specs.Logs.{logged}
 use Rattle.core_state.specs.Views.{CoreView}
-use Rattle.core_table.specs.declared.views.Note.{Note}
 use Rattle.core_table.specs.declared.views.Role.TheVariants as role
 use Rattle.core_table.specs.declared.views.View.{View}
 use Rattle.core_table.specs.Plays.{Draws}
+use Rattle.core_table.specs.Pairs.{holding_two}
 use Rattle.core_table.specs.Public.{publishing}
 use Rattle.core_table.specs.Told.{Agrees, Each, IsSeatOf, IsTrueRole}
 use Rattle.core_table.specs.Views.{giving, holding, meaning_in, note_of_core}
+use Rattle.core_table.proofs.TwoHeld.{notes_held, stacked_length}
 use Rattle.core_table.proofs.Positions.{above}
 use Rattle.select_phase.specs.Seen.{AreLate, HasMoreNotes}
 use Rattle.select_phase.proofs.Reading.{behind}
-use Rattle.select_phase.proofs.Viewed.{notes_held}
 use Rattle.steal_phase.proofs.Added.{added_one, added_two}
-use Rattle.steal_phase.proofs.Drawn.{agrees_before}
+use Rattle.steal_phase.proofs.Drawn.{agrees_one, agrees_two, next_by}
 use Rattle.core_calls.specs.Code.Finishes.{Finished, Glimpsed}
 use Rattle.core_calls.specs.Code.Wakes.{WokenBy}
-use Rattle.core_calls.specs.Steps.{Adds, HasLetAllIn, HasNoneDue, IsNext, MayWake, ReadsAtMost, Woken}
-
--- what a seat knew before it held a core
-module _ (v : View) (free : v.held ≡ []) where
-  pub agrees_one : (c : ℕ) (y : CoreView) → c < v.plan.cores → (h : List Entry) → Agrees (holding c y v) h → Agrees v h
-  agrees_one c y low h ag = agrees_before v h (holding c y v).notes (note_of_core v.start c y ∷ []) (holding c y v).held free (notes_held c y v low) ag
-
-  pub agrees_two : (b c : ℕ) (y z : CoreView) → b < v.plan.cores → c < v.plan.cores → (h : List Entry) → Agrees (holding c z (holding b y v)) h → Agrees v h
-  agrees_two b c y z low high h ag =
-      agrees_before v h (holding c z (holding b y v)).notes (note_of_core v.start c z ∷ note_of_core v.start b y ∷ []) (holding c z (holding b y v)).held free
-      (notes_held c z (holding b y v) high ∙ ap (λ (l : List Note). note_of_core v.start c z ∷ l) (notes_held b y v low)) ag
-
--- what was drawn is next, by a history with which the view agreed
-next_by : (v w u : View) (at : ℕ) (e : Entry) (d : Draws e w at u) → (let A : Type 0 = Meaning × Plan in let x : A = (meaning_in w, w.plan) in let y : A = (meaning_in v, v.plan) in x ≡ y) → Agrees v d.history
-    → IsNext at e v
-next_by v w u at e d same ag =
-    let plan : w.plan ≡ v.plan = ap (λ (x : Meaning × Plan). x.1) same in
-    record {
-      history = d.history;
-      agrees = ag;
-      position = d.at;
-      legal = subst (λ (x : Meaning × Plan). Legal x.0 x.1 (d.history ++ e ∷ [])) (ap (λ (x : View). (meaning_in x, x.plan)) d.view ∙ same) d.now.legal;
-      above = above v d.history at ag d.at (subst (λ (x : Plan). at < x.limit) plan d.below);
-    }
+use Rattle.core_calls.specs.Steps.{AddsNext, HasLetAllIn, HasNoneDue, MayWake, ReadsAtMost, Woken}
 
 -- one core was held
-pub adds_one : (v : View) (a at : ℕ) (e : Entry) → IsSeatOf v a → v.held ≡ [] → (c : ℕ) (y : CoreView) → c < v.plan.cores → (w now : View) → w ≡ holding c y v → (b : ℕ) → Finished e b at w now → Adds a at e v now
+pub adds_one : (v : View) (a at : ℕ) (e : Entry) → IsSeatOf v a → v.held ≡ [] → (c : ℕ) (y : CoreView) → c < v.plan.cores → (w now : View) → w ≡ holding c y v → (b : ℕ) → Finished e b at w now → AddsNext a at e v now
 adds_one v a at e of_core free c y low w now is b f =
     let d = subst (λ (x : View). Draws e x at f.drawn) is f.draws in
     record {
@@ -58,13 +33,13 @@ adds_one v a at e of_core free c y low w now is b f =
     }
 
 -- two were
-pub adds_two : (v : View) (a at : ℕ) (e : Entry) → IsSeatOf v a → v.held ≡ [] → (low high : ℕ) (y z : CoreView) → low < v.plan.cores → high < v.plan.cores → (b c : ℕ) (y_now z_now : CoreView) → (w u x now : View) → w ≡ holding high z (holding low y v)
-    → Draws e w at u → x ≡ publishing c z_now (publishing b y_now u) → now ≡ giving (giving x) → now.held ≡ [] → Adds a at e v now
-adds_two v a at e of_core free low high y z inside above b c y_now z_now w u x now is drawn shown given empty =
+pub adds_two : (v : View) (a at : ℕ) (e : Entry) → IsSeatOf v a → v.held ≡ [] → (b : ℕ) (y : CoreView) (c : ℕ) (z : CoreView) (k : ℕ) (y_now : CoreView) (l : ℕ) (z_now : CoreView) → (w u x now : View) → w ≡ holding_two b y c z v
+    → Draws e w at u → x ≡ publishing l z_now (publishing k y_now u) → now ≡ giving (giving x) → now.held ≡ [] → AddsNext a at e v now
+adds_two v a at e of_core free b y c z k y_now l z_now w u x now is drawn shown given empty =
     let d = subst (λ (x : View). Draws e x at u) is drawn in
     record {
-      added = added_two v a at e of_core low high y z b c y_now z_now inside above w u x now is drawn shown given empty;
-      next = next_by v (holding high z (holding low y v)) u at e d refl (agrees_two v free low high y z inside above d.history d.before);
+      added = added_two v a at e of_core b y c z k y_now l z_now w u x now is drawn shown given empty;
+      next = next_by v (holding_two b y c z v) u at e d refl (agrees_two v free b y c z d.history d.before);
     }
 
 -- the seat only read before, or held cores and let them go
@@ -89,7 +64,7 @@ module _ (a : ℕ) (v w : View) (g : Glimpsed a v w) (of_core : IsSeatOf v a) wh
         held = ag.held;
       }
 
-  pub adds_behind : (at : ℕ) (e : Entry) (now : View) → Adds a at e w now → Adds a at e v now
+  pub adds_behind : (at : ℕ) (e : Entry) (now : View) → AddsNext a at e w now → AddsNext a at e v now
   adds_behind at e now adds =
       let s = adds.added in let n = adds.next in let ag = agrees_glimpsed n.history n.agrees in
       record {
@@ -168,11 +143,8 @@ held_count c y v low = ap length (notes_held c y v low)
 pub glimpsed_count : (c : ℕ) (y : CoreView) (v now : View) → c < v.plan.cores → now ≡ giving (holding c y v) → length now.notes ≡ suc (length v.notes)
 glimpsed_count c y v now low is = ap (λ (t : View). length t.notes) is ∙ held_count c y v low
 
-pub two_held_count : (b c : ℕ) (y z : CoreView) (v : View) → b < v.plan.cores → c < v.plan.cores → length (holding c z (holding b y v)).notes ≡ suc (suc (length v.notes))
-two_held_count b c y z v low high = held_count c z (holding b y v) high ∙ ap suc (held_count b y v low)
-
-pub two_glimpsed_count : (b c : ℕ) (y z : CoreView) (v now : View) → b < v.plan.cores → c < v.plan.cores → now ≡ giving (giving (holding c z (holding b y v))) → length now.notes ≡ suc (suc (length v.notes))
-two_glimpsed_count b c y z v now low high is = ap (λ (t : View). length t.notes) is ∙ two_held_count b c y z v low high
+pub two_glimpsed_count : (b : ℕ) (y : CoreView) (c : ℕ) (z : CoreView) (v now : View) → now ≡ giving (giving (holding_two b y c z v)) → length now.notes ≡ suc (suc (length v.notes))
+two_glimpsed_count b y c z v now is = ap (λ (t : View). length t.notes) is ∙ stacked_length b c (note_of_core v.start b y) (note_of_core v.start c z) v.notes
 
 -- its word is noted as it is written
 pub finished_count : (c : ℕ) (y : CoreView) (v w now : View) → c < v.plan.cores → w ≡ holding c y v → (e : Entry) (b at : ℕ) → Finished e b at w now → length now.notes ≡ suc (suc (length v.notes))
@@ -180,8 +152,8 @@ finished_count c y v w now low is e b at f =
     ap (λ (t : View). length t.notes) (f.given ∙ ap (λ (t : View). giving (publishing b f.state t)) f.draws.view)
     ∙ (ap (λ (t : View). suc (length t.notes)) is ∙ ap suc (held_count c y v low))
 
-pub two_finished_count : (b c : ℕ) (y z : CoreView) (v w u x now : View) → b < v.plan.cores → c < v.plan.cores → w ≡ holding c z (holding b y v) → (e : Entry) (at : ℕ) → Draws e w at u → (k l : ℕ) (y_now z_now : CoreView)
+pub two_finished_count : (b : ℕ) (y : CoreView) (c : ℕ) (z : CoreView) (v w u x now : View) → w ≡ holding_two b y c z v → (e : Entry) (at : ℕ) → Draws e w at u → (k : ℕ) (y_now : CoreView) (l : ℕ) (z_now : CoreView)
     → x ≡ publishing l z_now (publishing k y_now u) → now ≡ giving (giving x) → length now.notes ≡ suc (suc (suc (suc (length v.notes))))
-two_finished_count b c y z v w u x now low high is e at drawn k l y_now z_now shown given =
+two_finished_count b y c z v w u x now is e at drawn k y_now l z_now shown given =
     ap (λ (t : View). length t.notes) (given ∙ ap (λ (t : View). giving (giving t)) (shown ∙ ap (λ (t : View). publishing l z_now (publishing k y_now t)) drawn.view))
-    ∙ (ap (λ (t : View). suc (suc (length t.notes))) is ∙ ap (λ n. suc (suc n)) (two_held_count b c y z v low high))
+    ∙ (ap (λ (t : View). suc (suc (length t.notes))) is ∙ ap (λ n. suc (suc n)) (stacked_length b c (note_of_core v.start b y) (note_of_core v.start c z) v.notes))

@@ -10,7 +10,7 @@ use Rattle.core_table.specs.declared.views.Role.TheVariants as role
 use Rattle.core_table.specs.declared.views.View.{View}
 use Rattle.core_table.specs.Told.{IsSeatOf}
 use Rattle.core_table.specs.Views.{giving, holding, is_without_due, note_of_core, remembering, taken}
-use Rattle.select_phase.proofs.Viewed.{notes_held}
+use Rattle.core_table.proofs.TwoHeld.{notes_held}
 use Rattle.core_calls.specs.Code.Finishes.{Glimpsed}
 use Rattle.core_calls.specs.Steps.{HasNoneDue}
 

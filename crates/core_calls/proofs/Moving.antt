@@ -1,8 +1,6 @@
 -- What each entry makes of the cores that a seat holds.
-use Rattle.std.proofs.Common.{◌≡◌, ◌≢◌, ℕ, ◌<◌, ◌⊎◌, inl, inr, ◌||◌, eqb, Bool, true, false, cond, List, [], ◌∷◌, Option, Some, refl, sym, ap, ◌∙◌, arith, eq-eqb, ne_eqb}
+use Rattle.std.proofs.Common.{◌≡◌, ◌≢◌, ℕ, ◌<◌, ◌||◌, eqb, Bool, true, false, cond, List, [], ◌∷◌, Option, Some, refl, sym, ap, ◌∙◌, arith, eq-eqb, ne_eqb}
 use Rattle.std.proofs.lemmas.Bool.Decides.{nat_tests}
-use mathlib.Core.Logic.{dite}
-use native.Mathlib.Decide.{ℕ_discrete}
 use mathlib.Core.Option.{some}
 use lib.ListN.{get_elem?}
 use Rattle.sched_base.specs.declared.task.Task.{Task}
@@ -22,9 +20,13 @@ use Rattle.round_model.specs.Programs.{entering_task, planned_of}
 use Rattle.round_model.specs.Work.{core_after_work}
 use Rattle.round_model.proofs.Finding.{find-passes}
 use Rattle.core_state.specs.Views.{CoreView}
+use Rattle.core_table.specs.declared.views.HeldCore.{HeldCore}
 use Rattle.core_table.specs.declared.views.View.{View}
-use Rattle.core_table.specs.Public.{HasMoved, HasMovedTwo, IsMoved}
+use Rattle.core_table.specs.Pairs.{HasMovedTwo, holding_two}
+use Rattle.core_table.specs.Public.{HasMoved, IsMoved}
 use Rattle.core_table.specs.Views.{holding, meaning_in, taken}
+use Rattle.core_table.proofs.TwoHeld.{first_place, second_place}
+use Rattle.steal_phase.proofs.Moving.{moves_two, touches_first, touches_second}
 use Rattle.core_calls.specs.Code.Sends.{SendsOne}
 
 -- each entry that touches one core alone, by what it leaves of that
@@ -83,11 +85,6 @@ module _ (v : View) (c : ℕ) (y z : CoreView) (free : v.held ≡ []) (low : c <
       both true = refl
       both false = refl
 
-either_hits : (a b c : ℕ) → (eqb a c || eqb b c) ≡ true → (c ≡ a) ⊎ (c ≡ b)
-either_hits a b c is = dite (ℕ_discrete a c)
-    (λ first. inl (sym first))
-    (λ other. inr (let alone : eqb b c ≡ true = sym (ap (λ x. x || eqb b c) (ne_eqb a c other)) ∙ is in grind (arith, nat_tests)))
-
 -- a thread that wakes on another core, at the one and at the other
 touches_two : (c a b thread : ℕ) (reads : List ℕ) → touches c (entry.Wake thread a b reads) ≡ (eqb a c || eqb b c)
 unfolding touches
@@ -95,17 +92,10 @@ touches_two c a b thread reads = refl
 
 module _ (a b thread : ℕ) (reads : List ℕ) where
   touches_own : touches a (entry.Wake thread a b reads) ≡ true
-  touches_own = touches_two a a b thread reads ∙ ap (λ x. x || eqb b a) (eq-eqb a a refl)
+  touches_own = touches_first (entry.Wake thread a b reads) a b (λ c. touches_two c a b thread reads)
 
   touches_other : touches b (entry.Wake thread a b reads) ≡ true
-  touches_other = touches_two b a b thread reads ∙ second (eqb a b)
-    where
-      second : (x : Bool) → (x || eqb b b) ≡ true
-      second true = refl
-      second false = eq-eqb b b refl
-
-  touches_no_third : (d : ℕ) → touches d (entry.Wake thread a b reads) ≡ true → (d ≡ a) ⊎ (d ≡ b)
-  touches_no_third d is = either_hits a b d (sym (touches_two d a b thread reads) ∙ is)
+  touches_other = touches_second (entry.Wake thread a b reads) a b (λ c. touches_two c a b thread reads)
 
 module _ (p : Meaning) (plan : Plan) (round : ℕ) (m : Cores) (a b thread : ℕ) (reads : List ℕ) (apart : a ≢ b) (x : Blocked) (found : blocked_of thread (m a) ≡ Some x) where
   wake_leaves : moved p plan round (entry.Wake thread a b reads) m a ≡ released thread (m a)
@@ -142,44 +132,11 @@ module _ (v : View) (a b thread : ℕ) (reads : List ℕ) (y z : CoreView) (apar
             ∙ sym (wake_comes (meaning_in v) v.plan v.round m a b thread reads apart sent.blocked (ap (blocked_of thread) mine ∙ sent.found))) k;
       })
 
--- by its number the core is the lower or the higher of the two
-module _ (v : View) (a b thread : ℕ) (reads : List ℕ) (y z left came : CoreView) (apart : a ≢ b) (free : v.held ≡ []) (sent : SendsOne (meaning_in v) thread y z left came) where
-  pub sent_up : a < b → b < v.plan.cores → HasMovedTwo (entry.Wake thread a b reads) (holding b z (holding a y v)) a left b came
-  sent_up order low =
-      let w : View = holding b z (holding a y v) in
-      record {
-        low = taken v.plan.cores a y;
-        high = taken v.plan.cores b z;
-        only = λ k. taken v.plan.cores b z ∷ taken v.plan.cores a y ∷ free k;
-        low_core = refl;
-        low_is = own_moved w a b thread reads y z apart 1 0 refl refl left came sent;
-        high_core = refl;
-        high_is = other_moved w a b thread reads y z apart 1 0 refl refl left came sent;
-        order = order;
-        there = low;
-        low_touched = touches_own a b thread reads;
-        high_touched = touches_other a b thread reads;
-        alone = touches_no_third a b thread reads;
-      }
-
-  pub sent_down : b < a → a < v.plan.cores → HasMovedTwo (entry.Wake thread a b reads) (holding a y (holding b z v)) b came a left
-  sent_down order low =
-      let w : View = holding a y (holding b z v) in
-      record {
-        low = taken v.plan.cores b z;
-        high = taken v.plan.cores a y;
-        only = λ k. taken v.plan.cores a y ∷ taken v.plan.cores b z ∷ free k;
-        low_core = refl;
-        low_is = other_moved w a b thread reads y z apart 0 1 refl refl left came sent;
-        high_core = refl;
-        high_is = own_moved w a b thread reads y z apart 0 1 refl refl left came sent;
-        order = order;
-        there = low;
-        low_touched = touches_other a b thread reads;
-        high_touched = touches_own a b thread reads;
-        alone = λ d is. swap (touches_no_third a b thread reads d is);
-      }
-    where
-      swap : {A B : Type 0} → A ⊎ B → B ⊎ A
-      swap (inl x) = inr x
-      swap (inr x) = inl x
+-- both are held, in whatever order they were taken
+pub sent_both : (v : View) (a b thread : ℕ) (reads : List ℕ) (y z left came : CoreView) → a ≢ b → v.held ≡ [] → SendsOne (meaning_in v) thread y z left came → a < v.plan.cores → b < v.plan.cores
+    → HasMovedTwo (entry.Wake thread a b reads) (holding_two a y b z v) a left b came
+sent_both v a b thread reads y z left came apart free sent inside above =
+    let w : View = holding_two a y b z v in let own : HeldCore = taken v.plan.cores a y in let other : HeldCore = taken v.plan.cores b z in
+    let here = first_place a b own other v.held in let there = second_place a b own other v.held in
+    moves_two (entry.Wake thread a b reads) a b (λ c. touches_two c a b thread reads) v y z left came apart free inside above
+    (own_moved w a b thread reads y z apart here.0 there.0 here.1 there.1 left came sent) (other_moved w a b thread reads y z apart here.0 there.0 here.1 there.1 left came sent)

@@ -13,9 +13,9 @@ use Rattle.select_phase.specs.declared.looks.Look.{Look}
 use Rattle.select_phase.specs.Seen.{HasMoreNotes}
 use Rattle.steal_phase.specs.declared.outcome.Outcome.{Outcome}
 use Rattle.steal_phase.specs.declared.outcome.Outcome.TheVariants as outcome
-use Rattle.steal_phase.specs.Attempts.{HasAdded, MayAttempt, entry_of, own_entries_in, position_of}
+use Rattle.steal_phase.specs.Attempts.{HasAdded, MayAttempt, MayLook, entry_of, own_entries_in, position_of}
 use Rattle.core_calls.specs.declared.turned.Turned.{Turned}
-use Rattle.core_calls.specs.Calls.{LooksAt, MayLook}
+use Rattle.core_calls.specs.Calls.{LooksAt, core_in}
 use Rattle.core_calls.specs.Code.Arrivals.{HasDrawn}
 use Rattle.core_calls.specs.Steps.{HasLetAllIn, Worked}
 use Rattle.core_calls.specs.Turns.{HasTurned, is_told}
@@ -62,19 +62,21 @@ module _ (a n : ℕ) (v w x : View) (s : HasDrawn a n v w) (did : Did) (work : W
   who_ended id = any_more (ends id) a work.at (entry.Work a did) w x work.adds.added ∙ ap (λ b. b || is_ended id did) (s.none_ended id)
 
   -- so the core may look
-  pub may_look : MayLook x
+  pub may_look : MayLook x (core_in x)
   may_look = record { of_core = subst (IsSeatOf x) (sym (core_is x a work.adds.added.of_core)) work.adds.added.of_core; worked = has_run; first = none_tried; free = work.adds.added.free }
 
   -- and by its look it may make its attempt
   pub may_attempt : (y : View) (look : Look) → LooksAt look x y → MayAttempt y look
   may_attempt y look l = record {
-    of_core = let own = work.adds.added.of_core in record {
-      none_due = own.none_due;
-      role = ap (λ (u : View). u.role) l.read.is ∙ (own.role ∙ ap (λ k. role.Core k own.none_due) (sym (l.by ∙ core_is x a own)));
+    ready = record {
+      of_core = let own = work.adds.added.of_core in record {
+        none_due = own.none_due;
+        role = ap (λ (u : View). u.role) l.read.is ∙ (own.role ∙ ap (λ k. role.Core k own.none_due) (sym (l.by ∙ core_is x a own)));
+      };
+      worked = subst (λ (u : View). IsTrue (has_worked (own_entries_in u))) (sym l.read.is) has_run;
+      first = subst (λ (u : View). IsFalse (has_attempted (own_entries_in u))) (sym l.read.is) none_tried;
+      free = ap (λ (u : View). u.held) l.read.is ∙ work.adds.added.free;
     };
-    worked = subst (λ (u : View). IsTrue (has_worked (own_entries_in u))) (sym l.read.is) has_run;
-    first = subst (λ (u : View). IsFalse (has_attempted (own_entries_in u))) (sym l.read.is) none_tried;
-    free = ap (λ (u : View). u.held) l.read.is ∙ work.adds.added.free;
     looked = l.looked;
     last = l.last;
   }

@@ -23,7 +23,7 @@ use Rattle.core_table.proofs.Histories.{log_short, own_is}
 use Rattle.steal_phase.specs.Attempts.{HasAdded, own_entries_in}
 use Rattle.core_calls.specs.Calls.{core_by, core_in}
 use Rattle.core_calls.specs.Code.Arrivals.{HasDrawn}
-use Rattle.core_calls.specs.Steps.{Adds, HasLetAllIn, HasNoneDue, Woken}
+use Rattle.core_calls.specs.Steps.{AddsNext, HasLetAllIn, HasNoneDue, Woken}
 use Rattle.core_calls.specs.Turns.{IsFresh, IsOver}
 
 -- the core of a core's seat
@@ -47,7 +47,7 @@ pub count_more : (a at : ℕ) (e : Entry) (v w : View) → HasAdded a at e v w �
 count_more a at e v w added = ap length added.own ∙ length_push v.own (logged at e)
 
 -- fewer entries than the plan's limit allows
-pub own_few : (a at : ℕ) (e : Entry) (v w : View) → IsSeatOf v a → Adds a at e v w → length v.own < MAX_ENTRIES
+pub own_few : (a at : ℕ) (e : Entry) (v w : View) → IsSeatOf v a → AddsNext a at e v w → length v.own < MAX_ENTRIES
 own_few a at e v w of_core adds =
     let n = adds.next in let h : List Entry = n.history in let t = subst (IsTrueRole (meaning_in v) v.plan h v.own) of_core.role n.agrees.role in
     let own = ap length t.is_own in let short = log_short (acts a) (round_start h) (drop (round_start h) h) in let rest = length-drop (round_start h) h in
@@ -69,7 +69,7 @@ none_drawn a v fresh = record {
     nothing test = ap (λ (own : List Logged). list_any test (map (λ (l : Logged). l.entry) own)) fresh.own
 
 -- one more entry that is of no unit or attempt, and ends nothing
-pub drawn_more : (a n at : ℕ) (e : Entry) (v w x : View) → HasDrawn a n v w → Adds a at e w x → is_work e ≡ false → is_attempt e ≡ false → ((id : ℕ) → ends id e ≡ false) → HasDrawn a (n + 1) v x
+pub drawn_more : (a n at : ℕ) (e : Entry) (v w x : View) → HasDrawn a n v w → AddsNext a at e w x → is_work e ≡ false → is_attempt e ≡ false → ((id : ℕ) → ends id e ≡ false) → HasDrawn a (n + 1) v x
 drawn_more a n at e v w x s adds work attempt none =
     let added = adds.added in
     record {

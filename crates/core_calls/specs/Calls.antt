@@ -1,14 +1,12 @@
--- The calls of a core in its turn: what each needs that no other file says, and what comes of it.
-use Rattle.std.specs.Prelude.{◌≡◌, ℕ, ◌+◌, ◌≤◌, List, [], length, IsFalse, IsTrue}
-use Rattle.round_model.specs.Scenes.{has_attempted, has_worked}
+-- The calls of a core in its turn: which core makes them, and what comes of a look and of an attempt.
+use Rattle.std.specs.Prelude.{◌≡◌, ℕ, ◌+◌, ◌≤◌, List, length}
 use Rattle.core_table.specs.declared.views.Role.{Role}
 use Rattle.core_table.specs.declared.views.Role.TheVariants as role
 use Rattle.core_table.specs.declared.views.View.{View}
-use Rattle.core_table.specs.Told.{IsSeatOf}
 use Rattle.select_phase.specs.declared.looks.Look.{Look}
 use Rattle.select_phase.specs.Seen.{AreLast, AreLate, HasMoreNotes, Looked}
 use Rattle.steal_phase.specs.declared.outcome.Outcome.{Outcome}
-use Rattle.steal_phase.specs.Attempts.{Attempted, HasAdded, entry_of, own_entries_in, position_of}
+use Rattle.steal_phase.specs.Attempts.{Attempted, HasAdded, entry_of, position_of}
 
 -- the core that knows this. What is no core's is of no account
 abbrev pub core_by : Role → ℕ
@@ -18,13 +16,6 @@ core_by role.Spent = 0
 
 abbrev pub core_in : View → ℕ
 core_in v = core_by v.role
-
--- the core may look at all cores: it has run its unit, has made no attempt in the round, and holds nothing
-pub record MayLook (v : View) : Type 0 where
-  pub of_core : IsSeatOf v (core_in v)
-  pub worked : IsTrue (has_worked (own_entries_in v))
-  pub first : IsFalse (has_attempted (own_entries_in v))
-  pub free : v.held ≡ []
 
 -- no more was read than these
 abbrev pub AreAtMost : (before now : View) → List ℕ → Type 0

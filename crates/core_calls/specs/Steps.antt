@@ -1,19 +1,16 @@
 -- The steps of a core with its own threads: what each needs, and what comes of it.
-use Rattle.std.specs.Prelude.{◌≡◌, ℕ, ◌+◌, ◌<◌, ◌≤◌, List, [], ◌∷◌, ◌++◌, length, true, IsFalse, IsNone, IsSomeAnd}
+use Rattle.std.specs.Prelude.{◌≡◌, ℕ, ◌+◌, ◌<◌, ◌≤◌, List, [], ◌++◌, length, true, IsFalse, IsNone, IsSomeAnd}
 use Rattle.round_model.specs.declared.entry.Did.{Did}
 use Rattle.round_model.specs.declared.entry.Entry.{Entry}
 use Rattle.round_model.specs.declared.entry.Entry.TheVariants as entry
 use Rattle.round_model.specs.declared.plan.Planned.{Planned}
-use Rattle.round_model.specs.Legal.{Legal}
 use Rattle.round_model.specs.Scenes.{entering_next, has_worked}
 use Rattle.core_table.specs.declared.views.Note.{Note}
 use Rattle.core_table.specs.declared.views.Role.TheVariants as role
 use Rattle.core_table.specs.declared.views.View.{View}
-use Rattle.core_table.specs.Above.{IsAbove}
-use Rattle.core_table.specs.Told.{Agrees, IsSeatOf}
-use Rattle.core_table.specs.Views.{meaning_in}
+use Rattle.core_table.specs.Told.{IsSeatOf}
 use Rattle.select_phase.specs.Seen.{AreLate}
-use Rattle.steal_phase.specs.Attempts.{HasAdded, own_entries_in}
+use Rattle.steal_phase.specs.Attempts.{HasAdded, IsNext, own_entries_in}
 
 -- no thread is left that the core is to let in
 abbrev pub HasLetAllIn : View → ℕ → Type 0
@@ -38,16 +35,8 @@ pub record MayWork (v : View) (core : ℕ) : Type 0 where
   pub first : IsFalse (has_worked (own_entries_in v))
   pub free : v.held ≡ []
 
--- the entry stands at that position. It is legal behind the history before it, with which the view agreed
-pub record IsNext (at : ℕ) (e : Entry) (v : View) : Type 0 where
-  pub history : List Entry
-  pub agrees : Agrees v history
-  pub position : length history ≡ at
-  pub legal : Legal (meaning_in v) v.plan (history ++ e ∷ [])
-  pub above : IsAbove v at
-
 -- the core's seat has that entry more, which was legal, and holds nothing
-pub record Adds (core at : ℕ) (e : Entry) (before now : View) : Type 0 where
+pub record AddsNext (core at : ℕ) (e : Entry) (before now : View) : Type 0 where
   pub added : HasAdded core at e before now
   pub next : IsNext at e before
 
@@ -63,7 +52,7 @@ pub record Entered (core thread at : ℕ) (before now : View) : Type 0 where
   pub reads : List ℕ
   pub late : AreLate before reads
   pub all : ReadsAtMost 2 before now reads
-  pub adds : Adds core at (entry.Enter thread core to reads) before now
+  pub adds : AddsNext core at (entry.Enter thread core to reads) before now
 
 -- a thread of the core woke, and was placed by these reads, none earlier than it knew its core. The core was held to
 -- see who is due, and at most two cores were held and shown
@@ -73,12 +62,12 @@ pub record Woken (core at : ℕ) (before now : View) : Type 0 where
   pub reads : List ℕ
   pub late : AreLate before reads
   pub all : ReadsAtMost 5 before now reads
-  pub adds : Adds core at (entry.Wake thread core to reads) before now
+  pub adds : AddsNext core at (entry.Wake thread core to reads) before now
 
 -- the core ran its unit, of which this is said
 pub record Worked (core : ℕ) (what : Did) (before now : View) : Type 0 where
   pub at : ℕ
-  pub adds : Adds core at (entry.Work core what) before now
+  pub adds : AddsNext core at (entry.Work core what) before now
 
 -- nothing was drawn. The seat has the mark: in no history with which its view agrees is a thread of the core due
 pub record HasNoneDue (core : ℕ) (before now : View) : Type 0 where

@@ -8,7 +8,8 @@ use policy_tree::Policy;
 use round_model::Plan;
 use sched_base::CoreId;
 
-/// A core that acts: its number and its table, and the policy and the plan with which that was opened.
+/// A core that acts: its number and its table, and the policy and the plan with which that was opened. No step changes
+/// any of these, and each is lent the core's seat.
 #[derive(Clone, Copy)]
 pub struct Actor<'a> {
     pub(crate) table: &'a Table,

@@ -31,7 +31,7 @@ pub(crate) fn enter_all<R: Wait, C: CoreCalls>(
     let mut entered = 0;
     for thread in plan.threads.as_slice() {
         if thread.core == core && thread.round == round {
-            calls.arrive(rt, thread.id);
+            calls.enter(rt, thread.id);
             entered += 1;
         }
     }

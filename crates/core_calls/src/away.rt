@@ -1,6 +1,6 @@
 //! A blocked thread wakes on another core.
 
-ghost use Rattle.std.specs.Prelude.{◌≡◌, ◌≢◌, ◌⊎◌, MatchOption};
+ghost use Rattle.std.specs.Prelude.{◌≡◌, ◌≢◌, MatchOption};
 ghost use Rattle.policy_tree.specs.Meaning.{meaning_of};
 ghost use Rattle.core_table.specs.Public.{IsOf, plan_of, policy_of, view_of};
 ghost use Rattle.select_phase.specs.Seen.{Placed};
@@ -12,7 +12,7 @@ ghost use Rattle.core_calls.specs.Code.Wakes.{WokenBy};
 ghost use Rattle.core_calls.specs.Steps.{HasNoneDue, MayWake};
 
 use crate::actor::Actor;
-use core_table::{Held, HeldTwo, Seat};
+use core_table::{Held, Seat};
 use round_model::Entry;
 use sched_base::{CoreId, Pos, Reads, ThreadId};
 use std::sync::Wait;
@@ -38,7 +38,7 @@ impl Actor<'_> {
         ensures few { HasFewMore 4 (view_of seat.old) (view_of seat.new) }
     {
         let mut held = self.table.hold_two(rt, seat, self.core, at);
-        let Some(thread) = self.send_between(&mut held, round) else {
+        let Some(thread) = self.send_due(&mut held.first, &mut held.second, round) else {
             self.table.release_two(seat, held);
             return None;
         };
@@ -52,24 +52,6 @@ impl Actor<'_> {
         self.table.publish_two(seat, &held);
         self.table.release_two(seat, held);
         Some(position)
-    }
-
-    /// The due thread goes over, from the core's own state to the other that is held.
-    fn send_between(&self, held: &mut HeldTwo, round: u32) -> Option<ThreadId>
-        requires two { AreTwo (meaning_of (policy_of (table_of self.now))) (plan_of (table_of self.now))
-            held.old.low.core held.old.low.state held.old.high.core held.old.high.state }
-        requires own { (core_of self.now ≡ held.old.low.core) ⊎ (core_of self.now ≡ held.old.high.core) }
-        ensures cores { (held.new.low.core ≡ held.old.low.core) × (held.new.high.core ≡ held.old.high.core) }
-        ensures up { core_of self.now ≡ held.old.low.core → Sends (meaning_of (policy_of (table_of self.now)))
-            round result held.old.low.state held.old.high.state held.new.low.state held.new.high.state }
-        ensures down { core_of self.now ≡ held.old.high.core → Sends (meaning_of (policy_of (table_of self.now)))
-            round result held.old.high.state held.old.low.state held.new.high.state held.new.low.state }
-    {
-        if self.core == held.low.core {
-            self.send_due(&mut held.low, &mut held.high, round)
-        } else {
-            self.send_due(&mut held.high, &mut held.low, round)
-        }
     }
 
     /// The next thread that is due leaves the one core and comes to the other.

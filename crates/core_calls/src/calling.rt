@@ -56,7 +56,7 @@ impl CoreCalls for SeatCalls<'_> {
 
     ghost follows = { λ before now. table_of (actor_of now) ≡ table_of (actor_of before) };
 
-    fn arrive<R: Wait>(&mut self, rt: &R, thread: ThreadId) -> Pos {
+    fn enter<R: Wait>(&mut self, rt: &R, thread: ThreadId) -> Pos {
         self.actor.enter(rt, &mut self.seat, thread)
     }
 
@@ -78,7 +78,7 @@ impl CoreCalls for SeatCalls<'_> {
         look(table, &mut self.seat, policy, core)
     }
 
-    fn act<R: Wait>(&mut self, rt: &R, look: Look) -> Outcome {
+    fn attempt<R: Wait>(&mut self, rt: &R, look: Look) -> Outcome {
         let Actor { table, policy, .. } = self.actor;
         attempt(table, rt, &mut self.seat, policy, look)
     }

@@ -3,8 +3,8 @@
 ghost use Rattle.std.specs.Prelude.{◌≡◌, MatchOption};
 ghost use Rattle.core_table.specs.declared.views.View.{View};
 ghost use Rattle.core_table.specs.Told.{IsKnown};
-ghost use Rattle.steal_phase.specs.Attempts.{MayAttempt};
-ghost use Rattle.core_calls.specs.Calls.{LooksAt, MayLook, Tries, core_in};
+ghost use Rattle.steal_phase.specs.Attempts.{MayAttempt, MayLook};
+ghost use Rattle.core_calls.specs.Calls.{LooksAt, Tries, core_in};
 ghost use Rattle.core_calls.specs.Steps.{Entered, HasNoneDue, MayEnter, MayWake, MayWork, Woken, Worked};
 
 use round_model::Did;
@@ -27,7 +27,7 @@ pub trait CoreCalls {
     ghost follows: { Self → Self → Type 0 };
 
     /// Lets the thread in, which is the next to enter by this core, and says at which position.
-    fn arrive<R: Wait>(&mut self, rt: &R, thread: ThreadId) -> Pos
+    fn enter<R: Wait>(&mut self, rt: &R, thread: ThreadId) -> Pos
         requires ready { ready self.old }
         requires may { MayEnter (view self.old) (core_in (view self.old)) thread }
         ensures ready { ready self.new × follows self.old self.new }
@@ -54,12 +54,12 @@ pub trait CoreCalls {
     /// Looks at all cores, its own too, once its unit is run. It waits for none of them.
     fn look(&mut self) -> Look
         requires ready { ready self.old }
-        requires may { MayLook (view self.old) }
+        requires may { MayLook (view self.old) (core_in (view self.old)) }
         ensures ready { ready self.new × follows self.old self.new }
         ensures looked { LooksAt result (view self.old) (view self.new) };
 
     /// Makes the attempt by that look.
-    fn act<R: Wait>(&mut self, rt: &R, look: Look) -> Outcome
+    fn attempt<R: Wait>(&mut self, rt: &R, look: Look) -> Outcome
         requires ready { ready self.old }
         requires may { MayAttempt (view self.old) look }
         ensures ready { ready self.new × follows self.old self.new }

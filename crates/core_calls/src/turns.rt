@@ -36,7 +36,7 @@ pub fn turn<R: Wait, C: CoreCalls, G: Gate>(
     let did = calls.work(rt, round);
     gate.pass(rt, core, round);
     let look = calls.look();
-    calls.act(rt, look);
+    calls.attempt(rt, look);
     Turned {
         entries: drawn + 2,
         ended: ended_in(did),

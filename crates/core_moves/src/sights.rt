@@ -2,18 +2,15 @@
 
 ghost use Rattle.std.specs.Prelude.{◌≡◌, ◌<◌, ◌≤◌, ℕ, All, IfSome, List, Some, length, option_map};
 ghost use Rattle.policy_tree.specs.Meaning.{Meaning, meaning_of};
-ghost use Rattle.policy_tree.specs.Trees.{cond_tree};
 ghost use Rattle.policy_eval.specs.Obligations.{MeetsHandlerObligations};
-ghost use Rattle.policy_eval.specs.Sights.{pair_values};
-ghost use Rattle.policy_eval.specs.Values.{holds as holds_at};
 ghost use Rattle.round_model.specs.declared.plan.Plan.{Plan};
 ghost use Rattle.round_model.specs.After.{after};
 ghost use Rattle.round_model.specs.Attempts.{attempt_on, present_values};
-ghost use Rattle.round_model.specs.Choices.{choice_of, target_of, values_in};
+ghost use Rattle.round_model.specs.Choices.{choice_of, may_steal as may_steal_by, target_of, values_in};
 ghost use Rattle.round_model.specs.Code.Outcomes.{entry_with};
 ghost use Rattle.round_model.specs.Cores.{seen_of};
 ghost use Rattle.round_model.specs.Fits.{Fits};
-ghost use Rattle.round_model.specs.Reads.{values_of};
+ghost use Rattle.round_model.specs.Reads.{values_of as values_by};
 ghost use Rattle.round_model.specs.Scenes.{waking_next};
 ghost use Rattle.core_moves.specs.Code.Changes.{HoldsAt, IsCountable};
 ghost use Rattle.core_moves.specs.Cores.{AreReached};
@@ -21,9 +18,10 @@ ghost use Rattle.core_moves.specs.Sights.{OfEach, reads_now, values_now};
 
 use crate::cores::Cores;
 use core_state::end_of;
-use policy_eval::{CoreValues, Env, holds};
+use policy_eval::CoreValues;
 use policy_tree::Policy;
-use round_model::{Plan, choice, target};
+use round_model::state::CountAndLoad;
+use round_model::{Plan, choice, may_steal, target, values_of};
 use sched_base::{CoreId, MAX_CORES, Reads, ThreadId};
 
 impl Cores {
@@ -108,14 +106,13 @@ impl Cores {
         requires reached { AreReached (meaning_of policy.now) plan.now self.now }
         requires core { core < plan.now.cores }
         requires victim { victim < plan.now.cores }
-        ensures { OfEach (meaning_of policy.now) plan.now self.now (λ history. result ≡ holds_at (pair_values
-            (present_values plan.now (after (meaning_of policy.now) plan.now history) core)
-            (present_values plan.now (after (meaning_of policy.now) plan.now history) victim))
-            (cond_tree policy.now.filter)) }
+        ensures { OfEach (meaning_of policy.now) plan.now self.now (λ history. result ≡ may_steal_by
+            (meaning_of policy.now) (present_values plan.now (after (meaning_of policy.now) plan.now history) core)
+            (present_values plan.now (after (meaning_of policy.now) plan.now history) victim)) }
     {
         let own = self.present(plan, core);
         let other = self.present(plan, victim);
-        holds(&policy.filter, &Env::of_pair(&own, &other))
+        may_steal(policy, &own, &other)
     }
 
     /// What is to be seen of each core of the plan as it is.
@@ -126,7 +123,7 @@ impl Cores {
         requires countable { All IsCountable self.now.cores }
         ensures len { length result ≡ MAX_CORES }
         ensures each { (c : ℕ) → HoldsAt self.now.cores c
-            (λ y. values_in result c ≡ values_of plan.now c (seen_of y.core)) }
+            (λ y. values_in result c ≡ values_by plan.now c (seen_of y.core)) }
     {
         let mut values = [CoreValues::NONE; MAX_CORES];
         for core in 0..plan.cores {
@@ -140,13 +137,13 @@ impl Cores {
         requires consts { core < length plan.now.consts }
         requires core { core < length self.now.cores }
         requires countable { All IsCountable self.now.cores }
-        ensures { HoldsAt self.now.cores core (λ y. result ≡ values_of plan.now core (seen_of y.core)) }
+        ensures { HoldsAt self.now.cores core (λ y. result ≡ values_by plan.now core (seen_of y.core)) }
     {
         let state = self.core(core);
-        CoreValues {
+        let seen = CountAndLoad {
             nr: state.nr(),
             load: state.load(),
-            consts: *plan.consts.get(core),
-        }
+        };
+        values_of(plan, core, seen)
     }
 }

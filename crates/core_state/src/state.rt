@@ -12,7 +12,7 @@ ghost use Rattle.round_model.specs.Bounds.{CoreInBounds};
 ghost use Rattle.round_model.specs.Bursts.{HaveBursts};
 ghost use Rattle.round_model.specs.Cores.{load_of, opening_state, thread_count};
 ghost use Rattle.round_model.specs.Fits.{Fits};
-ghost use Rattle.round_model.specs.Moves.{admitted, blocked_of, blocked_put, handed, queued_of, received, released};
+ghost use Rattle.round_model.specs.Moves.{admitted, blocked_of, handed, queued_of, received, released};
 ghost use Rattle.round_model.specs.Moves.{with_task};
 ghost use Rattle.round_model.specs.Scenes.{waking_next};
 ghost use Rattle.round_model.specs.Work.{IsOutcomeOfWork, core_after_work, met};
@@ -201,14 +201,6 @@ impl CoreState {
         self.blocked.remove(place).task
     }
 
-    /// The task comes to the end of the blocked threads, to wake in that round.
-    pub fn put_blocked(&mut self, task: Task, round: u32)
-        requires { length self.old.core.blocked < self.old.blocked_room }
-        ensures { self.new ≡ record self.old { core = blocked_put round task self.old.core } }
-    {
-        self.blocked.push_reserved(Blocked { task, wake: round });
-    }
-
     /// Takes the earliest queued task of that number out.
     #[tactic(auto, unfolding(round_model::specs::Moves::handed))]
     pub fn hand_over(&mut self, thread: ThreadId) -> Task
@@ -267,13 +259,6 @@ impl CoreState {
         ensures room { result.now.room ≡ self.now.room }
     {
         &self.queue
-    }
-
-    /// The values of the core's attributes.
-    pub fn consts(&self) -> &[i32; MAX_ATTRIBUTES]
-        ensures { result.now ≡ self.now.core.consts }
-    {
-        &self.consts
     }
 
     /// The entries of the log in order.

@@ -31,10 +31,10 @@ use Rattle.core_table.specs.Views.{but_newest, held_grown, is_live, leaving, mea
 use Rattle.core_table.specs.Told.{Agrees, HasIdle, IsCoreNow, IsKnown, IsOpening, IsTrueRole}
 use Rattle.core_table.specs.Plays.{Draws}
 use Rattle.core_table.specs.Opened.{emptied}
-use Rattle.core_table.specs.Public.{HasCore, HasTwo, IsMoved, IsOf, plan_of, publishing, view_of}
+use Rattle.core_table.specs.Public.{HasCore, IsMoved, IsOf, plan_of, publishing, view_of}
 use Rattle.core_table.proofs.Histories.{at_less, loads_fit, log_short, stands_core}
 use Rattle.core_table.proofs.Joining.{turns_true}
-use Rattle.core_table.proofs.Publishing.{published_core, published_state}
+use Rattle.core_table.proofs.Publishing.{published_core}
 use Rattle.core_table.proofs.Words.{note_says, word_says}
 
 -- a bound that some history gives is one
@@ -163,16 +163,3 @@ seat_live c v = refl
 -- a core of the table's plan is one of the view's
 pub inside : (t : Table) (s : Seat) (c : ℕ) → IsOf t s → c < (plan_of t).cores → c < (view_of s).plan.cores
 inside t s c of low = subst (λ (p : Plan). c < p.cores) (sym of.opening.plan) low
-
--- Of two held cores, the one that was taken first, and the other once the first is published.
-pub low_has : (v : View) (b : ℕ) (y : CoreView) (c : ℕ) (z : CoreView) → HasTwo v b y c z → HasCore v b y
-low_has v b y c z two = record { place = 1; of = two.low; there = ap (λ l. get_elem? l 1) two.held; core = two.low_core; state = two.low_state }
-
-pub high_still : (v w : View) (b : ℕ) (y : CoreView) (c : ℕ) (z : CoreView) → HasTwo v b y c z → b < c → w ≡ publishing b y v → HasCore w c z
-high_still v w b y c z two order is = record {
-  place = 0;
-  of = published v.plan.cores b two.high;
-  there = ap (λ l. get_elem? l 0) (ap (λ (u : View). u.held) is ∙ ap (map (published v.plan.cores b)) two.held);
-  core = published_core v.plan.cores b two.high ∙ two.high_core;
-  state = published_state v.plan.cores b two.high ∙ two.high_state;
-}

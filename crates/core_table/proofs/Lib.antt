@@ -15,5 +15,6 @@ pub mod Opening
 pub mod Closing
 pub mod Positions
 pub mod Known
+pub mod TwoHeld
 pub mod Rounding
 pub mod FirstRound

@@ -9,3 +9,4 @@ pub mod Seats
 pub mod Above
 pub mod Ends
 pub mod Public
+pub mod Pairs

@@ -1,5 +1,5 @@
 -- What the calls on a table ask of their caller and tell it.
-use Rattle.std.specs.Prelude.{◌≡◌, ℕ, ◌<◌, ◌⊎◌, [], ◌∷◌, map, Some, IsTrue}
+use Rattle.std.specs.Prelude.{◌≡◌, ℕ, ◌<◌, [], ◌∷◌, map, Some, IsTrue}
 use mathlib.Core.Option.{some}
 use lib.ListN.{get_elem?}
 use Rattle.policy_tree.specs.declared.typed.Policy.{Policy}
@@ -14,7 +14,7 @@ use Rattle.core_table.specs.declared.seat.Seat.{Seat}
 use Rattle.core_table.specs.declared.seat.Table.{Table}
 use Rattle.core_table.specs.declared.views.HeldCore.{HeldCore}
 use Rattle.core_table.specs.declared.views.View.{View}
-use Rattle.core_table.specs.Views.{meaning_in, note_of_core, published, taken}
+use Rattle.core_table.specs.Views.{meaning_in, note_of_core, published}
 use Rattle.core_table.specs.Told.{Each, IsKnown, IsSeatOf}
 use Rattle.core_table.specs.Opened.{IsOfOpening}
 
@@ -84,35 +84,6 @@ pub record HasMoved (e : Entry) (v : View) (c : ℕ) (y : CoreView) : Type 0 whe
   pub there : c < v.plan.cores
   pub touched : IsTrue (touches c e)
   pub alone : (d : ℕ) → IsTrue (touches d e) → d ≡ c
-
--- the seat holds the core b as y and the core c as z, the latter taken last, and nothing else
-pub record HasTwo (v : View) (b : ℕ) (y : CoreView) (c : ℕ) (z : CoreView) : Type 0 where
-  pub low : HeldCore
-  pub high : HeldCore
-  pub held : v.held ≡ high ∷ low ∷ []
-  pub low_core : low.core ≡ b
-  pub low_state : low.state ≡ y
-  pub high_core : high.core ≡ c
-  pub high_state : high.state ≡ z
-
--- the seat holds those two cores, the values are the cores once the entry moved them, and it touches no third
-pub record HasMovedTwo (e : Entry) (v : View) (b : ℕ) (y : CoreView) (c : ℕ) (z : CoreView) : Type 0 where
-  pub low : HeldCore
-  pub high : HeldCore
-  pub only : v.held ≡ high ∷ low ∷ []
-  pub low_core : low.core ≡ b
-  pub low_is : IsMoved e v low y
-  pub high_core : high.core ≡ c
-  pub high_is : IsMoved e v high z
-  pub order : b < c
-  pub there : c < v.plan.cores
-  pub low_touched : IsTrue (touches b e)
-  pub high_touched : IsTrue (touches c e)
-  pub alone : (d : ℕ) → IsTrue (touches d e) → (d ≡ b) ⊎ (d ≡ c)
-
--- the words of both held cores say them as they are
-abbrev pub MayGiveTwo : View → (b : ℕ) → CoreView → (c : ℕ) → CoreView → Type 0
-MayGiveTwo v b y c z = v.held ≡ taken v.plan.cores c z ∷ taken v.plan.cores b y ∷ []
 
 -- the seat is that of the entry's acting core
 pub record IsActors (v : View) (e : Entry) : Type 0 where

@@ -46,10 +46,10 @@ pub struct Held {
     pub state: CoreState,
 }
 
-/// Two cores that a seat holds, by their numbers.
+/// Two cores that a seat holds, in the order in which they were asked for.
 pub struct HeldTwo {
-    pub low: Held,
-    pub high: Held,
+    pub first: Held,
+    pub second: Held,
 }
 
 /// What a read found of a core that needn't be held.

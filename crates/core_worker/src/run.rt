@@ -84,7 +84,6 @@ fn await_all(arrivals: &mut Vec<Arrival>, plan: &Plan, number: u32)
             arrivals.push_reserved(Arrival {
                 id: thread.id,
                 core: thread.core,
-                weight: thread.weight,
             });
         }
     }

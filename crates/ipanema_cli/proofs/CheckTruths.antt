@@ -27,7 +27,7 @@ use Rattle.ipanema_cli.specs.declared.answers.Answer.{Answer}
 use Rattle.ipanema_cli.specs.declared.answers.Answer.TheVariants as answer
 use Rattle.ipanema_cli.specs.declared.texts.TextKind.{TextKind}
 use Rattle.ipanema_cli.specs.declared.texts.TextKind.TheVariants as kind
-use Rattle.ipanema_cli.proofs.PolicyFacts.{read_decides, read_refuses, resolved, told_truly}
+use Rattle.ipanema_cli.proofs.PolicyFacts.{never_left, read_decides, read_refuses, resolved, told_truly}
 use Rattle.ipanema_cli.proofs.WritesLemmas.{code_among, no_stop, one_line, whole}
 
 -- the number of a stop
@@ -66,6 +66,7 @@ stopped_check policy before after code stop = record {
   accepted = λ h. absurd (stopped_not code 0 (λ e. omega arith) (λ e. omega arith) (λ e. omega arith) stop h);
   lines = λ low. absurd (low_or_stopped code low stop);
   decides = stopped_decides policy code stop;
+  differences = never_left policy code (stopped_decides policy code stop);
   refuses = stopped_refuses policy code stop;
   bad_text = λ h. absurd (stopped_not code 2 (λ e. omega arith) (λ e. omega arith) (λ e. omega arith) stop h);
 }
@@ -121,6 +122,7 @@ read_check policy text (checked.Judged v) before after code read is own added = 
   accepted = λ h. accepted_policy policy text v code read is own h;
   lines = λ low. verdict_answers policy text v before after code read is own added;
   decides = read_decides policy text (checked.Judged v) code read is own;
+  differences = never_left policy code (read_decides policy text (checked.Judged v) code read is own);
   refuses = read_refuses policy text (checked.Judged v) code read is own;
   bad_text = λ h. absurd (verdict_not_2 v code own h);
 }
@@ -128,6 +130,7 @@ read_check policy text (checked.Unjudged why) before after code read is own adde
   accepted = λ h. absurd (refusal_not_0 why code own h);
   lines = λ low. absurd (refusal_high why code own low);
   decides = read_decides policy text (checked.Unjudged why) code read is own;
+  differences = never_left policy code (read_decides policy text (checked.Unjudged why) code read is own);
   refuses = read_refuses policy text (checked.Unjudged why) code read is own;
   bad_text = λ h. tells_fault policy text why before after code read is own added h;
 }
@@ -151,6 +154,7 @@ long_check policy before after code long own = record {
   accepted = λ h. absurd (omega arith);
   lines = λ low. absurd (let bad = rw own at low in cc);
   decides = long_decides policy code long;
+  differences = never_left policy code (long_decides policy code long);
   refuses = long_refuses policy code long;
   bad_text = λ h. absurd (omega arith);
 }

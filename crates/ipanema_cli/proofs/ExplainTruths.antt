@@ -16,6 +16,7 @@ use Rattle.policy_checker.specs.declared.answer.ObAnswer.{ObAnswer}
 use Rattle.policy_checker.specs.declared.answer.ObAnswer.TheVariants as ob_answer
 use Rattle.policy_checker.specs.declared.answer.Outcome.{Outcome}
 use Rattle.policy_checker.specs.declared.answer.Outcome.TheVariants as outcome
+use Rattle.policy_checker.proofs.Decided.{closed}
 use Rattle.policy_checker.proofs.Points.{points_refute}
 use Rattle.policy_checker.proofs.True.{answers_are_true}
 use Rattle.policy_check.specs.Checks.{IsExplained, IsExplainOf}
@@ -28,6 +29,7 @@ use Rattle.ipanema_cli.specs.Causes.{OneOf}
 use Rattle.ipanema_cli.specs.Ends.{Writes}
 use Rattle.ipanema_cli.specs.Status.{code_of, explain_status, outcome_status}
 use Rattle.ipanema_cli.specs.Texts.{MayBeLong, MayRead}
+use Rattle.ipanema_cli.specs.CheckTruths.{Spells}
 use Rattle.ipanema_cli.specs.ExplainTruths.{ExplainsTruly, ShowsFailure}
 use Rattle.ipanema_cli.specs.declared.answers.Answer.{Answer}
 use Rattle.ipanema_cli.specs.declared.answers.Answer.TheVariants as answer
@@ -41,6 +43,7 @@ stopped_explain policy name before after code stop = record {
   line = λ low. absurd (low_or_stopped code low stop);
   answers = λ p held. elim stop [ at_4 e ↦ rw e refl | at_5 e ↦ rw e refl | at_6 e ↦ rw e refl ];
   decides = λ p held none. stopped_not code 3 (λ e. omega arith) (λ e. omega arith) (λ e. omega arith) stop;
+  differences = λ p held form. stopped_not code 3 (λ e. omega arith) (λ e. omega arith) (λ e. omega arith) stop;
   refuses = stopped_refuses policy code stop;
   bad_text = λ h. absurd (stopped_not code 2 (λ e. omega arith) (λ e. omega arith) (λ e. omega arith) stop h);
 }
@@ -87,12 +90,17 @@ explained_truly policy text name e before after code read is own added =
         status = own_answer;
       };
       answers = λ q held. outcome_low e.outcome code own;
-      decides = λ q held none three.
-          let found = left_open p name (outcome_of is.answer) code word own_answer three in
-          none (subst (λ (m : Meaning). HasOpen (systems_of m (statement_of name))) (same_policy policy text p q read is.spells held) found);
+      decides = λ q held none three. none (open_of word own_answer q held three);
+      differences = λ q held form three. closed q form name (open_of word own_answer q held three);
       refuses = judged_refuses policy text p code read is.spells is.few;
       bad_text = λ h. absurd (outcome_not_2 e.outcome code own h);
     }
+  where
+    open_of : IsTold is.p name (outcome_of is.answer) → code ≡ code_of (outcome_status (outcome_of is.answer)) → (q : Meaning) → Spells policy q → code ≡ 3
+        → HasOpen (systems_of q (statement_of name))
+    open_of word own_answer q held three =
+        subst (λ (m : Meaning). HasOpen (systems_of m (statement_of name))) (same_policy policy text is.p q read is.spells held)
+        (left_open is.p name (outcome_of is.answer) code word own_answer three)
 
 read_explain : (policy : Told) (text : List ℕ) (name : ObName) (e : ExplainAnswer) (before after : Option (List ℕ)) (code : ℕ) → MayRead kind.Policy policy text
     → IsExplainOf text name e → code ≡ code_of (explain_status e) → Adds (joined (explain_lines e)) before after → ExplainsTruly policy name before after code
@@ -101,6 +109,7 @@ read_explain policy text name (explained.Unjudged why) before after code read is
   line = λ low. absurd (refusal_high why code own low);
   answers = λ q held. absurd (refused_text policy text why q read is held);
   decides = λ q held none three. refused_text policy text why q read is held;
+  differences = λ q held form three. refused_text policy text why q read is held;
   refuses = refused_refuses policy text why code read is own;
   bad_text = λ h. tells_fault policy text why before after code read is own added h;
 }
@@ -110,6 +119,7 @@ long_explain policy name before after code long own = record {
   line = λ low. absurd (let bad = rw own at low in cc);
   answers = λ q held. absurd (not_long kind.Policy policy held.text long held.held);
   decides = λ q held none three. not_long kind.Policy policy held.text long held.held;
+  differences = λ q held form three. not_long kind.Policy policy held.text long held.held;
   refuses = long_refuses policy code long;
   bad_text = λ h. absurd (omega arith);
 }

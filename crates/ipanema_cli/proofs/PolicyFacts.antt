@@ -1,5 +1,5 @@
 -- What follows for a text from the answer that `check` gives.
-use Rattle.std.proofs.Common.{◌≡◌, ℕ, List, [], ◌∷◌, None, refl, sym, ◌∙◌, arith, subst}
+use Rattle.std.proofs.Common.{◌≡◌, ◌≢◌, ℕ, List, [], ◌∷◌, None, refl, sym, ◌∙◌, arith, subst}
 use Rattle.std.specs.List.{All, AllByRecursion}
 use Rattle.std.proofs.lemmas.List.Elements.{All-from_recursion}
 use Rattle.sched_base.specs.declared.limits.TheConstants.{CHECK_BUDGET}
@@ -12,11 +12,13 @@ use Rattle.policy_reader.specs.Spelled.{SpellsPolicy}
 use Rattle.policy_reader.proofs.OneFault.{never_both, one_policy}
 use Rattle.policy_reader.proofs.Resolved.{spells_resolved}
 use Rattle.obligations.specs.Counts.{first_crowded}
+use Rattle.obligations.specs.DifferencePolicies.{ComparesDifferences}
 use Rattle.obligations.specs.Names.{ob_names}
 use Rattle.policy_checker.specs.Verdicts.{Answers, AreAnswers, IsVerdict, policy_of}
 use Rattle.policy_checker.specs.declared.answer.Answered.{Answered}
 use Rattle.policy_checker.specs.declared.verdict.Verdict.{Verdict}
 use Rattle.policy_checker.specs.declared.verdict.Verdict.TheVariants as verdict
+use Rattle.policy_checker.proofs.Decided.{closed}
 use Rattle.policy_checker.proofs.True.{answers_are_true, meets}
 use Rattle.policy_checker.proofs.Worth.{open_one, unmet}
 use Rattle.policy_check.specs.Checks.{IsCheckOf, IsRefusal}
@@ -131,3 +133,7 @@ pub read_refuses : (policy : Told) (text : List ℕ) (c : CheckAnswer) (code : �
     → Refuses policy code
 read_refuses policy text (checked.Judged v) code read is own = judged_refuses policy text (meaning_of (policy_of v)) code read is.spells is.few
 read_refuses policy text (checked.Unjudged why) code read is own = refused_refuses policy text why code read is own
+
+-- no policy whose comparisons are differences is left undecided: no system of it is open
+pub never_left : (policy : Told) (code : ℕ) → Decides policy code → (p : Meaning) → Spells policy p → ComparesDifferences p → code ≢ 3
+never_left policy code decides p held form = decides.decides p held (λ open_one. closed p form open_one.0 open_one.1)

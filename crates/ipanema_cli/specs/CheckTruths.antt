@@ -12,6 +12,7 @@ use Rattle.policy_reader.specs.Lines.{fault_line}
 use Rattle.policy_reader.specs.Spelled.{SpellsPolicy}
 use Rattle.obligations.specs.declared.names.ObName.{ObName}
 use Rattle.obligations.specs.Counts.{first_crowded}
+use Rattle.obligations.specs.DifferencePolicies.{ComparesDifferences}
 use Rattle.obligations.specs.Names.{ob_names, statement_of}
 use Rattle.obligations.specs.Systems.{systems_of}
 use Rattle.policy_checker.specs.Answers as obligation
@@ -116,5 +117,7 @@ pub record ChecksTruly (policy : Told) (before after : Option (List ℕ)) (code 
   -- each line that says that an obligation holds, fails or is undecided has its reason and is true
   pub lines : OneOf (0 ∷ 1 ∷ 3 ∷ []) code → AnswersFor policy before after code
   pub decides : Decides policy code
+  -- no policy is left undecided that counts threads and compares constants with variables and differences of two alone
+  pub differences : (p : Meaning) → Spells policy p → ComparesDifferences p → code ≢ 3
   pub refuses : Refuses policy code
   pub bad_text : code ≡ 2 → TellsFault policy before after

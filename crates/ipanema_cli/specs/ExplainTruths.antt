@@ -4,6 +4,7 @@ use Rattle.sched_io.specs.Told.{Told}
 use Rattle.sched_io.specs.Written.{Adds}
 use Rattle.policy_tree.specs.Meaning.{Meaning}
 use Rattle.obligations.specs.declared.names.ObName.{ObName}
+use Rattle.obligations.specs.DifferencePolicies.{ComparesDifferences}
 use Rattle.obligations.specs.Names.{statement_of}
 use Rattle.obligations.specs.Systems.{systems_of}
 use Rattle.policy_checker.specs.Laws.{FailsAt}
@@ -40,5 +41,7 @@ pub record ExplainsTruly (policy : Told) (name : ObName) (before after : Option 
   pub answers : (p : Meaning) → Spells policy p → OneOf (0 ∷ 1 ∷ 3 ∷ 4 ∷ 5 ∷ 6 ∷ []) code
   -- and none is that nothing is known, where no system of the obligation is open
   pub decides : (p : Meaning) → Spells policy p → (HasOpen (systems_of p (statement_of name)) → ⊥) → code ≢ 3
+  -- nor of a policy that counts threads and compares constants with variables and differences of two alone
+  pub differences : (p : Meaning) → Spells policy p → ComparesDifferences p → code ≢ 3
   pub refuses : Refuses policy code
   pub bad_text : code ≡ 2 → TellsFault policy before after

@@ -9,7 +9,7 @@ use Rattle.job_trace.specs.Faults.{FailsAs, IsBroken, IsFault, IsUnlessMemory}
 use Rattle.job_trace.specs.Laws.{HasAnswer}
 use Rattle.sched_base.specs.declared.limits.TheConstants.{MAX_CORES}
 use Rattle.job_trace.specs.Rules.{cores_of}
-use Rattle.job_trace.specs.Steps.{scan}
+use Rattle.job_trace.specs.Code.Steps.{scan}
 use Rattle.job_trace.specs.TraceText.{SpellsTrace}
 use Rattle.job_trace.proofs.ScanLemmas.{IsScanned, scan-fails, scan-is, scan-reads}
 

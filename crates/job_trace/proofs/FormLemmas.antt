@@ -10,7 +10,7 @@ use Rattle.job_trace.specs.declared.trace.NamedConst.{NamedConst}
 use Rattle.job_trace.specs.declared.trace.TraceLine.{TraceLine}
 use Rattle.job_trace.specs.declared.trace.TraceLine.TheVariants.{Cores, Rounds, Entries}
 use Rattle.job_trace.specs.Forms.{SpellsLine, SpellsNumber, SpellsProgram, SpellsWeight, core_line, cores_line, entries_line, no_weight, order_line, rounds_line, run_block, run_end, run_forever, run_yield, some_weight, thread_line}
-use Rattle.job_trace.specs.Steps.{Found, by_kind, consts_in, core_in, core_with, form_of, kept, kind_of, line_in, number_alone, number_behind, number_first, numbers_in, order_in, order_with, program_in, some_of, thread_in, thread_with, weighed_in, weight_first, with_consts, with_core, with_id, with_order, with_round, with_weight}
+use Rattle.job_trace.specs.Code.Steps.{Found, by_kind, consts_in, core_in, core_with, form_of, kept, kind_of, line_in, number_alone, number_behind, number_first, numbers_in, order_in, order_with, program_in, some_of, thread_in, thread_with, weighed_in, weight_first, with_consts, with_core, with_id, with_order, with_round, with_weight}
 use Rattle.job_trace.proofs.KeptLemmas.{kept_burst, kept_line}
 use Rattle.job_trace.proofs.NumberForms.{alone-is, alone-yes, first-is, first-yes, number_behind-is, number_behind-yes, numbers-spelt, spelt-numbers}
 use Rattle.job_trace.proofs.OptionLemmas.{Spelt, chained, mapped, some-same}

@@ -9,7 +9,7 @@ use Rattle.job_trace.specs.declared.trace.Numbered.{Numbered}
 use Rattle.job_trace.specs.Forms.{SpellsLine}
 use Rattle.job_trace.specs.Rules.{MayFollow, cores_of, first_passed, is_given, may_stand, measures}
 use Rattle.job_trace.specs.Faults.{Breaks, no_form, other_kind, past_range, given_before}
-use Rattle.job_trace.specs.Steps.{form_of, formed, judged, measured, once, ranged_line}
+use Rattle.job_trace.specs.Code.Steps.{form_of, formed, judged, measured, once, ranged_line}
 use Rattle.job_trace.proofs.FormLemmas.{form-spelt, spelt-form}
 use Rattle.job_trace.proofs.KeptLemmas.{kept-stands, kept_line, keeps-line}
 

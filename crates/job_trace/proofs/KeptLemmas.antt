@@ -15,7 +15,7 @@ use Rattle.job_trace.specs.declared.trace.TraceLine.TheVariants.{Cores, Rounds, 
 use Rattle.job_trace.specs.declared.trace.Numbered.{Numbered}
 use Rattle.job_trace.specs.Forms.{negative}
 use Rattle.job_trace.specs.Rules.{Measure, block_measures, burst_measures, const_measure, constant, first_passed, may_stand, measures, order_measures, passed_end, ranged}
-use Rattle.job_trace.specs.Steps.{greatest_kept, kept}
+use Rattle.job_trace.specs.Code.Steps.{greatest_kept, kept}
 use Rattle.job_trace.proofs.RangeLemmas.{first-none}
 
 abbrev pub kept_ending : Ending → Ending

@@ -5,7 +5,7 @@ use Rattle.std.specs.Str.{bytes_eq}
 use Rattle.std.proofs.lemmas.Slice.Eq.{bytes_eq-Decides}
 use Rattle.text_forms.specs.Numbers.{number_in}
 use Rattle.job_trace.specs.Forms.{SpellsNumber, SpellsNumbers, SpellsSigned, negative, next_number, no_number}
-use Rattle.job_trace.specs.Steps.{Found, behind, joined, kept, kept_in, kept_signed_in, number_alone, number_behind, number_first, numbers_in, with_rest}
+use Rattle.job_trace.specs.Code.Steps.{Found, behind, joined, kept, kept_in, kept_signed_in, number_alone, number_behind, number_first, numbers_in, with_rest}
 use Rattle.job_trace.proofs.KeptLemmas.{kept-negative, kept_value}
 use Rattle.job_trace.proofs.OptionLemmas.{Spelt, both, mapped, some-same}
 

@@ -1,7 +1,7 @@
 -- What stands behind a value that was found.
 use Rattle.std.proofs.Common.{◌≡◌, Option, Some, None, List, ◌∷◌, refl}
 use Rattle.std.specs.Prelude.{option_and_then, option_map}
-use Rattle.job_trace.specs.Steps.{joined}
+use Rattle.job_trace.specs.Code.Steps.{joined}
 
 pub some-same : {X : Type 0} {x y : X} → Some x ≡ Some y → x ≡ y
 some-same e = cc

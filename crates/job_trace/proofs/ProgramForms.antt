@@ -7,7 +7,7 @@ use Rattle.round_model.specs.declared.plan.Burst.{Burst}
 use Rattle.job_trace.specs.declared.trace.NamedConst.{NamedConst}
 use Rattle.job_trace.specs.Words.{is_name}
 use Rattle.job_trace.specs.Forms.{SpellsConsts, SpellsNumber, SpellsProgram, next_const, no_const, run_block, run_end, run_forever, run_yield, signed_in}
-use Rattle.job_trace.specs.Steps.{behind, block_of, blocks, const_of, consts_in, endless, ends, joined, kept, kept_in, kept_signed_in, last_in, named, number_alone, program_in, unless_over, yields}
+use Rattle.job_trace.specs.Code.Steps.{behind, block_of, blocks, const_of, consts_in, endless, ends, joined, kept, kept_in, kept_signed_in, last_in, named, number_alone, program_in, unless_over, yields}
 use Rattle.job_trace.proofs.KeptLemmas.{kept_burst, kept_const, kept_value}
 use Rattle.job_trace.proofs.NumberForms.{alone-is, behind-is, kept-is, kept-yes, signed-is, signed-yes}
 use Rattle.job_trace.proofs.OptionLemmas.{Spelt, both, chained, mapped, some-same}

@@ -12,7 +12,7 @@ use Rattle.job_trace.specs.Words.{words, is_skipped}
 use Rattle.job_trace.specs.Rules.{HasSpelling, MayFollow, MayAllFollow, cores_in, cores_of, ranged}
 use Rattle.job_trace.specs.Faults.{BreaksThere, FailsAs, IsShort}
 use Rattle.job_trace.specs.TraceText.{Takes, numbered, takes_line, takes_nothing}
-use Rattle.job_trace.specs.Steps.{added, judged, on_ok, scan}
+use Rattle.job_trace.specs.Code.Steps.{added, judged, on_ok, scan}
 use Rattle.sched_base.specs.declared.limits.TheConstants.{MAX_CORES}
 use Rattle.job_trace.proofs.RangeLemmas.{first-none, in-range}
 use Rattle.job_trace.proofs.JudgeLemmas.{IsVerdict, judged-verdict, judged-ok, judged-err}

@@ -4,7 +4,7 @@ use Rattle.std.specs.Str.{bytes_eq}
 use Rattle.std.proofs.lemmas.List.{append-nil, append_assoc}
 use Rattle.round_model.specs.declared.plan.Burst.{Burst}
 use Rattle.job_trace.specs.declared.trace.NamedConst.{NamedConst}
-use Rattle.job_trace.specs.Steps.{FoundBurst, behind, const_first, const_of, consts_in, extended, has_word, joined, kept_in, last_in, middle_first, middle_of, number_alone, number_behind, number_first, numbers_in, program_in}
+use Rattle.job_trace.specs.Code.Steps.{FoundBurst, behind, const_first, const_of, consts_in, extended, has_word, joined, kept_in, last_in, middle_first, middle_of, number_alone, number_behind, number_first, numbers_in, program_in}
 
 -- an item more that was read
 pub extended-more : {X : Type 0} (items : List X) (x : X) (rest : Option (List X)) →

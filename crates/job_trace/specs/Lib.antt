@@ -4,6 +4,6 @@ pub mod Rules
 pub mod Keys
 pub mod TraceText
 pub mod Faults
-pub mod Steps
+pub mod Code
 pub mod Laws
 pub mod Plans

@@ -3,8 +3,8 @@
 ghost use Rattle.std.specs.Prelude.{◌≡◌, ◌<◌, ◌≤◌, IfOk, IfSome, MatchOption, None, Some, length};
 ghost use Rattle.sched_base.specs.declared.limits.TheConstants.{MAX_NAME_BYTES};
 ghost use Rattle.job_trace.specs.Words.{words};
-ghost use Rattle.job_trace.specs.Steps.{const_first, consts_in, core_in, form_of, kind_of, line_in, named, numbers_in};
-ghost use Rattle.job_trace.specs.Steps.{order_in, some_of, thread_in, weighed_in, weight_first};
+ghost use Rattle.job_trace.specs.Code.Steps.{const_first, consts_in, core_in, form_of, kind_of, line_in, named, numbers_in};
+ghost use Rattle.job_trace.specs.Code.Steps.{order_in, some_of, thread_in, weighed_in, weight_first};
 
 use crate::programs::program_in;
 use crate::trace::{CoreConsts, NamedConst, NamedConstList, TraceLine};
@@ -29,7 +29,7 @@ pub(crate) enum LineKind {
 }
 
 /// The line that the words are, or none.
-#[tactic(auto, unfolding(crate::specs::Steps::form_of))]
+#[tactic(auto, unfolding(crate::specs::Code::Steps::form_of))]
 pub(crate) fn form_of(alloc: Global, line: &[u8]) -> Result<Option<TraceLine>, AllocError>
     requires { length line.now < u32.MAX }
     ensures { IfOk result (λ form. form ≡ form_of (words line.now)) }
@@ -44,7 +44,7 @@ pub(crate) fn form_of(alloc: Global, line: &[u8]) -> Result<Option<TraceLine>, A
 }
 
 /// The kind of line that begins with the word.
-#[tactic(auto, unfolding(crate::specs::Steps::kind_of))]
+#[tactic(auto, unfolding(crate::specs::Code::Steps::kind_of))]
 fn kind_of(word: &[u8]) -> Option<LineKind>
     ensures { result ≡ kind_of word.now }
 {
@@ -66,7 +66,7 @@ fn kind_of(word: &[u8]) -> Option<LineKind>
 }
 
 /// The line of that kind that stands behind its first word.
-#[tactic(auto, unfolding(crate::specs::Steps::line_in))]
+#[tactic(auto, unfolding(crate::specs::Code::Steps::line_in))]
 fn line_in(alloc: Global, kind: LineKind, rest: &[u8]) -> Result<Option<TraceLine>, AllocError>
     requires { length rest.now < u32.MAX }
     ensures { IfOk result (λ form. form ≡ line_in kind (words rest.now)) }
@@ -81,7 +81,7 @@ fn line_in(alloc: Global, kind: LineKind, rest: &[u8]) -> Result<Option<TraceLin
     }
 }
 
-#[tactic(auto, unfolding(crate::specs::Steps::thread_in))]
+#[tactic(auto, unfolding(crate::specs::Code::Steps::thread_in))]
 fn thread_in(alloc: Global, line: &[u8]) -> Result<Option<TraceLine>, AllocError>
     requires { length line.now < u32.MAX }
     ensures { IfOk result (λ form. form ≡ thread_in (words line.now)) }
@@ -99,7 +99,7 @@ fn thread_in(alloc: Global, line: &[u8]) -> Result<Option<TraceLine>, AllocError
 }
 
 /// The thread with the weight and the program that stand there.
-#[tactic(auto, unfolding(crate::specs::Steps::weighed_in))]
+#[tactic(auto, unfolding(crate::specs::Code::Steps::weighed_in))]
 fn weighed_in(
     alloc: Global,
     id: ThreadId,
@@ -126,7 +126,7 @@ fn weighed_in(
 }
 
 /// The weight with which the line begins, 1 where it doesn't, and the line behind it.
-#[tactic(auto, unfolding(crate::specs::Steps::weight_first))]
+#[tactic(auto, unfolding(crate::specs::Code::Steps::weight_first))]
 fn weight_first(line: &[u8]) -> Option<(u32, &[u8])>
     ensures found { MatchOption result
         (weight_first (words line.now) ≡ None)
@@ -139,7 +139,7 @@ fn weight_first(line: &[u8]) -> Option<(u32, &[u8])>
     }
 }
 
-#[tactic(auto, unfolding(crate::specs::Steps::order_in))]
+#[tactic(auto, unfolding(crate::specs::Code::Steps::order_in))]
 fn order_in(alloc: Global, line: &[u8]) -> Result<Option<TraceLine>, AllocError>
     requires { length line.now < u32.MAX }
     ensures { IfOk result (λ form. form ≡ order_in (words line.now)) }
@@ -182,7 +182,7 @@ fn numbers_in(alloc: Global, line: &[u8]) -> Result<Option<CoreList>, AllocError
     Ok(Some(CoreList::from_vec(numbers)))
 }
 
-#[tactic(auto, unfolding(crate::specs::Steps::core_in))]
+#[tactic(auto, unfolding(crate::specs::Code::Steps::core_in))]
 fn core_in(alloc: Global, line: &[u8]) -> Result<Option<TraceLine>, AllocError>
     requires { length line.now < u32.MAX }
     ensures { IfOk result (λ form. form ≡ core_in (words line.now)) }
@@ -236,7 +236,7 @@ fn named(alloc: Global, name: &[u8], value: i32) -> Result<NamedConst, AllocErro
 }
 
 /// The name and the value of the constant with which the line begins, and the line behind them.
-#[tactic(auto, unfolding(crate::specs::Steps::const_first))]
+#[tactic(auto, unfolding(crate::specs::Code::Steps::const_first))]
 fn const_first(line: &[u8]) -> Option<(&[u8], i32, &[u8])>
     ensures found { MatchOption result
         (const_first (words line.now) ≡ None)

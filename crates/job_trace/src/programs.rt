@@ -2,7 +2,7 @@
 
 ghost use Rattle.std.specs.Prelude.{◌≡◌, ◌<◌, IfOk, IfSome, MatchOption, None, Some, length};
 ghost use Rattle.job_trace.specs.Words.{words};
-ghost use Rattle.job_trace.specs.Steps.{last_in, middle_first, middle_of, program_in};
+ghost use Rattle.job_trace.specs.Code.Steps.{last_in, middle_first, middle_of, program_in};
 
 use crate::words::{behind, has_word, next_word, number_alone, number_behind, number_first};
 use round_model::{Burst, BurstList, Ending};
@@ -29,7 +29,7 @@ pub(crate) fn program_in(alloc: Global, line: &[u8]) -> Result<Option<BurstList>
 }
 
 /// The burst with which the line begins, if another must follow, and the line behind it.
-#[tactic(auto, unfolding(crate::specs::Steps::middle_first))]
+#[tactic(auto, unfolding(crate::specs::Code::Steps::middle_first))]
 fn middle_first(line: &[u8]) -> Option<(Burst, &[u8])>
     ensures found { MatchOption result
         (middle_first (words line.now) ≡ None)
@@ -41,7 +41,7 @@ fn middle_first(line: &[u8]) -> Option<(Burst, &[u8])>
 }
 
 /// The burst of so many units that the line behind them ends, if another burst must follow.
-#[tactic(auto, unfolding(crate::specs::Steps::middle_of))]
+#[tactic(auto, unfolding(crate::specs::Code::Steps::middle_of))]
 fn middle_of(units: u32, line: &[u8]) -> Option<(Burst, &[u8])>
     ensures found { MatchOption result
         (middle_of units (words line.now) ≡ None)
@@ -62,7 +62,7 @@ fn middle_of(units: u32, line: &[u8]) -> Option<(Burst, &[u8])>
 }
 
 /// The burst that the line is, if none may follow it.
-#[tactic(auto, unfolding(crate::specs::Steps::last_in))]
+#[tactic(auto, unfolding(crate::specs::Code::Steps::last_in))]
 fn last_in(line: &[u8]) -> Option<Burst>
     ensures { result ≡ last_in (words line.now) }
 {

@@ -8,7 +8,7 @@ ghost use Rattle.job_trace.specs.declared.trace.Numbered.{Numbered};
 ghost use Rattle.job_trace.specs.Words.{words};
 ghost use Rattle.job_trace.specs.Faults.{FailsAs, IsBroken, IsFault, IsUnlessMemory, MustGive, MustRefuse};
 ghost use Rattle.job_trace.specs.Rules.{all_gifts, gifts_of};
-ghost use Rattle.job_trace.specs.Steps.{added, judged, scan};
+ghost use Rattle.job_trace.specs.Code.Steps.{added, judged, scan};
 ghost use Rattle.job_trace.specs.TraceText.{SpellsTrace};
 
 use crate::fault::TraceFault;
@@ -55,7 +55,7 @@ fn read(alloc: Global, text: &[u8]) -> Result<Trace, TraceFault>
 }
 
 /// Adds what the line says, if it says anything, and what it gives.
-#[tactic(auto, unfolding(crate::specs::Steps::added))]
+#[tactic(auto, unfolding(crate::specs::Code::Steps::added))]
 fn add_line(
     alloc: Global,
     lines: &mut Vec<Numbered>,
@@ -80,7 +80,7 @@ fn add_line(
 }
 
 /// What the line says behind those, and adds what it gives.
-#[tactic(auto, unfolding(crate::specs::Steps::judged))]
+#[tactic(auto, unfolding(crate::specs::Code::Steps::judged))]
 fn judge(
     alloc: Global,
     before: &[Numbered],

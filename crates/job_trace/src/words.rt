@@ -3,8 +3,8 @@
 ghost use Rattle.std.specs.Prelude.{◌≡◌, ◌<◌, ◌^◌, [], ◌∷◌, IfNone, IfSome, MatchOption, None, Some, length};
 ghost use Rattle.std.specs.List.{list_all};
 ghost use Rattle.job_trace.specs.Words.{begins_comment, is_name, is_name_byte, is_skipped, words};
-ghost use Rattle.job_trace.specs.Steps.{behind, has_word, kept, kept_in, kept_signed_in, number_alone, number_behind};
-ghost use Rattle.job_trace.specs.Steps.{number_first};
+ghost use Rattle.job_trace.specs.Code.Steps.{behind, has_word, kept, kept_in, kept_signed_in, number_alone, number_behind};
+ghost use Rattle.job_trace.specs.Code.Steps.{number_first};
 
 use sched_base::MAX_NAME_BYTES;
 use text_forms::{first_word, number_in};
@@ -77,7 +77,7 @@ fn is_name_byte(byte: u8) -> bool
 }
 
 /// The line behind its first word, where that is this word.
-#[tactic(auto, unfolding(crate::specs::Steps::behind))]
+#[tactic(auto, unfolding(crate::specs::Code::Steps::behind))]
 pub(crate) fn behind<'a>(line: &'a [u8], word: &[u8]) -> Option<&'a [u8]>
     ensures found { MatchOption result
         (behind word.now (words line.now) ≡ None)
@@ -101,7 +101,7 @@ fn kept(number: u64) -> u32
 }
 
 /// The number that the word spells, as it is kept.
-#[tactic(auto, unfolding(crate::specs::Steps::kept_in))]
+#[tactic(auto, unfolding(crate::specs::Code::Steps::kept_in))]
 pub(crate) fn kept_in(word: &[u8]) -> Option<u32>
     ensures kept { result ≡ kept_in word.now }
     ensures few { IfSome result (λ number. number < 2 ^ 31) }
@@ -110,7 +110,7 @@ pub(crate) fn kept_in(word: &[u8]) -> Option<u32>
 }
 
 /// The same, where a sign may stand.
-#[tactic(auto, unfolding(crate::specs::Steps::kept_signed_in))]
+#[tactic(auto, unfolding(crate::specs::Code::Steps::kept_signed_in))]
 pub(crate) fn kept_signed_in(word: &[u8]) -> Option<i32>
     ensures { result ≡ kept_signed_in word.now }
 {
@@ -127,7 +127,7 @@ pub(crate) fn kept_signed_in(word: &[u8]) -> Option<i32>
 }
 
 /// The number with which the line begins, and the line behind it.
-#[tactic(auto, unfolding(crate::specs::Steps::number_first))]
+#[tactic(auto, unfolding(crate::specs::Code::Steps::number_first))]
 pub(crate) fn number_first(line: &[u8]) -> Option<(u32, &[u8])>
     ensures found { MatchOption result
         (number_first (words line.now) ≡ None)
@@ -140,7 +140,7 @@ pub(crate) fn number_first(line: &[u8]) -> Option<(u32, &[u8])>
 }
 
 /// The number behind that word, with which the line begins, and the line behind the number.
-#[tactic(auto, unfolding(crate::specs::Steps::number_behind))]
+#[tactic(auto, unfolding(crate::specs::Code::Steps::number_behind))]
 pub(crate) fn number_behind<'a>(line: &'a [u8], word: &[u8]) -> Option<(u32, &'a [u8])>
     ensures found { MatchOption result
         (number_behind word.now (words line.now) ≡ None)
@@ -151,7 +151,7 @@ pub(crate) fn number_behind<'a>(line: &'a [u8], word: &[u8]) -> Option<(u32, &'a
 }
 
 /// The number that the line is.
-#[tactic(auto, unfolding(crate::specs::Steps::number_alone))]
+#[tactic(auto, unfolding(crate::specs::Code::Steps::number_alone))]
 pub(crate) fn number_alone(line: &[u8]) -> Option<u32>
     ensures { result ≡ number_alone (words line.now) }
 {

@@ -1,23 +1,27 @@
-//! Plays the tables of texts in `data/`, each case of which is a text with the answer that it has, and prints how many
-//! answers are as expected, and every one that isn't. A policy that is built without a text is compared with that of
-//! its text.
+//! Plays the tables of `data/` over the reader, the printer and the names of policies, and prints how many cases of each
+//! part came out as expected, and every one that didn't. A policy that is built without a text is compared with that
+//! of its text.
 #![tactic(auto)]
 
 mod answers;
 mod built;
-mod cases;
 mod printing;
 mod reading_again;
 mod resolving;
 mod shown;
+mod tables;
 
-use crate::built::compare_built;
-use crate::cases::{Table, play};
+use crate::built::fair_is_as_spelled;
+use crate::tables::play_tables;
+use case_tables::told;
 use std::io;
 
 fn main(rt: HostRuntime) -> io::Result<()> {
-    play(&rt, rt.alloc(), Table::Syntax)?;
-    play(&rt, rt.alloc(), Table::Printed)?;
-    play(&rt, rt.alloc(), Table::Policies)?;
-    compare_built(&rt, rt.alloc())
+    let alloc = rt.alloc();
+    play_tables(&rt, alloc)?;
+    told(
+        &rt,
+        "fair, built as its text spells it",
+        fair_is_as_spelled(alloc)?,
+    )
 }

@@ -5,12 +5,42 @@ use crate::shown::show_policy;
 use policy_lexer::lex;
 use policy_parser::parse;
 use policy_syntax::Syntax;
+use policy_tree::Policy;
 use policy_types::{TypeFault, resolve};
 use sched_base::MAX_POLICY_BYTES;
 use std::alloc::{AllocError, Global};
 
+/// Why a text is no policy.
+#[derive(Clone, Copy)]
+pub(crate) enum NoPolicy {
+    /// It has no syntax.
+    Syntax,
+    /// Its syntax breaks a rule.
+    Fault(TypeFault),
+}
+
+/// The answer to the text.
+pub(crate) fn policy_answer(alloc: Global, text: &[u8]) -> Result<String, AllocError> {
+    match policy_of(alloc, text) {
+        Ok(policy) => shown(alloc, &policy),
+        Err(NoPolicy::Syntax) => String::from_str(alloc, "no syntax"),
+        Err(NoPolicy::Fault(fault)) => type_fault(alloc, fault),
+    }
+}
+
+/// The policy that the text is.
+pub(crate) fn policy_of(alloc: Global, text: &[u8]) -> Result<Policy, NoPolicy> {
+    let Some(syntax) = syntax_of(alloc, text) else {
+        return Err(NoPolicy::Syntax);
+    };
+    match resolve(alloc, &syntax) {
+        Ok(policy) => Ok(policy),
+        Err(fault) => Err(NoPolicy::Fault(fault)),
+    }
+}
+
 /// The syntax of a text, if it has one.
-pub(crate) fn syntax_of(alloc: Global, text: &[u8]) -> Option<Syntax> {
+fn syntax_of(alloc: Global, text: &[u8]) -> Option<Syntax> {
     if text.len() as u64 > MAX_POLICY_BYTES {
         return None;
     }
@@ -18,19 +48,11 @@ pub(crate) fn syntax_of(alloc: Global, text: &[u8]) -> Option<Syntax> {
     parse(alloc, text, tokens.as_slice()).ok()
 }
 
-/// The answer to the text.
-pub(crate) fn policy_answer(alloc: Global, text: &[u8]) -> Result<String, AllocError> {
-    let Some(syntax) = syntax_of(alloc, text) else {
-        return String::from_str(alloc, "no syntax");
-    };
-    match resolve(alloc, &syntax) {
-        Ok(policy) => {
-            let mut shown = String::new(alloc);
-            show_policy(&mut shown, &policy)?;
-            Ok(shown)
-        }
-        Err(fault) => type_fault(alloc, fault),
-    }
+/// The policy in its short spelling.
+pub(crate) fn shown(alloc: Global, policy: &Policy) -> Result<String, AllocError> {
+    let mut text = String::new(alloc);
+    show_policy(&mut text, policy)?;
+    Ok(text)
 }
 
 /// The fault with its token.

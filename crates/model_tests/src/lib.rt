@@ -10,5 +10,3 @@ pub mod policies;
 pub mod rounds;
 pub mod serial;
 pub mod steps;
-#[cfg(test)]
-mod tests;

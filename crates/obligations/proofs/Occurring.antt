@@ -24,13 +24,13 @@ module _ (P : Row → Type 0) where
   prefixed_rows rows [] front all = tt
   prefixed_rows rows (more ∷ right) front all = (AllByRecursion-append P rows more front all.0, prefixed_rows rows right front all.1)
 
-  crossed_rows : (left right : List (List Row)) → AllRows P left → AllRows P right → AllRows P (crossed left right)
+  pub crossed_rows : (left right : List (List Row)) → AllRows P left → AllRows P right → AllRows P (crossed left right)
   crossed_rows [] right all others = tt
   crossed_rows (rows ∷ left) right all others =
       AllByRecursion-append (AllByRecursion P) (map (λ more. rows ++ more) right) (crossed left right)
       (prefixed_rows rows right all.0 others) (crossed_rows left right all.1 others)
 
-  joined_rows : (left right : List (List Row)) → AllRows P left → AllRows P right → AllRows P (left ++ right)
+  pub joined_rows : (left right : List (List Row)) → AllRows P left → AllRows P right → AllRows P (left ++ right)
   joined_rows left right = AllByRecursion-append (AllByRecursion P) left right
 
   module _ (load : Load) (Q : ExprTree → Type 0) (each : (how : Cmp) (l r : ExprTree) → Q l → Q r → AllRows P (cases_of_test how (form_of load (minus l r)))) where

@@ -17,13 +17,13 @@ use Rattle.obligations.specs.Counts.{case_count, first_crowded}
 use Rattle.obligations.specs.Names.{ob_names}
 use Rattle.obligations.specs.Systems.{systems_of}
 
-abbrev handler : CondTree → List CaseTree
+abbrev pub handler : CondTree → List CaseTree
 handler guard = record { guard = guard; sets = []; put = put.Queue } ∷ []
 
-abbrev handlers : HandlerTrees
+abbrev pub handlers : HandlerTrees
 handlers = record { on_enqueue = handler always; on_tick = handler always; on_yield = handler always; on_block = handler always }
 
-abbrev policy : CondTree → Meaning
+abbrev pub policy : CondTree → Meaning
 policy filter = record {
   name = [];
   load = load.Count;
@@ -38,7 +38,7 @@ policy filter = record {
   batch = None;
 }
 
-abbrev basic : Meaning
+abbrev pub basic : Meaning
 basic = policy (test cmp.Ge (minus (variable 2) (variable 0)) (number (pos 2)))
 
 abbrev plus_one : ℕ → Term
@@ -94,7 +94,7 @@ eight_cases : length (systems_of (policy eight) victim_is_overloaded) ≡ 256
 eight_cases = refl
 
 -- a policy with a batch that goes on while the condition holds
-abbrev batched : Load → CondTree → Meaning
+abbrev pub batched : Load → CondTree → Meaning
 batched weights condition = record (policy always) { load = weights; batch = Some (record { condition = condition; limit = 8 }) }
 
 -- without a batch nothing is made

@@ -1,5 +1,6 @@
 -- Laws: what the names stand for, and that the systems say what the statements say.
 use Rattle.std.specs.Prelude.{◌≡◌, ◌↔◌, List, All, map, length}
+use Rattle.linear_form.specs.Difference.{IsDifference}
 use Rattle.linear_form.specs.Solution.{HasNoSolution}
 use Rattle.linear_form.specs.System.{LinearSystem}
 use Rattle.policy_tree.specs.Meaning.{Meaning}
@@ -10,6 +11,7 @@ use Rattle.policy_eval.specs.Values.{Assignment, Holds}
 use Rattle.obligations.specs.declared.obligation.Obligation.{Obligation}
 use Rattle.obligations.specs.Names.{ob_names, statement_of}
 use Rattle.obligations.specs.Counts.{case_count}
+use Rattle.obligations.specs.DifferencePolicies.{ComparesDifferences}
 use Rattle.obligations.specs.Refutations.{refutation}
 use Rattle.obligations.specs.Systems.{refuting_cases, systems_of, variable_ranges}
 
@@ -41,3 +43,11 @@ CountsAreCases = (p : Meaning) (s : Statement) → length (refuting_cases p s) �
 abbrev pub SayTheStatements : Meaning → List Obligation → Type 0
 SayTheStatements p all =
     All (λ (o : Obligation). IsMet p (statement_of o.name) ↔ HaveNoSolution o.systems) all
+
+-- each system of the list is one of differences
+abbrev pub AreOfDifferences : List LinearSystem → Type 0
+AreOfDifferences systems = All (λ (system : LinearSystem). IsDifference system.rows) systems
+
+-- Where threads are counted and each comparison is one of differences, each system of each statement is.
+abbrev pub ComparisonsGiveDifferences : Type 0
+ComparisonsGiveDifferences = (p : Meaning) → ComparesDifferences p → (s : Statement) → AreOfDifferences (systems_of p s)

@@ -11,3 +11,4 @@ pub mod ChainCases
 pub mod Marks
 pub mod Laws
 pub mod Sizes
+pub mod DifferencePolicies

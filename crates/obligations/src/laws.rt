@@ -1,7 +1,7 @@
 //! Laws of the definitions, each a function without parameters whose contract is the law.
 
-ghost use Rattle.obligations.specs.Laws.{CountsAreCases, NamesAreStatements, RefutationsAreTheirs};
-ghost use Rattle.obligations.specs.Laws.{SystemsAreStatements};
+ghost use Rattle.obligations.specs.Laws.{ComparisonsGiveDifferences, CountsAreCases, NamesAreStatements};
+ghost use Rattle.obligations.specs.Laws.{RefutationsAreTheirs, SystemsAreStatements};
 ghost use Rattle.obligations.specs.Sizes.{SizesAreSaid};
 
 /// The names stand for a policy's statements, all of them and in their order.
@@ -23,6 +23,12 @@ pub fn law_systems()
 /// There are as many cases as are counted.
 pub fn law_counts()
     ensures { CountsAreCases }
+{}
+
+/// Where threads are counted and each comparison is one of a constant with a variable or with the difference of two, all
+/// systems are of the form that is always decided.
+pub fn law_differences()
+    ensures { ComparisonsGiveDifferences }
 {}
 
 /// Counts of cases and names of obligations end at these numbers.

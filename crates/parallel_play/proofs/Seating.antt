@@ -23,7 +23,7 @@ use Rattle.core_calls.specs.declared.turned.Turned.{Turned}
 use Rattle.core_calls.specs.Turns.{HasTurned, IsFresh, is_told}
 use Rattle.parallel_play.specs.declared.sums.Tally.{Tally}
 use Rattle.parallel_play.specs.Playing.{IdleFrom, IsPlayed, Joins, Leaves, Played, entries_in, entries_of, log_in, merged_in, turns_in}
-use Rattle.parallel_play.specs.Tallies.{Adds, MAX_COUNT, flag_of}
+use Rattle.parallel_play.specs.Tallies.{CountsTurn, MAX_COUNT, flag_of}
 
 -- a core that is still idle may get its seat
 pub is_idle : (c : ℕ) (v : View) → c < v.plan.cores → IdleFrom c v → HasIdle v c
@@ -84,7 +84,7 @@ or_order false false false = refl
 
 -- one more core has played
 module _ (c : ℕ) (before counted after : Tally) (v left w u x : View) (turned : Turned) (i : IdleFrom c v) (leaves : Leaves c v left) (pl : Played (c + 1) before counted left w)
-    (own : View) (done : HasTurned c turned own u) (joins : Joins w u x) (adds : Adds turned counted after) (low : c < v.plan.cores) where
+    (own : View) (done : HasTurned c turned own u) (joins : Joins w u x) (adds : CountsTurn turned counted after) (low : c < v.plan.cores) where
   left_role : left.role ≡ role.Opening i.merged (set i.turns c turn.Out)
   left_role = ap (λ (t : View). t.role) leaves.view ∙ leaving_is v i.merged i.turns c i.role
 

@@ -21,7 +21,7 @@ pub record IsEmpty (t : Tally) : Type 0 where
   pub ended : (id : ℕ) → flag_of t id ≡ false
 
 -- the turn is counted: its entries, as far as the number goes, and the thread that ended
-pub record Adds (turned : Turned) (old new : Tally) : Type 0 where
+pub record CountsTurn (turned : Turned) (old new : Tally) : Type 0 where
   pub entries : new.entries ≡ min (old.entries + turned.entries) MAX_COUNT
   pub ended : (id : ℕ) → id ≤ MAX_THREADS → flag_of new id ≡ (flag_of old id || is_told id turned.ended)
 

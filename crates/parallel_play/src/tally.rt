@@ -4,7 +4,7 @@ ghost use Rattle.std.specs.Prelude.{◌≡◌, ◌+◌, ◌≤◌, ℕ, All, min
 ghost use Rattle.sched_base.specs.declared.limits.TheConstants.{MAX_THREADS};
 ghost use Rattle.round_model.specs.declared.plan.Planned.{Planned};
 ghost use Rattle.core_calls.specs.Turns.{is_told};
-ghost use Rattle.parallel_play.specs.Tallies.{Adds, IsEmpty, due_by, flag_of};
+ghost use Rattle.parallel_play.specs.Tallies.{CountsTurn, IsEmpty, due_by, flag_of};
 
 use crate::sums::{IDS, Tally};
 use core_calls::Turned;
@@ -31,7 +31,7 @@ impl Tally {
 
     /// Counts a turn.
     pub(crate) fn count_turn(&mut self, turned: Turned)
-        ensures { Adds turned self.old self.new }
+        ensures { CountsTurn turned self.old self.new }
     {
         self.entries = self.entries.saturating_add(turned.entries);
         if let Some(thread) = turned.ended {

@@ -7,7 +7,7 @@ ghost use Rattle.core_table.specs.Told.{HasAllBack, MayBeginRound};
 ghost use Rattle.core_calls.specs.Turns.{HasTurned, IsFresh};
 ghost use Rattle.parallel_play.specs.Playing.{BeganAndPlayed, HavePassed, IdleFrom, Joins, Leaves, Played, TakesBack};
 ghost use Rattle.parallel_play.specs.Stages.{table_in};
-ghost use Rattle.parallel_play.specs.Tallies.{Adds};
+ghost use Rattle.parallel_play.specs.Tallies.{CountsTurn};
 
 use crate::stage::Stage;
 use crate::sums::Tally;
@@ -66,7 +66,7 @@ fn take_back(
     requires back { TakesBack (view_of seat) (view_of own) }
     ensures seat { IsOf (table_in stage.now) result.0 }
     ensures joined { Joins (view_of seat) (view_of own) (view_of result.0) }
-    ensures counted { Adds turned tally result.1 }
+    ensures counted { CountsTurn turned tally result.1 }
 {
     stage.table.join_back(&mut seat, own);
     tally.count_turn(turned);

@@ -1,5 +1,5 @@
 -- Laws: what certificates, answers and points say of a policy.
-use Rattle.std.specs.Prelude.{◌≡◌, ℕ, ℤ, List, map}
+use Rattle.std.specs.Prelude.{◌≡◌, ℕ, ℤ, IsFalse, List, map}
 use Rattle.sched_base.specs.declared.limits.TheConstants.{CHECK_BUDGET}
 use Rattle.policy_tree.specs.Meaning.{Meaning}
 use Rattle.policy_eval.specs.Obligations.{MeetsObligations, Statement}
@@ -7,13 +7,16 @@ use Rattle.policy_eval.specs.Ranges.{AreIn}
 use Rattle.policy_eval.specs.Resolved.{IsResolved}
 use Rattle.policy_eval.specs.Values.{Assignment, Holds, variable_of}
 use Rattle.obligations.specs.declared.names.ObName.{ObName}
+use Rattle.obligations.specs.DifferencePolicies.{ComparesDifferences}
 use Rattle.obligations.specs.Names.{statement_of}
 use Rattle.obligations.specs.Refutations.{refutation}
 use Rattle.obligations.specs.Systems.{systems_of, variable_ranges, variables_of}
 use Rattle.policy_checker.specs.Answers.{IsAnswer, IsFirstSolved}
 use Rattle.policy_checker.specs.Certified.{IsCertified}
-use Rattle.policy_checker.specs.Outcomes.{IsTold, outcome_of}
+use Rattle.policy_checker.specs.Outcomes.{HasOpen, IsTold, outcome_of}
+use Rattle.policy_checker.specs.Verdicts.{IsDecided, IsVerdict, is_left}
 use Rattle.policy_checker.specs.declared.answer.ObAnswer.{ObAnswer}
+use Rattle.policy_checker.specs.declared.verdict.Verdict.{Verdict}
 
 -- A certified policy meets all its statements.
 abbrev pub CertifiedMeet : Type 0
@@ -36,3 +39,15 @@ pub record FailsAt (p : Meaning) (s : Statement) (point : List ℤ) : Type 0 whe
 abbrev pub PointsRefute : Type 0
 PointsRefute = (p : Meaning) → IsResolved p → (s : Statement) (budget : ℕ) (point : List ℤ)
     → IsFirstSolved budget (systems_of p s) point → FailsAt p s point
+
+-- A policy whose comparisons are differences is decided, whatever the budget.
+pub record DifferencesAreDecided : Type 0 where
+  -- no answer to an obligation is that nothing is known
+  pub answers : (p : Meaning) → ComparesDifferences p → (name : ObName) (budget : ℕ) (answer : ObAnswer)
+      → IsAnswer budget (systems_of p (statement_of name)) answer → IsFalse (is_left answer)
+  -- and no verdict is
+  pub verdicts : (p : Meaning) → ComparesDifferences p → (budget : ℕ) (verdict : Verdict)
+      → IsVerdict p budget verdict → IsDecided verdict
+  -- bounded elimination leaves no system of it open
+  pub none_open : (p : Meaning) → ComparesDifferences p → (name : ObName)
+      → HasOpen (systems_of p (statement_of name)) → ⊥

@@ -78,6 +78,12 @@ IsVerdict p budget (verdict.Accepted policy) = IsCertifiedUnder p budget
 IsVerdict p budget (verdict.Refused answers policy) = IsRefused p budget answers
 IsVerdict p budget (verdict.Undecided answers policy) = IsUndecided p budget answers
 
+-- the verdict is that the policy meets its obligations, or that it doesn't
+abbrev pub IsDecided : Verdict → Type 0
+IsDecided (verdict.Accepted policy) = Unit {0}
+IsDecided (verdict.Refused answers policy) = Unit {0}
+IsDecided (verdict.Undecided answers policy) = ⊥
+
 -- the policy that a verdict keeps
 abbrev pub policy_of : Verdict → Policy
 policy_of (verdict.Accepted policy) = policy

@@ -7,9 +7,10 @@ ghost use Rattle.policy_eval.specs.Resolved.{IsResolved};
 ghost use Rattle.obligations.specs.declared.making.ObligeFault.TheVariants as oblige_fault;
 ghost use Rattle.obligations.specs.declared.names.ObName.{ObName};
 ghost use Rattle.obligations.specs.Counts.{first_crowded};
+ghost use Rattle.obligations.specs.DifferencePolicies.{ComparesDifferences};
 ghost use Rattle.obligations.specs.Names.{ob_names};
-ghost use Rattle.policy_checker.specs.Verdicts.{AreAnswers, IsAnswerTo, IsVerdict, policy_of, returned_by, some_fails};
-ghost use Rattle.policy_checker.specs.Verdicts.{some_is_left};
+ghost use Rattle.policy_checker.specs.Verdicts.{AreAnswers, IsAnswerTo, IsDecided, IsVerdict, policy_of, returned_by};
+ghost use Rattle.policy_checker.specs.Verdicts.{some_fails, some_is_left};
 ghost use Rattle.policy_checker.specs.declared.verdict.CheckFault.TheVariants.{Cases};
 
 use crate::accepted::AcceptedPolicy;
@@ -25,12 +26,14 @@ use std::alloc::{AllocError, Global};
 /// within the budget.
 ///
 /// A system that isn't one of differences is left undecided only where it has more points than the budget and bounded
-/// elimination doesn't refute it. Under a budget of 0 each such system is left undecided.
+/// elimination doesn't refute it. Under a budget of 0 each such system is left undecided. So a policy that counts threads
+/// and compares constants with variables and differences of two alone is decided under every budget.
 pub fn check_policy(alloc: Global, policy: Policy, budget: u64) -> Result<Verdict, CheckFault>
     requires { IsResolved (meaning_of policy) }
     ensures crowded { (name : ObName) (count : ℕ) → (result ≡ Err (Cases name count policy)) ↔
         (first_crowded (meaning_of policy) ob_names ≡ Some (name, count)) }
     ensures verdict { IfOk result (IsVerdict (meaning_of policy) budget) }
+    ensures decided { ComparesDifferences (meaning_of policy) → IfOk result IsDecided }
     ensures keeps { IfOk result (λ verdict. policy_of verdict ≡ policy) }
     ensures returned { IfErr result (λ fault. returned_by fault ≡ policy) }
 {

@@ -1,6 +1,7 @@
 //! Laws of the definitions, each a function without parameters whose contract is the law.
 
-ghost use Rattle.policy_checker.specs.Laws.{AnswersAreTrue, CertifiedMeet, PointsRefute};
+ghost use Rattle.policy_checker.specs.Laws.{AnswersAreTrue, CertifiedMeet, DifferencesAreDecided};
+ghost use Rattle.policy_checker.specs.Laws.{PointsRefute};
 
 /// A policy of which each system of each obligation has a right certificate meets all its obligations.
 pub fn law_certified()
@@ -16,4 +17,10 @@ pub fn law_answers()
 /// At the point of an answer the obligation fails.
 pub fn law_points()
     ensures { PointsRefute }
+{}
+
+/// Where threads are counted and each comparison is one of a constant with a variable or with the difference of two, the
+/// policy and each of its obligations are decided.
+pub fn law_differences()
+    ensures { DifferencesAreDecided }
 {}

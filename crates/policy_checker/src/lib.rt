@@ -14,6 +14,6 @@ mod verdict;
 pub use accepted::AcceptedPolicy;
 pub use answer::{Answered, CertList, ObAnswer, ObAnswers, Outcome};
 pub use checking::check_policy;
-pub use laws::{law_answers, law_certified, law_points};
+pub use laws::{law_answers, law_certified, law_differences, law_points};
 pub use one::{One, OneFault, check_one};
 pub use verdict::{CheckFault, Verdict};

@@ -1,13 +1,15 @@
 //! The check of one obligation.
 
-ghost use Rattle.std.specs.Prelude.{◌≡◌, ◌↔◌, ℕ, Err, IfOk, Some};
+ghost use Rattle.std.specs.Prelude.{◌≡◌, ◌↔◌, ℕ, Err, IfOk, IsFalse, Some};
 ghost use Rattle.policy_tree.specs.Meaning.{meaning_of};
 ghost use Rattle.policy_eval.specs.Resolved.{IsResolved};
 ghost use Rattle.obligations.specs.declared.making.ObligeFault.TheVariants.{Cases};
 ghost use Rattle.obligations.specs.Counts.{first_crowded};
+ghost use Rattle.obligations.specs.DifferencePolicies.{ComparesDifferences};
 ghost use Rattle.obligations.specs.Names.{ob_names, statement_of};
 ghost use Rattle.obligations.specs.Systems.{systems_of, variables_of};
 ghost use Rattle.policy_checker.specs.Answers.{IsAnswer};
+ghost use Rattle.policy_checker.specs.Verdicts.{is_left};
 
 use crate::answer::ObAnswer;
 use crate::deciding::answer_to;
@@ -35,6 +37,8 @@ pub fn check_one(alloc: Global, policy: &Policy, ob: ObName, budget: u64) -> Res
     ensures vars { IfOk result (λ one. one.vars ≡ variables_of (meaning_of policy.now) (statement_of ob)) }
     ensures answer { IfOk result (λ one.
         IsAnswer budget (systems_of (meaning_of policy.now) (statement_of ob)) one.answer) }
+    ensures decided { ComparesDifferences (meaning_of policy.now) →
+        IfOk result (λ one. IsFalse (is_left one.answer)) }
 {
     match oblige_one(alloc, policy, ob) {
         Ok(obligation) => match answer_to(alloc, obligation.systems.as_slice(), budget) {

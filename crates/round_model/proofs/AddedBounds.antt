@@ -9,13 +9,12 @@ use Rattle.std.proofs.lemmas.List.Sums.{get_or-le-sum_by, sum_by-cons, sum_by-le
 use Rattle.sched_base.specs.declared.limits.TheConstants.{MAX_ENTRIES, MAX_THREADS}
 use Rattle.sched_base.specs.declared.task.Task.{Task}
 use Rattle.policy_tree.specs.Meaning.{Meaning}
-use Rattle.policy_eval.specs.Fitting.{IsTask, IsWeight, LoadsFit}
+use Rattle.policy_eval.specs.Fitting.{IsTask, LoadsFit}
 use Rattle.policy_eval.specs.Ranges.{greatest_weight, least_weight}
 use Rattle.round_model.specs.declared.entry.Did.{Did}
 use Rattle.round_model.specs.declared.entry.Did.TheVariants as did
 use Rattle.round_model.specs.declared.entry.Entry.{Entry}
 use Rattle.round_model.specs.declared.entry.Entry.TheVariants as entry
-use Rattle.round_model.specs.declared.past.Arrival.{Arrival}
 use Rattle.round_model.specs.declared.past.Past.{Past}
 use Rattle.round_model.specs.declared.plan.Plan.{Plan}
 use Rattle.round_model.specs.declared.plan.Planned.{Planned}
@@ -33,7 +32,7 @@ use Rattle.round_model.specs.Rows.{Row}
 use Rattle.round_model.specs.Scenes.{entering_next, own_entries, scene_of}
 use Rattle.round_model.specs.Code.Steps.{comes}
 use Rattle.round_model.specs.Code.Additions.{IsAdded, arrivals_after, ended_after, ended_by, turn_after}
-use Rattle.round_model.proofs.Keeping.{All-append, All-one, All-without, all_hold, length-without, some_at}
+use Rattle.round_model.proofs.Keeping.{All-append, All-one, all_hold, length-without, some_at}
 use Rattle.round_model.proofs.Pasts.{arriving_next}
 
 -- a sum has at least so much a term
@@ -68,16 +67,6 @@ all_in_bounds : (p : Meaning) (state : List ModelCore) → All (Holds p) state �
 all_in_bounds p state holds few = λ k d inside.
     let this = get_or-le-sum_by standing_count state k d inside in
     holds_bounds p (get_or state k d) (holds k d inside) (omega arith)
-
--- the weights of the arrivals that are left
-weights_left : (p : Meaning) (by : ℕ) (e : Entry) (arrivals : List Arrival) → All (λ (x : Arrival). IsWeight p x.weight) arrivals → All (λ (x : Arrival). IsWeight p x.weight) (arrivals_after by e arrivals)
-weights_left p by (entry.Round number) arrivals each = each
-weights_left p by (entry.Enter thread c at reads) arrivals each = All-without (λ (x : Arrival). IsWeight p x.weight) (arrives_at by) arrivals each
-weights_left p by (entry.Wake thread c at reads) arrivals each = each
-weights_left p by (entry.Work c what) arrivals each = each
-weights_left p by (entry.Steal c from thread reads) arrivals each = each
-weights_left p by (entry.Fail c from reads) arrivals each = each
-weights_left p by (entry.Pass c reads) arrivals each = each
 
 -- the flags keep their number
 flags_kept : (e : Entry) (flags : List Bool) → length (ended_after e flags) ≡ length flags
@@ -169,7 +158,6 @@ module _ (p : Meaning) (plan : Plan) (old new : Past) (e : Entry) (by : ℕ) (be
         turns = ap length turns ∙ (length-set old.turns by (turn_after e turn) ∙ belongs.turns);
         each = each;
         total = let total = belongs.total in omega (arith, left, later, fewer);
-        arrivals = subst (All (λ (x : Arrival). IsWeight p x.weight)) (sym added.arrivals) (weights_left p by e old.arrivals belongs.arrivals);
         window = record {
           some = omega (arith, count);
           within = let within = belongs.window.within in omega (arith, count, added.entries);

@@ -98,7 +98,6 @@ module _ (plan : Plan) (past : Past) (begins : Begins plan past) where
         turns = ap length begins.turns ∙ length-replicate plan.cores no_turn;
         each = in_bounds_begun p fits;
         total = omega (arith, count_by-le-length (λ (t : Planned). nat_lt past.rounds t.round) plan.threads);
-        arrivals = λ k d inside. absurd (omega arith);
         window = record { some = omega arith; within = omega arith; few = omega arith };
         rows = λ k c inside there. fits_begun p k c;
         rounds = omega arith;

@@ -4,9 +4,8 @@ use Rattle.std.proofs.lemmas.Bool.Decides.{nat_tests}
 use Rattle.std.proofs.lemmas.List.{length-map, length-replicate}
 use Rattle.std.proofs.lemmas.List.Sums.{sum_by-cons}
 use Rattle.policy_tree.specs.Meaning.{Meaning}
-use Rattle.policy_eval.specs.Fitting.{IsWeight, LoadsFit}
+use Rattle.policy_eval.specs.Fitting.{LoadsFit}
 use Rattle.sched_base.specs.declared.limits.TheConstants.{MAX_ENTRIES}
-use Rattle.round_model.specs.declared.past.Arrival.{Arrival}
 use Rattle.round_model.specs.declared.past.Past.{Past}
 use Rattle.round_model.specs.declared.past.Turn.{Turn}
 use Rattle.round_model.specs.declared.plan.Plan.{Plan}
@@ -17,7 +16,7 @@ use Rattle.round_model.specs.Fits.{Fits}
 use Rattle.round_model.specs.Code.Past.{IsPastOf, arrival_of, seen_in}
 use Rattle.round_model.specs.Code.Additions.{IsBegun}
 use Rattle.round_model.specs.Code.Lists.{Lists}
-use Rattle.round_model.proofs.Keeping.{All-append, All-one, some_at}
+use Rattle.round_model.proofs.Keeping.{some_at}
 
 -- a test of order, counted
 abbrev pub counted : Bool → ℕ
@@ -49,18 +48,6 @@ later_split r (t ∷ threads) =
           ]
     ] refl
 
--- the weights of those who enter
-weights_in : (p : Meaning) (test : Planned → Bool) (threads : List Planned) → All (λ (t : Planned). IsWeight p t.weight) threads
-    → All (λ (x : Arrival). IsWeight p x.weight) (map arrival_of (filter test threads))
-weights_in p test [] each = λ k d inside. absurd (omega arith)
-weights_in p test (t ∷ threads) each =
-    let rest = weights_in p test threads (λ k d inside. each (suc k) d (omega arith)) in
-    elim (test t) as (λ b. All (λ (x : Arrival). IsWeight p x.weight) (map arrival_of (cond b (t ∷ filter test threads) (filter test threads)))) [
-      | true ↦ All-append (λ (x : Arrival). IsWeight p x.weight) (arrival_of t ∷ []) (map arrival_of (filter test threads))
-          (All-one (λ (x : Arrival). IsWeight p x.weight) (arrival_of t) (each 0 t (omega arith))) rest
-      | false ↦ rest
-    ]
-
 pub belongs_begun : (p : Meaning) (plan : Plan) (old new : Past) → Fits p plan → IsPastOf p plan old → IsBegun plan old new → old.entries < MAX_ENTRIES → old.rounds < plan.rounds
     → IsPastOf p plan new
 belongs_begun p plan old new fits belongs begun room due =
@@ -80,8 +67,6 @@ belongs_begun p plan old new fits belongs begun room due =
       turns = ap length begun.turns ∙ (length-replicate (length old.turns) fresh ∙ belongs.turns);
       each = subst (All (CoreInBounds p)) (sym begun.state) belongs.each;
       total = let before = belongs.total in let split = later_split old.rounds threads in let same = ap (sum_by standing_count) begun.state in omega (arith, arrivals, counts);
-      arrivals = subst (All (λ (x : Arrival). IsWeight p x.weight)) (sym begun.arrivals)
-          (weights_in p (λ (t : Planned). t.round == new.rounds) threads (λ k d inside. (fits.threads k d inside).weight));
       window = record { some = omega arith; within = omega (arith, begun.entries); few = omega (arith, begun.entries) };
       rows = λ k c inside there.
           let first : k ≡ 0 = omega arith in

@@ -17,12 +17,7 @@ use Rattle.round_model.specs.Work.{core_after_work}
 -- the number of the round after the entry
 abbrev pub round_after : ℕ → Entry → ℕ
 round_after round (entry.Round number) = number
-round_after round (entry.Enter thread by at reads) = round
-round_after round (entry.Wake thread by at reads) = round
-round_after round (entry.Work by what) = round
-round_after round (entry.Steal by from thread reads) = round
-round_after round (entry.Fail by from reads) = round
-round_after round (entry.Pass by reads) = round
+round_after round e = round
 
 -- the number of the last round that a history began, and 0 before the first
 abbrev pub round_of : List Entry → ℕ
@@ -48,14 +43,12 @@ stolen by from c (Some t) core =
 
 -- what the entry leaves of a core that it touches
 unfoldable pub effect : Meaning → Plan → ℕ → Entry → Cores → ℕ → ModelCore
-effect p plan round (entry.Round number) m c = m c
 effect p plan round (entry.Enter thread by at reads) m c = entered p (planned_of plan thread) (m c)
 effect p plan round (entry.Wake thread by at reads) m c = woken p by at c (blocked_of thread (m by)) (m c)
 effect p plan round (entry.Work by what) m c = core_after_work p plan round (m c)
 effect p plan round (entry.Steal by from thread reads) m c =
     stolen by from c (queued_of thread (m from)) (m c)
-effect p plan round (entry.Fail by from reads) m c = m c
-effect p plan round (entry.Pass by reads) m c = m c
+effect p plan round e m c = m c
 
 -- the cores after one entry of that round: those that it doesn't touch stay
 abbrev pub moved : Meaning → Plan → ℕ → Entry → Cores → Cores

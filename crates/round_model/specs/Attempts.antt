@@ -4,12 +4,10 @@ use Rattle.sched_base.specs.declared.task.Task.{Task}
 use Rattle.policy_tree.specs.Meaning.{Meaning}
 use Rattle.policy_eval.specs.declared.env.CoreValues.{CoreValues}
 use Rattle.policy_eval.specs.Orders.{best_of}
-use Rattle.policy_eval.specs.Sights.{pair_values}
-use Rattle.policy_eval.specs.Values.{holds}
 use Rattle.round_model.specs.declared.entry.Entry.{Entry}
 use Rattle.round_model.specs.declared.entry.Entry.TheVariants as entry
 use Rattle.round_model.specs.declared.plan.Plan.{Plan}
-use Rattle.round_model.specs.Choices.{choice_of}
+use Rattle.round_model.specs.Choices.{choice_of, may_steal}
 use Rattle.round_model.specs.Cores.{Cores, seen_of}
 use Rattle.round_model.specs.Reads.{values_of}
 use Rattle.round_model.specs.Work.{before}
@@ -26,7 +24,7 @@ steal_or_fail by from reads (Some t) = entry.Steal by from t.id reads
 -- the attempt on the core v, by the cores as they are
 abbrev pub attempt_on : Meaning → Plan → Cores → ℕ → List ℕ → ℕ → Entry
 attempt_on p plan m a reads v =
-    cond (holds (pair_values (present_values plan m a) (present_values plan m v)) p.filter)
+    cond (may_steal p (present_values plan m a) (present_values plan m v))
     (steal_or_fail a v reads (best_of (before p.steal) (m v).queue))
     (entry.Fail a v reads)
 

@@ -18,9 +18,13 @@ no_values = record { nr = 0; load = 0; consts = no_attributes }
 abbrev pub values_in : List CoreValues → ℕ → CoreValues
 values_in list c = slice_index_or list c no_values
 
+-- whether a core with the first values may steal from one with the second
+abbrev pub may_steal : Meaning → CoreValues → CoreValues → Bool
+may_steal p own victim = holds (pair_values own victim) p.filter
+
 -- whether the core a may steal from the core v, with these values of the cores
 abbrev pub is_candidate : Meaning → (ℕ → CoreValues) → ℕ → ℕ → Bool
-is_candidate p values a v = not (a == v) && holds (pair_values (values a) (values v)) p.filter
+is_candidate p values a v = not (a == v) && may_steal p (values a) (values v)
 
 -- the cores of so many that a may steal from, in the order of their numbers
 unfoldable pub candidates_of : Meaning → ℕ → (ℕ → CoreValues) → ℕ → List ℕ

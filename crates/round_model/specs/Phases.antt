@@ -25,13 +25,10 @@ phase_after_work id phase (did.Ended thread) = cond (thread == id) over phase
 
 -- the phase after an entry
 abbrev pub phase_after : ℕ → Phase → Entry → Phase
-phase_after id phase (entry.Round number) = phase
 phase_after id phase (entry.Enter thread by at reads) = cond (thread == id) live phase
 phase_after id phase (entry.Wake thread by at reads) = cond (thread == id) live phase
 phase_after id phase (entry.Work by what) = phase_after_work id phase what
-phase_after id phase (entry.Steal by from thread reads) = phase
-phase_after id phase (entry.Fail by from reads) = phase
-phase_after id phase (entry.Pass by reads) = phase
+phase_after id phase e = phase
 
 -- the phase after a history: by the last Enter, Wake or Work that names the thread
 abbrev pub phase_of : ℕ → List Entry → Phase

@@ -47,13 +47,10 @@ is_leaving (did.Ended thread) = true
 
 -- whether a thread comes to the run queues or leaves them in the entry
 abbrev pub disturbs : Entry → Bool
-disturbs (entry.Round number) = false
 disturbs (entry.Enter thread by at reads) = true
 disturbs (entry.Wake thread by at reads) = true
 disturbs (entry.Work by what) = is_leaving what
-disturbs (entry.Steal by from thread reads) = false
-disturbs (entry.Fail by from reads) = false
-disturbs (entry.Pass by reads) = false
+disturbs e = false
 
 -- in the rounds first to last nobody enters, wakes, blocks or ends
 abbrev pub IsStill : List Entry → ℕ → ℕ → Type 0

@@ -2,14 +2,12 @@
 
 ghost use Rattle.std.specs.Prelude.{◌≡◌, ◌↔◌, ◌<◌, ℕ, All, IfSome, IsTrue, List, Some, length, option_map, slice_get};
 ghost use Rattle.policy_tree.specs.Meaning.{Meaning, meaning_of, order_tree};
-ghost use Rattle.policy_tree.specs.Trees.{cond_tree};
 ghost use Rattle.policy_eval.specs.Fitting.{CoreFits};
 ghost use Rattle.policy_eval.specs.Orders.{best_of};
 ghost use Rattle.policy_eval.specs.Resolved.{IsResolved};
-ghost use Rattle.policy_eval.specs.Sights.{pair_values};
-ghost use Rattle.policy_eval.specs.Values.{holds as holds_at};
 ghost use Rattle.round_model.specs.Attempts.{attempt_on, attempt_with, present_values};
 ghost use Rattle.round_model.specs.Bounds.{CoreInBounds};
+ghost use Rattle.round_model.specs.Choices.{may_steal as may_steal_by};
 ghost use Rattle.round_model.specs.Cores.{Cores, listed};
 ghost use Rattle.round_model.specs.Fits.{Fits};
 ghost use Rattle.round_model.specs.Code.Outcomes.{IsCountable, entry_of_attempt, entry_with};
@@ -17,9 +15,10 @@ ghost use Rattle.round_model.specs.Work.{before};
 ghost use Rattle.round_model.specs.declared.state.ModelCore.{ModelCore};
 
 use crate::election::best_place;
+use crate::filtering::{may_steal, values_of};
 use crate::plan::Plan;
 use crate::state::State;
-use policy_eval::{CoreValues, Env, holds};
+use policy_eval::CoreValues;
 use policy_tree::Policy;
 use sched_base::{CoreId, ThreadId};
 
@@ -98,13 +97,12 @@ fn filter_holds(policy: &Policy, plan: &Plan, state: &State, core: CoreId, victi
     requires bounds { All (CoreInBounds (meaning_of policy.now)) state.now }
     requires core { core < plan.now.cores }
     requires victim { victim < plan.now.cores }
-    ensures { (m : Cores) → state.now ≡ listed plan.now.cores m → result
-        ≡ holds_at (pair_values (present_values plan.now m core) (present_values plan.now m victim))
-        (cond_tree policy.now.filter) }
+    ensures { (m : Cores) → state.now ≡ listed plan.now.cores m → result ≡ may_steal_by (meaning_of policy.now)
+        (present_values plan.now m core) (present_values plan.now m victim) }
 {
     let own = present(plan, state, core);
     let other = present(plan, state, victim);
-    holds(&policy.filter, &Env::of_pair(&own, &other))
+    may_steal(policy, &own, &other)
 }
 
 /// The number of the thread in the core's queue that the steal keys take.
@@ -132,9 +130,5 @@ fn present(plan: &Plan, state: &State, core: CoreId) -> CoreValues
     ensures values { (m : Cores) → state.now ≡ listed plan.now.cores m → result ≡ present_values plan.now m core }
 {
     let seen = state.get(core).seen();
-    CoreValues {
-        nr: seen.nr,
-        load: seen.load,
-        consts: *plan.consts.get(core),
-    }
+    values_of(plan, core, seen)
 }

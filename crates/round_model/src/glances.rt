@@ -9,10 +9,11 @@ ghost use Rattle.round_model.specs.Choices.{choice_of, target_of, values_in};
 ghost use Rattle.round_model.specs.Fits.{Fits};
 ghost use Rattle.round_model.specs.Code.Outcomes.{IsAttemptBy, IsPlacedBy, ReadIn, entry_of_attempt, values_at};
 ghost use Rattle.round_model.specs.Code.Past.{IsPastOf, IsWindow, OfEach, seen_in};
-ghost use Rattle.round_model.specs.Reads.{ReadsFit, round_start, values_of};
+ghost use Rattle.round_model.specs.Reads.{ReadsFit, round_start, values_of as values_by};
 
 use crate::attempts::{Attempt, outcome};
 use crate::choices::{choice, target};
+use crate::filtering::values_of;
 use crate::past::Past;
 use crate::plan::Plan;
 use crate::windows::reads_fit;
@@ -156,13 +157,8 @@ fn value_of(plan: &Plan, past: &Past, reads: &Reads, core: CoreId) -> CoreValues
     requires few { plan.now.cores ≤ MAX_CORES }
     requires consts { length plan.now.consts ≡ plan.now.cores }
     ensures { (k : ℕ) → past.now.entries + k + 1 ≡ slice_index reads.now core + length past.now.rows →
-        result ≡ values_of plan.now core (seen_in past.now.rows k core) }
+        result ≡ values_by plan.now core (seen_in past.now.rows k core) }
 {
     let at = reads.get(core) - past.start();
-    let seen = past.rows.get(at)[core as usize];
-    CoreValues {
-        nr: seen.nr,
-        load: seen.load,
-        consts: *plan.consts.get(core),
-    }
+    values_of(plan, core, past.rows.get(at)[core as usize])
 }

@@ -34,7 +34,6 @@ pub struct Arrival {
     pub id: ThreadId,
     /// The core that lets it in.
     pub core: CoreId,
-    pub weight: u32,
 }
 
 /// What was to be seen of each core at one position.

@@ -28,7 +28,6 @@ pub(crate) fn arrivals_of(
             arrivals.push(Arrival {
                 id: thread.id,
                 core: thread.core,
-                weight: thread.weight,
             })?;
         }
     }

@@ -1,10 +1,3 @@
-pub mod Crossing
-pub mod Dealing
-pub mod Fitting
 pub mod Joined
-pub mod Judged
-pub mod Letting
 pub mod Moments
 pub mod Orders
-pub mod Pushing
-pub mod Turning

@@ -9,6 +9,7 @@ ghost use Rattle.model_tests.specs.Policies.{basic};
 ghost use Rattle.runtime_tests.specs.Stages.{IsReady, IsSmall, after_unit, at_burst, one_blocks};
 ghost use Rattle.runtime_tests.specs.Stages.{both_queued, empty, one_blocked, one_woke, two_came, two_left, two_runs};
 
+use crate::finding::{Finding, all_hold};
 use core_state::{CoreState, StateMemory};
 use model_tests::builders::basic_policy;
 use policy_tree::Policy;
@@ -17,7 +18,6 @@ use round_model::{
 };
 use sched_base::{CoreId, MAX_ATTRIBUTES, Place, Task, ThreadId};
 use std::alloc::{AllocError, Global};
-use std::test::Fail;
 
 /// Thread 1 blocks for a round after its first unit and ends with its second, thread 2 has no end.
 pub(crate) fn plan_of_two(alloc: Global) -> Result<Plan, AllocError>
@@ -221,22 +221,74 @@ fn second_round(
     ([early, due, woken], ran, seen(first))
 }
 
-#[test]
-fn a_thread_blocks_and_another_is_stolen(rt: HostRuntime) -> Result<(), Fail> {
-    let policy = basic_policy(rt.alloc())?;
-    let plan = plan_of_two(rt.alloc())?;
-    let mut first = opened(rt.alloc(), &policy, &plan, 0)?;
-    let mut second = opened(rt.alloc(), &policy, &plan, 1)?;
-    let (counts, dids) = first_round(&mut first, &mut second, &policy, &plan);
-    assert_eq!(rt; counts, [(2, 2), (1, 1), (1, 1)]);
-    assert!(rt;
-        dids == [Did::Blocked(1), Did::Kept(2)],
-        "of equals the earliest runs"
-    );
-    assert!(rt; second.queue().is_empty(), "thread 2 is its current one");
-    let (dues, did, count) = second_round(&mut first, &policy, &plan);
-    assert_eq!(rt; dues, [None, Some(1), None], "it blocks for a round");
-    assert!(rt; did == Did::Ended(1));
-    assert_eq!(rt; count, (0, 0));
-    Ok(())
+/// A thread blocks and wakes, and another one is stolen.
+pub(crate) fn one_blocks_and_one_is_stolen(alloc: Global) -> Option<Finding> {
+    let Ok(policy) = basic_policy(alloc) else {
+        return None;
+    };
+    let Ok(plan) = plan_of_two(alloc) else {
+        return None;
+    };
+    of_two_cores(alloc, &policy, &plan)
+}
+
+/// The same of two cores before the first entry.
+fn of_two_cores(alloc: Global, policy: &Policy, plan: &Plan) -> Option<Finding>
+    requires policy { meaning_of policy.now ≡ basic }
+    requires plan { plan.now ≡ one_blocks }
+{
+    let Ok(mut first) = opened(alloc, policy, plan, 0) else {
+        return None;
+    };
+    beside_another(alloc, &mut first, policy, plan)
+}
+
+/// The same of the first core, and another one.
+fn beside_another(
+    alloc: Global,
+    first: &mut CoreState,
+    policy: &Policy,
+    plan: &Plan,
+) -> Option<Finding>
+    requires policy { meaning_of policy.now ≡ basic }
+    requires plan { plan.now ≡ one_blocks }
+    requires first { first.old ≡ empty }
+{
+    let Ok(mut second) = opened(alloc, policy, plan, 1) else {
+        return None;
+    };
+    Some(both_rounds(first, &mut second, policy, plan))
+}
+
+/// Both rounds.
+fn both_rounds(
+    first: &mut CoreState,
+    second: &mut CoreState,
+    policy: &Policy,
+    plan: &Plan,
+) -> Finding
+    requires policy { meaning_of policy.now ≡ basic }
+    requires plan { plan.now ≡ one_blocks }
+    requires first { first.old ≡ empty }
+    requires second { second.old ≡ empty }
+{
+    let (counts, dids) = first_round(first, second, policy, plan);
+    let (dues, did, count) = second_round(first, policy, plan);
+    all_hold(&[
+        (
+            "the threads are counted",
+            counts == [(2, 2), (1, 1), (1, 1)],
+        ),
+        (
+            "of equals the earliest runs",
+            dids == [Did::Blocked(1), Did::Kept(2)],
+        ),
+        (
+            "thread 2 is its core's current one",
+            second.queue().is_empty(),
+        ),
+        ("thread 1 blocks for a round", dues == [None, Some(1), None]),
+        ("thread 1 ends", did == Did::Ended(1)),
+        ("none is left", count == (0, 0)),
+    ])
 }

@@ -8,6 +8,7 @@ ghost use Rattle.runtime_tests.specs.Merged.{first_log, no_logs, second_log, two
 ghost use Rattle.runtime_tests.specs.Stages.{empty, one_blocks};
 
 use crate::cores::{opened, plan_of_two};
+use crate::finding::{Finding, all_hold};
 use core_state::{Closed, CoreState, Logged, StateMemory};
 use history_merge::{HistoryMemory, merge};
 use model_tests::builders::basic_policy;
@@ -15,7 +16,6 @@ use policy_tree::Policy;
 use round_model::{Did, Entry, Plan};
 use sched_base::Reads;
 use std::alloc::{AllocError, Global};
-use std::test::Fail;
 
 /// Core 1 takes thread 1 of core 0.
 fn steal() -> Entry
@@ -154,19 +154,47 @@ fn merged_of_nothing(alloc: Global) -> Result<Vec<u8>, HistoryMemory> {
     Ok(signs(alloc, history.as_slice())?)
 }
 
-#[test]
-fn logs_with_a_steal(rt: HostRuntime) -> Result<(), Fail> {
-    let policy = basic_policy(rt.alloc())?;
-    let plan = plan_of_two(rt.alloc())?;
-    let closed = two_closed(rt.alloc(), &policy, &plan)?;
-    let text = merged(rt.alloc(), &closed)?;
-    assert_eq!(rt; text.as_slice(), b"r1e0w1s1p0r2".as_slice());
-    Ok(())
+/// Two logs that share a steal.
+pub(crate) fn with_a_steal(alloc: Global) -> Option<Finding> {
+    let Ok(policy) = basic_policy(alloc) else {
+        return None;
+    };
+    let Ok(plan) = plan_of_two(alloc) else {
+        return None;
+    };
+    of_two_logs(alloc, &policy, &plan)
 }
 
-#[test]
-fn logs_of_nothing(rt: HostRuntime) -> Result<(), Fail> {
-    let text = merged_of_nothing(rt.alloc())?;
-    assert_eq!(rt; text.as_slice(), b"".as_slice());
-    Ok(())
+/// The same of the cores that have these logs.
+fn of_two_logs(alloc: Global, policy: &Policy, plan: &Plan) -> Option<Finding>
+    requires policy { meaning_of policy.now ≡ basic }
+    requires plan { plan.now ≡ one_blocks }
+{
+    let Ok(closed) = two_closed(alloc, policy, plan) else {
+        return None;
+    };
+    found_in(alloc, &closed)
+}
+
+/// The same of the logs.
+fn found_in(alloc: Global, closed: &Closed) -> Option<Finding>
+    requires { closed.now ≡ two_logs }
+{
+    let Ok(text) = merged(alloc, closed) else {
+        return None;
+    };
+    Some(has_signs(&text, b"r1e0w1s1p0r2"))
+}
+
+/// No logs.
+pub(crate) fn of_nothing(alloc: Global) -> Option<Finding> {
+    let Ok(text) = merged_of_nothing(alloc) else {
+        return None;
+    };
+    Some(has_signs(&text, b""))
+}
+
+/// Whether these are the signs.
+pub(crate) fn has_signs(text: &Vec<u8>, signs: &[u8]) -> Finding {
+    all_hold(&[("the entries come in this order", text.as_slice() == signs)])
 }

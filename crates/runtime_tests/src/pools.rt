@@ -1,29 +1,47 @@
 //! A pool of one node.
 
+use crate::finding::{Finding, all_hold};
 use node_pool::Pool;
-use std::test::Fail;
+use std::alloc::Global;
 
-#[test]
-fn a_pool_of_one_node(rt: HostRuntime) -> Result<(), Fail> {
-    let mut pool: Pool<u32> = Pool::with_room(rt.alloc(), 1)?;
-    assert_eq!(rt; pool.free(), 1);
+/// A value comes and goes, and then another one comes.
+pub(crate) fn of_one_node(alloc: Global) -> Option<Finding> {
+    let Ok(mut pool) = Pool::<u32>::with_room(alloc, 1) else {
+        return None;
+    };
+    Some(come_and_go(&mut pool).and(come_again(&mut pool)))
+}
+
+/// The first value comes, is linked, and goes.
+fn come_and_go(pool: &mut Pool<u32>) -> Finding {
+    let free = pool.free();
     let Ok(at) = pool.take(5) else {
-        return Err("the node is free".into());
+        return Finding::Not("the node is free");
     };
-    assert_eq!(rt; pool.free(), 0);
-    assert_eq!(rt; pool.link(at), None);
+    let left = pool.free();
+    let link = pool.link(at);
     let Err(back) = pool.take(6) else {
-        return Err("no node is free".into());
+        return Finding::Not("no second node is free");
     };
-    assert_eq!(rt; back, 6);
     pool.set_link(at, Some(at));
-    assert_eq!(rt; pool.link(at), Some(at));
-    assert_eq!(rt; pool.give(at), 5);
-    assert_eq!(rt; pool.free(), 1);
+    all_hold(&[
+        ("one node is free", free == 1),
+        ("none is free behind it", left == 0),
+        ("a node has no link at first", link.is_none()),
+        ("what finds no node comes back", back == 6),
+        ("a link is kept", pool.link(at) == Some(at)),
+        ("a value is given back", pool.give(at) == 5),
+        ("the node is free behind it", pool.free() == 1),
+    ])
+}
+
+/// The second value comes.
+fn come_again(pool: &mut Pool<u32>) -> Finding {
     let Ok(again) = pool.take(7) else {
-        return Err("the node is free again".into());
+        return Finding::Not("the node is free again");
     };
-    assert_eq!(rt; pool.link(again), None, "a link is forgotten");
-    assert_eq!(rt; *pool.get(again), 7);
-    Ok(())
+    all_hold(&[
+        ("a link is forgotten", pool.link(again).is_none()),
+        ("the second value is kept", *pool.get(again) == 7),
+    ])
 }

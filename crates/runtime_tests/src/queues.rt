@@ -2,15 +2,16 @@
 
 ghost use Rattle.std.specs.Prelude.{◌≡◌, ◌<◌, ◌≤◌, ◌≤ℤ◌, [], ◌∷◌, pos, IfOk, IfSome, length};
 ghost use Rattle.policy_tree.specs.Meaning.{key_tree, order_tree};
+ghost use Rattle.policy_eval.specs.Evaluable.{IsEvaluableOrder};
 ghost use Rattle.run_queue.specs.Tasks.{IsSeenTask};
 
+use crate::finding::{Finding, all_hold};
 use lists::Items;
 use policy_tree::variables::{THREAD_ATTRIBUTES, WEIGHT};
 use policy_tree::{Cmp, Cond, Expr, Key, Order};
 use run_queue::Queue;
 use sched_base::{MAX_ATTRIBUTES, Place, Task, ThreadId};
 use std::alloc::{AllocError, Global};
-use std::test::Fail;
 
 /// How many threads have room.
 const ROOM: u32 = 8;
@@ -194,24 +195,61 @@ pub(crate) fn rolled(dice: u64) -> u64 {
         .wrapping_add(1_442_695_040_888_963_407)
 }
 
-#[test]
-fn a_queue_against_a_plain_list(rt: HostRuntime) -> Result<(), Fail> {
-    let elect = order_of(rt.alloc(), Key::Least(Expr::Var(THREAD_ATTRIBUTES)))?;
-    let steal = order_of(rt.alloc(), Key::Greatest(Expr::Var(WEIGHT)))?;
-    let mut queue = Queue::with_room(rt.alloc(), ROOM, &elect)?;
-    let mut seats = Items::from_vec(Vec::new(rt.alloc()));
-    let mut dice: u64 = 2026;
-    for turn in 0..2000 {
-        dice = rolled(dice);
-        assert!(rt; step_both(&mut queue, &mut seats, dice >> 33)?, "at {turn}");
-        assert_eq!(rt; queue.len(), seats.len(), "at {turn}");
-        let heaviest = number_at(&seats, best_place(&seats, Asked::Steal));
-        assert_eq!(rt; queue.best_for_steal(&steal), heaviest, "at {turn}");
-    }
-    Ok(())
+/// So many things are done to both.
+const TURNS: u32 = 2000;
+
+/// A queue and a plain list to which the same is done, by the dice.
+pub(crate) fn against_a_plain_list(alloc: Global) -> Option<Finding> {
+    let Ok(elect) = order_of(alloc, Key::Least(Expr::Var(THREAD_ATTRIBUTES))) else {
+        return None;
+    };
+    let Ok(steal) = order_of(alloc, Key::Greatest(Expr::Var(WEIGHT))) else {
+        return None;
+    };
+    let Ok(mut queue) = Queue::with_room(alloc, ROOM, &elect) else {
+        return None;
+    };
+    let mut seats = Items::from_vec(Vec::new(alloc));
+    all_turns(&mut queue, &mut seats, &steal)
 }
 
-// A thread of that weight that was never used.
+/// What the first turn finds in which they differ.
+fn all_turns(queue: &mut Queue, seats: &mut Items<Seat>, steal: &Order) -> Option<Finding>
+    requires room { queue.old.room ≡ ROOM }
+    requires order { IsEvaluableOrder (order_tree steal.now) }
+{
+    let mut dice: u64 = 2026;
+    for turn in 0..TURNS {
+        dice = rolled(dice);
+        let found = one_turn(queue, seats, steal, dice >> 33)?;
+        if !found.is_expected() {
+            return Some(found.in_turn(turn));
+        }
+    }
+    Some(Finding::Expected)
+}
+
+/// What the dice say is done to both. What is found then.
+fn one_turn(queue: &mut Queue, seats: &mut Items<Seat>, steal: &Order, dice: u64) -> Option<Finding>
+    requires room { queue.old.room ≡ ROOM }
+    requires order { IsEvaluableOrder (order_tree steal.now) }
+    ensures { queue.new.room ≡ ROOM }
+{
+    let Ok(agree) = step_both(queue, seats, dice) else {
+        return None;
+    };
+    let heaviest = number_at(seats, best_place(seats, Asked::Steal));
+    Some(all_hold(&[
+        ("both give the same thread", agree),
+        ("both are as long", queue.len() == seats.len()),
+        (
+            "both have the same heaviest thread",
+            queue.best_for_steal(steal) == heaviest,
+        ),
+    ]))
+}
+
+/// A thread of that weight that was never used.
 fn weighing(id: ThreadId, weight: u32) -> Task
     requires weight { 1 ≤ weight }
     requires light { weight ≤ 8 }
@@ -224,19 +262,38 @@ fn weighing(id: ThreadId, weight: u32) -> Task
     })
 }
 
-// Those that weigh 3 or more come first, of equals the earliest.
-#[test]
-fn a_queue_that_prefers(rt: HostRuntime) -> Result<(), Fail> {
+/// A queue in which those that weigh 3 or more come first, of equals the earliest.
+pub(crate) fn that_prefers(alloc: Global) -> Option<Finding> {
     let heavy = Cond::Test(Cmp::Ge, Expr::Var(WEIGHT), Expr::Num(3));
-    let elect = order_of(rt.alloc(), Key::Prefer(heavy))?;
-    let mut queue = Queue::with_room(rt.alloc(), ROOM, &elect)?;
+    let Ok(elect) = order_of(alloc, Key::Prefer(heavy)) else {
+        return None;
+    };
+    let Ok(mut queue) = Queue::with_room(alloc, ROOM, &elect) else {
+        return None;
+    };
+    Some(prefers_heavy(&mut queue))
+}
+
+/// Four threads come and go.
+fn prefers_heavy(queue: &mut Queue) -> Finding
+    requires room { queue.old.room ≡ ROOM }
+    requires empty { queue.old.tasks ≡ [] }
+{
     queue.push(weighing(1, 1));
     queue.push(weighing(2, 4));
     queue.push(weighing(3, 2));
     queue.push(weighing(4, 5));
-    for id in [2, 4, 1, 3] {
-        assert_eq!(rt; number_of(queue.pop_best()), Some(id));
-    }
-    assert!(rt; queue.is_empty());
-    Ok(())
+    let order = [
+        number_of(queue.pop_best()),
+        number_of(queue.pop_best()),
+        number_of(queue.pop_best()),
+        number_of(queue.pop_best()),
+    ];
+    all_hold(&[
+        (
+            "the heavy ones come first",
+            order == [Some(2), Some(4), Some(1), Some(3)],
+        ),
+        ("none is left", queue.is_empty()),
+    ])
 }

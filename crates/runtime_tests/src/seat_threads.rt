@@ -4,24 +4,25 @@ ghost use Rattle.std.specs.Prelude.{◌≡◌};
 ghost use Rattle.std.specs.Thread.{IsSync};
 ghost use Rattle.policy_tree.specs.Meaning.{meaning_of};
 ghost use Rattle.core_table.specs.Public.{plan_of, policy_of};
-ghost use Rattle.runtime_tests.specs.declared.players.Stage.TheVariants as stage_of;
-ghost use Rattle.runtime_tests.specs.Crowds.{IsCrowd, IsTried};
-ghost use Rattle.runtime_tests.specs.Games.{IsAt, IsDealing, IsTable, Plays, table_in};
-ghost use Rattle.runtime_tests.specs.Tables.{IsFree};
+ghost use Rattle.table_players.specs.declared.players.Stage.TheVariants as stage_of;
+ghost use Rattle.table_players.specs.Crowds.{IsCrowd, IsTried};
+ghost use Rattle.table_players.specs.Games.{IsAt, IsDealing, IsTable, Plays, table_in};
+ghost use Rattle.table_players.specs.Tables.{IsFree};
 
-use crate::crowds::{crowd, placed_by_load, placed_here};
-use crate::game::Game;
-use crate::games::{history_of, is_legal, opened};
-use crate::players::{Player, Stage};
+use crate::finding::{Finding, all_hold};
 use crate::queues::rolled;
+use crate::rounds::is_whole_and_legal;
 use core_table::{Seat, Table};
 use policy_tree::Policy;
 use round_model::{History, Plan};
 use sched_base::CoreId;
 use std::alloc::Global;
 use std::sync::Wait;
-use std::test::Fail;
 use std::thread::{Threads, join};
+use table_players::crowds::{crowd, placed_by_load, placed_here};
+use table_players::game::Game;
+use table_players::games::{history_of, opened};
+use table_players::players::{Player, Stage};
 
 /// The player's seat once it has taken its whole turn, at the table that was opened with these.
 fn turned<R: Wait>(rt: &R, table: &Table, policy: &Policy, plan: &Plan, player: Player) -> Seat
@@ -158,16 +159,18 @@ fn played_apart<R: Threads + Wait + Sync>(
     alloc: Global,
     policy: &Policy,
     plan: &Plan,
-) -> Result<History, Fail>
+) -> Option<History>
     requires policy { IsTried (meaning_of policy.now) }
     requires plan { IsCrowd plan.now }
     requires three { plan.now.cores ≡ 3 }
 {
-    let (table, mut seat) = opened(alloc, policy, plan)?;
+    let Ok((table, mut seat)) = opened(alloc, policy, plan) else {
+        return None;
+    };
     let game = Game::new(&table, policy, plan);
     game.begin(rt, &mut seat);
     play_three(rt, &game, &mut seat);
-    Ok(history_of(alloc, table, seat)?)
+    history_of(alloc, table, seat).ok()
 }
 
 /// The history of one round of four cores, which take their turns in threads.
@@ -176,16 +179,18 @@ fn played_by_four<R: Threads + Wait + Sync>(
     alloc: Global,
     policy: &Policy,
     plan: &Plan,
-) -> Result<History, Fail>
+) -> Option<History>
     requires policy { IsTried (meaning_of policy.now) }
     requires plan { IsCrowd plan.now }
     requires four { plan.now.cores ≡ 4 }
 {
-    let (table, mut seat) = opened(alloc, policy, plan)?;
+    let Ok((table, mut seat)) = opened(alloc, policy, plan) else {
+        return None;
+    };
     let game = Game::new(&table, policy, plan);
     game.begin(rt, &mut seat);
     play_four(rt, &game, &mut seat);
-    Ok(history_of(alloc, table, seat)?)
+    history_of(alloc, table, seat).ok()
 }
 
 /// Whether the round of four threads, with a plan by the dice, is whole and legal.
@@ -194,41 +199,69 @@ fn is_well_played<R: Threads + Wait + Sync>(
     alloc: Global,
     policy: &Policy,
     dice: u64,
-) -> Result<bool, Fail>
+) -> Option<bool>
     requires { IsTried (meaning_of policy.now) }
 {
     let count = (dice >> 60) as u32 / 2 + 1;
-    let plan = crowd(alloc, 4, count, dice >> 20)?;
+    let Ok(plan) = crowd(alloc, 4, count, dice >> 20) else {
+        return None;
+    };
     let history = played_by_four(rt, alloc, policy, &plan)?;
-    let is_whole = history.len() == 9 + count;
-    Ok(is_whole && is_legal(alloc, policy, &plan, history.as_slice())?)
+    is_whole_and_legal(alloc, policy, &plan, &history, 9 + count)
 }
 
-#[test]
-fn two_cores_in_threads(rt: HostRuntime) -> Result<(), Fail> {
-    let policy = placed_here(rt.alloc())?;
-    let plan = crowd(rt.alloc(), 3, 2, 0)?;
-    let history = played_apart(&rt, rt.alloc(), &policy, &plan)?;
-    assert_eq!(rt; history.len(), 9);
-    assert!(rt; is_legal(rt.alloc(), &policy, &plan, history.as_slice())?);
-    Ok(())
+/// Two of three cores in threads.
+pub(crate) fn two_cores<R: Threads + Wait + Sync>(rt: &R, alloc: Global) -> Option<Finding> {
+    let Ok(policy) = placed_here(alloc) else {
+        return None;
+    };
+    let Ok(plan) = crowd(alloc, 3, 2, 0) else {
+        return None;
+    };
+    let history = played_apart(rt, alloc, &policy, &plan)?;
+    let well_played = is_whole_and_legal(alloc, &policy, &plan, &history, 9)?;
+    Some(all_hold(&[("the round is whole and legal", well_played)]))
 }
 
-#[test]
-fn four_cores_in_threads(rt: HostRuntime) -> Result<(), Fail> {
-    let here = placed_here(rt.alloc())?;
-    let by_load = placed_by_load(rt.alloc())?;
+/// Four cores in threads, many times, under both policies.
+pub(crate) fn four_cores<R: Threads + Wait + Sync>(rt: &R, alloc: Global) -> Option<Finding> {
+    let Ok(here) = placed_here(alloc) else {
+        return None;
+    };
+    let Ok(by_load) = placed_by_load(alloc) else {
+        return None;
+    };
+    under_both(rt, alloc, &here, &by_load)
+}
+
+/// So often four cores play under each policy.
+const TIMES: u32 = 100;
+
+/// What the first round finds that isn't well played.
+fn under_both<R: Threads + Wait + Sync>(
+    rt: &R,
+    alloc: Global,
+    here: &Policy,
+    by_load: &Policy,
+) -> Option<Finding>
+    requires here { IsTried (meaning_of here.now) }
+    requires by_load { IsTried (meaning_of by_load.now) }
+{
     let mut dice = 2026;
-    for turn in 0..100 {
+    for turn in 0..TIMES {
         dice = rolled(dice);
-        assert!(rt;
-            is_well_played(&rt, rt.alloc(), &here, dice)?,
-            "here at {turn}"
-        );
-        assert!(rt;
-            is_well_played(&rt, rt.alloc(), &by_load, dice)?,
-            "by load at {turn}"
-        );
+        if !is_well_played(rt, alloc, here, dice)? {
+            return Some(Finding::NotIn(
+                "the round that places threads here is whole and legal",
+                turn,
+            ));
+        }
+        if !is_well_played(rt, alloc, by_load, dice)? {
+            return Some(Finding::NotIn(
+                "the round that places threads by load is whole and legal",
+                turn,
+            ));
+        }
     }
-    Ok(())
+    Some(Finding::Expected)
 }

@@ -3,13 +3,14 @@
 ghost use Rattle.std.specs.Prelude.{◌≡◌, ◌<◌, IfOk};
 ghost use Rattle.std.specs.Thread.{IsSync};
 ghost use Rattle.policy_tree.specs.Meaning.{meaning_of};
-ghost use Rattle.core_state.specs.Logs.{LogsOf};
+ghost use Rattle.core_state.specs.Logs.{AreLogsOfOne};
 ghost use Rattle.model_tests.specs.Plans.{two_cores as two_cores_plan};
 ghost use Rattle.model_tests.specs.Policies.{basic};
-ghost use Rattle.runtime_tests.specs.Tables.{HasLogsOf, IsFree, IsOfTwo, IsUnbegun};
+ghost use Rattle.table_players.specs.Tables.{IsFree, IsUnbegun};
+ghost use Rattle.runtime_tests.specs.Tables.{IsOfTwo};
 
-use crate::games::closed;
-use crate::merges::signs;
+use crate::finding::{Finding, all_hold};
+use crate::merges::{has_signs, signs};
 use core_state::Closed;
 use core_table::{Read, Seat, Table, TableFault};
 use history_merge::{HistoryMemory, merge};
@@ -20,8 +21,8 @@ use round_model::Plan;
 use sched_base::{CoreId, MAX_ATTRIBUTES, Pos};
 use std::alloc::Global;
 use std::sync::Wait;
-use std::test::Fail;
 use std::thread::{Threads, join};
+use table_players::games::closed;
 
 /// The table and its opening seat.
 fn opened(alloc: Global, policy: &Policy, plan: &Plan) -> Result<(Table, Seat), TableFault>
@@ -96,7 +97,7 @@ fn touched<R: Wait>(rt: &R, table: &Table, mut seat: Seat, core: CoreId) -> Seat
 
 /// The signs of the entries, back from their logs.
 fn merged(alloc: Global, closed: &Closed) -> Result<Vec<u8>, HistoryMemory>
-    requires { HasLogsOf closed.now }
+    requires { AreLogsOfOne closed.now }
 {
     let history = merge(alloc, closed)?;
     Ok(signs(alloc, history.as_slice())?)
@@ -139,71 +140,126 @@ fn sent<R: Threads + Wait + Sync>(rt: &R, table: Table, seat: Seat) -> (Table, S
     back
 }
 
-#[test]
-fn a_table_begins_its_first_round(rt: HostRuntime) -> Result<(), Fail> {
-    let policy = basic_policy(rt.alloc())?;
-    let plan = two_cores(rt.alloc())?;
-    let (table, mut seat) = opened(rt.alloc(), &policy, &plan)?;
-    assert_eq!(rt; table.cores(), 2);
-    assert_eq!(rt; both_consts(&table), [[0; MAX_ATTRIBUTES]; 2]);
-    let early = look_early(&table, &mut seat, 1);
-    assert!(rt;
-        early
-            == Read {
-                at: 0,
-                nr: 0,
-                load: 0
-            },
-        "before the first round"
-    );
-    assert_eq!(rt; first_round(&rt, &table, &mut seat), 0);
-    let begun = look(&table, &mut seat, 1);
-    assert!(rt;
-        begun
-            == Read {
-                at: 1,
-                nr: 0,
-                load: 0
-            },
-        "from the round's start on"
-    );
-    touch(&rt, &table, &mut seat, 0);
-    assert!(rt;
-        look(&table, &mut seat, 1) == begun,
-        "the other core was published"
-    );
-    assert!(rt;
-        look(&table, &mut seat, 0) == begun,
-        "no entry has touched either"
-    );
-    let text = merged(rt.alloc(), &closed(table, seat))?;
-    assert_eq!(rt; text.as_slice(), b"r1".as_slice());
-    Ok(())
+/// What is seen of a core that no thread has come to, from that position on.
+fn without_threads(at: Pos) -> Read {
+    Read { at, nr: 0, load: 0 }
 }
 
-#[test]
-fn a_seat_and_a_table_go_to_threads(rt: HostRuntime) -> Result<(), Fail> {
-    let policy = basic_policy(rt.alloc())?;
-    let plan = two_cores(rt.alloc())?;
-    let (table, mut seat) = opened(rt.alloc(), &policy, &plan)?;
-    first_round(&rt, &table, &mut seat);
-    let (mut seat, cores) = touched_apart(&rt, &table, seat);
-    assert_eq!(rt; cores, 2);
-    let seen = look(&table, &mut seat, 1);
-    assert!(rt;
-        seen == Read {
-            at: 1,
-            nr: 0,
-            load: 0
-        },
-        "as the thread left it"
-    );
-    let (table, mut seat) = sent(&rt, table, seat);
-    assert!(rt;
-        look(&table, &mut seat, 0) == seen,
-        "nothing touched either core"
-    );
-    let text = merged(rt.alloc(), &closed(table, seat))?;
-    assert_eq!(rt; text.as_slice(), b"r1".as_slice());
-    Ok(())
+/// The opening seat alone, and the first round.
+pub(crate) fn begins_its_first_round<R: Wait>(rt: &R, alloc: Global) -> Option<Finding> {
+    let Ok(policy) = basic_policy(alloc) else {
+        return None;
+    };
+    let Ok(plan) = two_cores(alloc) else {
+        return None;
+    };
+    begun_and_closed(rt, alloc, &policy, &plan)
+}
+
+/// The same at a table of these.
+fn begun_and_closed<R: Wait>(rt: &R, alloc: Global, policy: &Policy, plan: &Plan) -> Option<Finding>
+    requires policy { meaning_of policy.now ≡ basic }
+    requires plan { plan.now ≡ two_cores_plan }
+{
+    let Ok((table, mut seat)) = opened(alloc, policy, plan) else {
+        return None;
+    };
+    let found = begun(rt, &table, &mut seat).and(touched_and_seen(rt, &table, &mut seat));
+    Some(found.and(one_round(alloc, table, seat)?))
+}
+
+/// The round begins.
+fn begun<R: Wait>(rt: &R, table: &Table, seat: &mut Seat) -> Finding
+    requires table { IsOfTwo table.now }
+    requires seat { IsUnbegun table.now seat.old }
+    ensures { IsFree table.now seat.new }
+{
+    let consts = both_consts(table);
+    let early = look_early(table, seat, 1);
+    let first = first_round(rt, table, seat);
+    let begun = look(table, seat, 1);
+    all_hold(&[
+        ("there are two cores", table.cores() == 2),
+        (
+            "they have no attributes",
+            consts == [[0; MAX_ATTRIBUTES]; 2],
+        ),
+        (
+            "nothing is seen before the first round",
+            early == without_threads(0),
+        ),
+        ("the round begins at 0", first == 0),
+        (
+            "a core is seen from the round's start on",
+            begun == without_threads(1),
+        ),
+    ])
+}
+
+/// The round has begun, and a core is taken.
+fn touched_and_seen<R: Wait>(rt: &R, table: &Table, seat: &mut Seat) -> Finding
+    requires table { IsOfTwo table.now }
+    requires seat { IsFree table.now seat.old }
+    ensures { IsFree table.now seat.new }
+{
+    touch(rt, table, seat, 0);
+    let other = look(table, seat, 1);
+    let own = look(table, seat, 0);
+    all_hold(&[
+        (
+            "the other core is seen as it was",
+            other == without_threads(1),
+        ),
+        ("no entry has touched the core", own == without_threads(1)),
+    ])
+}
+
+/// Whether the history is one round without a step.
+fn one_round(alloc: Global, table: Table, seat: Seat) -> Option<Finding>
+    requires { IsFree table seat }
+{
+    let Ok(text) = merged(alloc, &closed(table, seat)) else {
+        return None;
+    };
+    Some(has_signs(&text, b"r1"))
+}
+
+/// The seat goes to a thread, and then the table and the seat.
+pub(crate) fn go_to_threads<R: Threads + Wait + Sync>(rt: &R, alloc: Global) -> Option<Finding> {
+    let Ok(policy) = basic_policy(alloc) else {
+        return None;
+    };
+    let Ok(plan) = two_cores(alloc) else {
+        return None;
+    };
+    apart(rt, alloc, &policy, &plan)
+}
+
+/// The same at a table of these.
+fn apart<R: Threads + Wait + Sync>(
+    rt: &R,
+    alloc: Global,
+    policy: &Policy,
+    plan: &Plan,
+) -> Option<Finding>
+    requires policy { meaning_of policy.now ≡ basic }
+    requires plan { plan.now ≡ two_cores_plan }
+{
+    let Ok((table, mut seat)) = opened(alloc, policy, plan) else {
+        return None;
+    };
+    first_round(rt, &table, &mut seat);
+    let (mut seat, cores) = touched_apart(rt, &table, seat);
+    let back = look(&table, &mut seat, 1);
+    let (table, mut seat) = sent(rt, table, seat);
+    let again = look(&table, &mut seat, 0);
+    let found = all_hold(&[
+        ("the other thread finds two cores", cores == 2),
+        (
+            "a core is seen as the thread left it",
+            back == without_threads(1),
+        ),
+        ("nothing touched either core", again == without_threads(1)),
+    ]);
+    Some(found.and(one_round(alloc, table, seat)?))
 }

@@ -1,22 +1,59 @@
-//! Load words, packed and unpacked.
+//! Load words, packed and unpacked: the table `words.cases`. A line with ` => ` is a case, and every other one a
+//! heading.
 
 use load_words::{LoadWord, pack, unpack};
-use std::test::Fail;
+use sched_base::{MAX_ENTRIES, MAX_LOAD, MAX_THREADS};
+use std::rt::Files;
+use std::{fs, io};
 
-#[test]
-fn words_at_their_edges(rt: HostRuntime) -> Result<(), Fail> {
-    let cases = [
-        ((65_536, 1_023, 1_072_692_225), 72_058_693_548_506_113),
-        ((0, 0, 0), 0),
-        ((65_536, 0, 0), 72_057_594_037_927_936),
-        ((0, 1_023, 0), 1_098_437_885_952),
-        ((0, 0, 1_072_692_225), 1_072_692_225),
-        ((1, 1, 1), 1_100_585_369_601),
-    ];
-    for ((version, nr, load), word) in cases {
-        assert!(rt; version <= 65_536 && nr <= 1_023 && load <= 1_072_692_225);
-        assert_eq!(rt; pack(version, nr, load), word);
-        assert_eq!(rt; unpack(word), LoadWord { version, nr, load });
+/// The number that the word is.
+fn number(word: Option<&str>) -> Option<u64> {
+    word?.parse().ok()
+}
+
+/// What the words say of a core, if they are within the limits.
+fn load_word(words: &str) -> Option<LoadWord> {
+    let mut words = words.split(' ');
+    let said = LoadWord {
+        version: u32::try_from(number(words.next())?).ok()?,
+        nr: u32::try_from(number(words.next())?).ok()?,
+        load: number(words.next())?,
+    };
+    Some(said)
+}
+
+/// Whether the three are packed into that word, and unpacked from it.
+fn is_packed(said: LoadWord, word: u64) -> bool {
+    let LoadWord { version, nr, load } = said;
+    if version > MAX_ENTRIES || nr > MAX_THREADS || load > u64::from(MAX_LOAD) {
+        return false;
     }
-    Ok(())
+    pack(version, nr, load) == word && unpack(word) == said
+}
+
+/// Whether the case is as expected.
+fn is_right(words: &str, word: &str) -> Option<bool> {
+    let said = load_word(words)?;
+    Some(is_packed(said, number(Some(word))?))
+}
+
+/// Plays the table, and prints how many of its cases are as expected, and every other one.
+pub(crate) fn at_their_edges<R: Files + Print + Alloc>(rt: &R) -> io::Result<()> {
+    let table = fs::read_to_string(rt, "words.cases")?;
+    play(rt, table.as_str())
+}
+
+/// The same of that text.
+fn play<R: Print>(rt: &R, table: &str) -> io::Result<()> {
+    let mut right: u64 = 0;
+    for line in table.lines() {
+        if let Some((words, word)) = line.split_once(" => ") {
+            if is_right(words, word) == Some(true) {
+                right = right.saturating_add(1);
+            } else {
+                println!(rt; "{line}: otherwise")?;
+            }
+        }
+    }
+    println!(rt; "words at their edges: {right} cases as expected")
 }

@@ -10,8 +10,9 @@ use Rattle.policy_eval.specs.Obligations.{MeetsObligations}
 use Rattle.round_model.specs.declared.entry.Entry.{Entry}
 use Rattle.round_model.specs.declared.plan.Plan.{Plan}
 use Rattle.round_model.specs.Fits.{Fits}
+use Rattle.round_model.specs.Kinds.{is_fail}
 use Rattle.round_model.specs.Legal.{Whole}
-use Rattle.sched_report.specs.FailRows.{AreFailRows, fail_at, is_fail}
+use Rattle.sched_report.specs.FailRows.{AreFailRows, fail_at}
 use Rattle.sched_report.specs.Reports.{AddsUp, IsPaid, IsReport, totals_of}
 use Rattle.sched_report.specs.Code.Runs.{AreNumbered, AreRuns}
 use Rattle.sched_report.specs.StillRows.{AreStillRows, IsStillRow}

@@ -3,20 +3,10 @@ use Rattle.std.specs.Prelude.{◌≡◌, ℕ, ◌≤◌, Bool, true, false, cond
 use Rattle.std.specs.List.{enumerate_from}
 use Rattle.policy_tree.specs.Meaning.{Meaning}
 use Rattle.round_model.specs.declared.entry.Entry.{Entry}
-use Rattle.round_model.specs.declared.entry.Entry.TheVariants as entry
 use Rattle.round_model.specs.declared.plan.Plan.{Plan}
 use Rattle.round_model.specs.Explains.{Explains}
+use Rattle.round_model.specs.Kinds.{is_fail}
 use Rattle.sched_report.specs.declared.rows.FailRow.{FailRow}
-
--- whether a steal fails in the entry
-abbrev pub is_fail : Entry → Bool
-is_fail (entry.Round number) = false
-is_fail (entry.Enter thread by at reads) = false
-is_fail (entry.Wake thread by at reads) = false
-is_fail (entry.Work by what) = false
-is_fail (entry.Steal by from thread reads) = false
-is_fail (entry.Fail by from reads) = true
-is_fail (entry.Pass by reads) = false
 
 -- the position, where a steal fails there
 abbrev pub fail_at : ℕ × Entry → Option ℕ

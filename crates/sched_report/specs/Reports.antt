@@ -3,9 +3,9 @@ use Rattle.std.specs.Prelude.{◌≡◌, ◌*◌, ◌≤◌, List, All, count_by
 use Rattle.policy_tree.specs.Meaning.{Meaning}
 use Rattle.round_model.specs.declared.entry.Entry.{Entry}
 use Rattle.round_model.specs.declared.plan.Plan.{Plan}
-use Rattle.round_model.specs.Kinds.{is_steal}
+use Rattle.round_model.specs.Kinds.{is_fail, is_steal}
 use Rattle.round_model.specs.Legal.{rounds_begun}
-use Rattle.sched_report.specs.FailRows.{AreFailRows, is_fail}
+use Rattle.sched_report.specs.FailRows.{AreFailRows}
 use Rattle.sched_report.specs.RoundRows.{is_bad, round_rows}
 use Rattle.sched_report.specs.StillRows.{AreStillRows}
 use Rattle.sched_report.specs.declared.rows.FullReport.{FullReport}

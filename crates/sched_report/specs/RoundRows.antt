@@ -30,12 +30,7 @@ round_row plan number m = record { number = number; spread = spread plan m; idle
 -- the row of an entry in that state, where a round begins in it
 abbrev pub row_of : Plan → Cores → Entry → Option RoundRow
 row_of plan m (entry.Round number) = Some (round_row plan number m)
-row_of plan m (entry.Enter thread by at reads) = None
-row_of plan m (entry.Wake thread by at reads) = None
-row_of plan m (entry.Work by what) = None
-row_of plan m (entry.Steal by from thread reads) = None
-row_of plan m (entry.Fail by from reads) = None
-row_of plan m (entry.Pass by reads) = None
+row_of plan m e = None
 
 -- the row of the entry at a position
 abbrev pub row_at : Meaning → Plan → List Entry → ℕ × Entry → Option RoundRow

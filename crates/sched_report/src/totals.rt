@@ -2,8 +2,7 @@
 
 ghost use Rattle.std.specs.Prelude.{◌≡◌, ◌<◌, ◌≤◌, ◌^◌, count_by, length, sum_by};
 ghost use Rattle.sched_base.specs.declared.limits.TheConstants.{MAX_ENTRIES};
-ghost use Rattle.round_model.specs.Kinds.{is_round, is_steal as steals};
-ghost use Rattle.sched_report.specs.FailRows.{is_fail as fails};
+ghost use Rattle.round_model.specs.Kinds.{is_fail as fails, is_round, is_steal as steals};
 ghost use Rattle.sched_report.specs.Reports.{totals_of as totals};
 ghost use Rattle.sched_report.specs.RoundRows.{is_bad as is_bad_round};
 ghost use Rattle.sched_report.specs.declared.rows.RoundRow.{RoundRow};

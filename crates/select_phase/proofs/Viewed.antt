@@ -1,5 +1,5 @@
 -- What was read stays known, and it is what any scene of the view has: so choice and target are the model's there.
-use Rattle.std.proofs.Common.{◌≡◌, ℕ, ◌+◌, ◌<◌, cond, List, [], ◌∷◌, ◌++◌, length, sym, ap, ◌∙◌, subst, arith, slice_index, ne_eqb}
+use Rattle.std.proofs.Common.{◌≡◌, ℕ, ◌+◌, ◌<◌, List, [], ◌∷◌, ◌++◌, length, sym, ap, ◌∙◌, subst, arith, slice_index}
 use Rattle.std.proofs.lemmas.List.{get_or_default}
 use lib.ListN.{get_elem?}
 use Rattle.policy_tree.specs.Meaning.{Meaning, PlaceTree, here, least}
@@ -15,6 +15,7 @@ use Rattle.core_table.specs.declared.views.Note.{Note}
 use Rattle.core_table.specs.declared.views.View.{View}
 use Rattle.core_table.specs.Views.{holding, meaning_in, note_of_core, noted}
 use Rattle.core_table.specs.Told.{IsAsViewed, IsNoteOf}
+use Rattle.core_table.proofs.TwoHeld.{notes_held}
 use Rattle.select_phase.specs.declared.looks.Look.{Look}
 use Rattle.select_phase.specs.Seen.{HasRead, HasReadAll, Looked, Placed, ReadFor, values_read}
 use Rattle.select_phase.proofs.Reading.{behind}
@@ -32,9 +33,6 @@ still_all v w more reads seen plan is all =
     record { one_each = all.one_each ∙ sym cores; each = λ c low. still_read v w more c (slice_index reads c) (seen c) is (all.each c (omega arith)) }
 
 -- once it holds a core, too
-pub notes_held : (c : ℕ) (y : CoreView) (v : View) → c < v.plan.cores → (holding c y v).notes ≡ note_of_core v.start c y ∷ v.notes
-notes_held c y v low = ap (λ b. cond b v.notes (note_of_core v.start c y ∷ v.notes)) (ne_eqb c v.plan.cores (λ e. omega arith))
-
 pub held_all : (c : ℕ) (y : CoreView) (v : View) (reads : List ℕ) (seen : ℕ → CountAndLoad) → c < v.plan.cores → HasReadAll v reads seen → HasReadAll (holding c y v) reads seen
 held_all c y v reads seen low all = still_all v (holding c y v) (note_of_core v.start c y ∷ []) reads seen (λ i. v.plan) (notes_held c y v low) all
 

@@ -11,10 +11,11 @@ use Rattle.core_table.specs.declared.views.Role.{Role}
 use Rattle.core_table.specs.declared.views.Role.TheVariants as role
 use Rattle.core_table.specs.declared.views.View.{View}
 use Rattle.core_table.specs.Plays.{Draws}
+use Rattle.core_table.specs.Pairs.{holding_two, stacked}
 use Rattle.core_table.specs.Public.{publishing}
 use Rattle.core_table.specs.Told.{IsSeatOf}
 use Rattle.core_table.specs.Views.{drawing, giving, held_grown, holding, is_without_due, meaning_in, note_of_core, published, remembering}
-use Rattle.select_phase.proofs.Viewed.{notes_held}
+use Rattle.core_table.proofs.TwoHeld.{notes_held, stacked_over}
 use Rattle.steal_phase.specs.Attempts.{HasAdded}
 
 module _ (v : View) (a at : ℕ) (e : Entry) (of_core : IsSeatOf v a) where
@@ -56,13 +57,14 @@ module _ (v : View) (a at : ℕ) (e : Entry) (of_core : IsSeatOf v a) where
       (ap (λ (t : View). t.held) whole ∙ ap (λ (held : List HeldCore). map (published v.plan.cores c) (map (held_grown v.round at e m (holding b y v)) held)) free)
 
   -- so were two
-  pub added_two : (low high : ℕ) (y z : CoreView) (b c : ℕ) (y_now z_now : CoreView) → low < v.plan.cores → high < v.plan.cores → (w u x now : View) → w ≡ holding high z (holding low y v) → Draws e w at u
-      → x ≡ publishing c z_now (publishing b y_now u) → now ≡ giving (giving x) → now.held ≡ [] → HasAdded a at e v now
-  added_two low high y z b c y_now z_now inside above w u x now is drawn shown given free =
+  pub added_two : (b : ℕ) (y : CoreView) (c : ℕ) (z : CoreView) (k : ℕ) (y_now : CoreView) (l : ℕ) (z_now : CoreView) → (w u x now : View) → w ≡ holding_two b y c z v → Draws e w at u
+      → x ≡ publishing l z_now (publishing k y_now u) → now ≡ giving (giving x) → now.held ≡ [] → HasAdded a at e v now
+  added_two b y c z k y_now l z_now w u x now is drawn shown given free =
       let d = subst (λ (t : View). Draws e t at u) is drawn in let m = after (meaning_in v) v.plan d.history in
-      let last : View = publishing c z_now (publishing b y_now (drawing at e m (holding high z (holding low y v)))) in
-      let whole : now ≡ giving (giving last) = given ∙ ap (λ (t : View). giving (giving t)) (shown ∙ ap (λ (t : View). publishing c z_now (publishing b y_now t)) d.view) in
-      settled now (giving (giving last)).role last.notes (note_of_core v.start c z_now ∷ note_of_core v.start b y_now ∷ note_of_core v.start high z ∷ note_of_core v.start low y ∷ []) (giving (giving last)).held whole
+      let last : View = publishing l z_now (publishing k y_now (drawing at e m (holding_two b y c z v))) in
+      let whole : now ≡ giving (giving last) = given ∙ ap (λ (t : View). giving (giving t)) (shown ∙ ap (λ (t : View). publishing l z_now (publishing k y_now t)) d.view) in
+      let first : Note = note_of_core v.start b y in let second : Note = note_of_core v.start c z in let first_now : Note = note_of_core v.start k y_now in let second_now : Note = note_of_core v.start l z_now in
+      settled now (giving (giving last)).role last.notes (second_now ∷ first_now ∷ stacked b c first second []) (giving (giving last)).held whole
       (given_back v.round (giving last).held (giving last).role (given_back v.round last.held v.role as_before))
-      (ap (λ (l : List Note). note_of_core v.start c z_now ∷ note_of_core v.start b y_now ∷ l) (notes_held high z (holding low y v) above ∙ ap (λ (l : List Note). note_of_core v.start high z ∷ l) (notes_held low y v inside)))
+      (ap (λ (notes : List Note). second_now ∷ first_now ∷ notes) (stacked_over b c first second v.notes))
       free

@@ -1,8 +1,6 @@
 -- The entry of an attempt is legal by what the seat has read, and what its draw tells.
-use Rattle.std.proofs.Common.{◌≡◌, ◌≢◌, ℕ, ◌+◌, ◌<◌, max, min, IfSome, true, List, [], ◌∷◌, ◌++◌, length, Option, Some, None, refl, sym, ap, ◌∙◌, subst, arith}
+use Rattle.std.proofs.Common.{◌≡◌, ◌≢◌, ℕ, ◌+◌, ◌<◌, IfSome, true, List, [], ◌∷◌, ◌++◌, length, Option, Some, None, sym, ap, ◌∙◌, subst}
 use Rattle.std.specs.Prelude.{IsFalse}
-use mathlib.Core.Logic.{dite}
-use native.Mathlib.Decide.{dec_lt}
 use mathlib.Core.Option.{some, some-ne-none}
 use lib.ListN.{get_elem?}
 use Rattle.policy_tree.specs.Meaning.{Meaning}
@@ -22,15 +20,16 @@ use Rattle.core_table.specs.declared.views.View.{View}
 use Rattle.core_table.specs.Views.{holding, meaning_in, note_of_core, taken}
 use Rattle.core_table.specs.Told.{Agrees, IsAsViewed, IsLocalIn}
 use Rattle.core_table.specs.Plays.{Draws}
-use Rattle.core_table.specs.Public.{HasMovedTwo}
+use Rattle.core_table.specs.Pairs.{HasMovedTwo, holding_two, stacked}
+use Rattle.core_table.proofs.TwoHeld.{first_place, held_either, notes_held, second_place, stacked_over}
 use Rattle.core_table.proofs.Positions.{above}
 use Rattle.select_phase.specs.declared.looks.Look.{Look}
 use Rattle.select_phase.specs.Seen.{Looked}
 use Rattle.select_phase.proofs.Reading.{behind}
-use Rattle.select_phase.proofs.Viewed.{choice_is, looked_held, notes_held, reads_fit}
-use Rattle.steal_phase.specs.Attempts.{IsDrawn, MayAttempt, own_entries_in}
-use Rattle.steal_phase.specs.Taking.{Takes, best_to_steal}
-use Rattle.steal_phase.proofs.Moving.{attempt_is, moved_down, moved_up}
+use Rattle.select_phase.proofs.Viewed.{choice_is, looked_held, reads_fit}
+use Rattle.steal_phase.specs.Attempts.{IsDrawn, IsNext, MayAttempt, own_entries_in}
+use Rattle.steal_phase.specs.Taking.{Steals, best_to_steal}
+use Rattle.steal_phase.proofs.Moving.{attempt_is, moved_both}
 
 -- in a scene that has what the view has, the attempt by the look is the model's
 legal_by : (w : View) (look : Look) (s : Scene) (e : Entry) → Looked w look → has_worked (own_entries_in w) ≡ true → IsFalse (has_attempted (own_entries_in w)) → IsAsViewed w s
@@ -62,48 +61,56 @@ agrees_before v h notes more held free is ag = record {
   held = λ i x there. absurd (some-ne-none x (sym there ∙ ap (λ (l : List HeldCore). get_elem? l i) free));
 }
 
+-- nor did it before it held one, or two
+module _ (v : View) (free : v.held ≡ []) where
+  pub agrees_one : (a : ℕ) (y : CoreView) → a < v.plan.cores → (h : List Entry) → Agrees (holding a y v) h → Agrees v h
+  agrees_one a y inside h ag = agrees_before v h (holding a y v).notes (note_of_core v.start a y ∷ []) (holding a y v).held free (notes_held a y v inside) ag
+
+  pub agrees_two : (a : ℕ) (y : CoreView) (b : ℕ) (z : CoreView) (h : List Entry) → Agrees (holding_two a y b z v) h → Agrees v h
+  agrees_two a y b z h ag =
+      let first : Note = note_of_core v.start a y in let second : Note = note_of_core v.start b z in
+      agrees_before v h (holding_two a y b z v).notes (stacked a b first second []) (holding_two a y b z v).held free (stacked_over a b first second v.notes) ag
+
+-- what was drawn is next, by a history with which the view agreed
+pub next_by : (v w u : View) (at : ℕ) (e : Entry) (d : Draws e w at u) → (let A : Type 0 = Meaning × Plan in let x : A = (meaning_in w, w.plan) in let y : A = (meaning_in v, v.plan) in x ≡ y) → Agrees v d.history
+    → IsNext at e v
+next_by v w u at e d same ag =
+    let plan : w.plan ≡ v.plan = ap (λ (x : Meaning × Plan). x.1) same in
+    record {
+      history = d.history;
+      agrees = ag;
+      position = d.at;
+      legal = subst (λ (x : Meaning × Plan). Legal x.0 x.1 (d.history ++ e ∷ [])) (ap (λ (x : View). (meaning_in x, x.plan)) d.view ∙ same) d.now.legal;
+      above = above v d.history at ag d.at (subst (λ (x : Plan). at < x.limit) plan d.below);
+    }
+
 module _ (v : View) (look : Look) (e : Entry) (may : MayAttempt v look) where
-  -- one core is held
-  module _ (a : ℕ) (y : CoreView) (low : a < v.plan.cores) where
-    agrees_one : (h : List Entry) → Agrees (holding a y v) h → Agrees v h
-    agrees_one h ag = agrees_before v h (holding a y v).notes (note_of_core v.start a y ∷ []) (holding a y v).held may.free (notes_held a y v low) ag
-
-  -- two are
-  module _ (a b : ℕ) (y z : CoreView) (low : a < v.plan.cores) (high : b < v.plan.cores) where
-    agrees_two : (h : List Entry) → Agrees (holding b z (holding a y v)) h → Agrees v h
-    agrees_two h ag =
-        agrees_before v h (holding b z (holding a y v)).notes (note_of_core v.start b z ∷ note_of_core v.start a y ∷ []) (holding b z (holding a y v)).held may.free
-        (notes_held b z (holding a y v) high ∙ ap (λ (l : List Note). note_of_core v.start b z ∷ l) (notes_held a y v low)) ag
-
-    looked_two : Looked (holding b z (holding a y v)) look
-    looked_two = looked_held b z (holding a y v) look high (looked_held a y v look low may.looked)
+  looked_two : (a b : ℕ) (y z : CoreView) → a ≢ b → a < v.plan.cores → b < v.plan.cores → Looked (holding_two a y b z v) look
+  looked_two a b y z apart inside above =
+      held_either v a b y z inside above apart (λ w. Looked w look)
+      (looked_held b z (holding a y v) look above (looked_held a y v look inside may.looked))
+      (looked_held a y (holding b z v) look inside (looked_held b z v look above may.looked))
 
   -- what is drawn, by the view just before
   drawn_by : (w u : View) (at : ℕ) (d : Draws e w at u) → (let A : Type 0 = Meaning × Plan in let x : A = (meaning_in w, w.plan) in let y : A = (meaning_in v, v.plan) in x ≡ y) → Agrees v d.history
-      → e ≡ attempt_with (meaning_in v) v.plan (after (meaning_in v) v.plan d.history) look.by look.reads look.choice → at < v.plan.limit → IsDrawn look at e v
-  drawn_by w u at d same ag is below = record {
-    history = d.history;
-    agrees = ag;
-    position = d.at;
-    legal = subst (λ (x : Meaning × Plan). Legal x.0 x.1 (d.history ++ e ∷ [])) (ap (λ (x : View). (meaning_in x, x.plan)) d.view ∙ same) d.now.legal;
-    attempt = is;
-    above = above v d.history at ag d.at below;
-  }
+      → e ≡ attempt_with (meaning_in v) v.plan (after (meaning_in v) v.plan d.history) look.by look.reads look.choice → IsDrawn look at e v
+  unfolding next_by
+  drawn_by w u at d same ag is = record { next = next_by v w u at e d same ag; attempt = is }
 
 -- an attempt without a choice is legal
 pub pass_local : (v : View) (look : Look) (y : CoreView) → MayAttempt v look → look.choice ≡ None → IsLocalIn (holding look.by y v) (entry.Pass look.by look.reads)
 unfolding Row
 pass_local v look y may none s viewed =
     let w : View = holding look.by y v in
-    legal_by w look s (entry.Pass look.by look.reads) (looked_held look.by y v look may.looked.core may.looked) may.worked may.first viewed
+    legal_by w look s (entry.Pass look.by look.reads) (looked_held look.by y v look may.looked.core may.looked) may.ready.worked may.ready.first viewed
     (sym (ap (attempt_with (meaning_in w) w.plan s.cores look.by look.reads) none))
 
 pub pass_drawn : (v : View) (look : Look) (y : CoreView) (w u : View) (at : ℕ) → MayAttempt v look → look.choice ≡ None → w ≡ holding look.by y v → Draws (entry.Pass look.by look.reads) w at u
     → IsDrawn look at (entry.Pass look.by look.reads) v
 pass_drawn v look y w u at may none is drawn =
     let e : Entry = entry.Pass look.by look.reads in let d = subst (λ (x : View). Draws e x at u) is drawn in
-    drawn_by v look e may (holding look.by y v) u at d (λ i. (meaning_in v, v.plan)) (agrees_one v look e may look.by y may.looked.core d.history d.before)
-    (sym (ap (attempt_with (meaning_in v) v.plan (after (meaning_in v) v.plan d.history) look.by look.reads) none)) d.below
+    drawn_by v look e may (holding look.by y v) u at d (λ i. (meaning_in v, v.plan)) (agrees_one v may.ready.free look.by y may.looked.core d.history d.before)
+    (sym (ap (attempt_with (meaning_in v) v.plan (after (meaning_in v) v.plan d.history) look.by look.reads) none))
 
 -- thief and victim are held, and the thread is the best that may be taken
 module _ (w : View) (look : Look) (from : ℕ) (y z : CoreView) (i j : ℕ) (thief : get_elem? w.held i ≡ some (taken w.plan.cores look.by y)) (victim : get_elem? w.held j ≡ some (taken w.plan.cores from z))
@@ -123,18 +130,11 @@ module _ (w : View) (look : Look) (from : ℕ) (y z : CoreView) (i j : ℕ) (thi
       ∙ sym (ap (attempt_with (meaning_in w) w.plan m look.by look.reads) chosen)
 
 -- what holds once the two cores are held and the thread went over
-pub record Contested (v : View) (look : Look) (from low high : ℕ) (y z y_now z_now : CoreView) (thread : Option ℕ) : Type 0 where
-  pub moved : HasMovedTwo (entry_with look.by from look.reads thread) (holding high z (holding low y v)) low y_now high z_now
-  pub legal : IsLocalIn (holding high z (holding low y v)) (entry_with look.by from look.reads thread)
-  pub attempt : (h : List Entry) → Agrees (holding high z (holding low y v)) h
+pub record Contested (v : View) (look : Look) (from : ℕ) (y z y_now z_now : CoreView) (thread : Option ℕ) : Type 0 where
+  pub moved : HasMovedTwo (entry_with look.by from look.reads thread) (holding_two look.by y from z v) look.by y_now from z_now
+  pub legal : IsLocalIn (holding_two look.by y from z v) (entry_with look.by from look.reads thread)
+  pub attempt : (h : List Entry) → Agrees (holding_two look.by y from z v) h
       → entry_with look.by from look.reads thread ≡ attempt_with (meaning_in v) v.plan (after (meaning_in v) v.plan h) look.by look.reads look.choice
-  pub inside : (low < v.plan.cores) × (high < v.plan.cores)
-
--- how the thread went over, by which of the two is the thief
-abbrev pub Exchanged : Meaning → Plan → (by low high : ℕ) → (y z y_now z_now : CoreView) → Option ℕ → Type 0
-Exchanged p plan by low high y z y_now z_now thread =
-    (by ≡ low → (thread ≡ best_to_steal p plan low y.core high z.core) × Takes thread y z y_now z_now)
-    × (by ≡ high → (thread ≡ best_to_steal p plan high z.core low y.core) × Takes thread z y z_now y_now)
 
 -- the core that was chosen is another one
 pub victim_there : (v : View) (look : Look) (from : ℕ) → Looked v look → look.choice ≡ Some from → (from < v.plan.cores) × (from ≢ look.by)
@@ -144,46 +144,26 @@ module _ (v : View) (look : Look) (from : ℕ) (may : MayAttempt v look) (chosen
   other : (from < v.plan.cores) × (from ≢ look.by)
   other = victim_there v look from may.looked chosen
 
-  contested_up : look.by < from → (thread ≡ best_to_steal (meaning_in v) v.plan look.by y.core from z.core) × Takes thread y z y_now z_now → Contested v look from look.by from y z y_now z_now thread
-  contested_up order took =
-      let w : View = holding from z (holding look.by y v) in let e : Entry = entry_with look.by from look.reads thread in
+  contested : thread ≡ best_to_steal (meaning_in v) v.plan look.by y.core from z.core → Steals thread y z y_now z_now → Contested v look from y z y_now z_now thread
+  contested best takes =
+      let w : View = holding_two look.by y from z v in let e : Entry = entry_with look.by from look.reads thread in
+      let thief : HeldCore = taken v.plan.cores look.by y in let victim : HeldCore = taken v.plan.cores from z in
+      let here = first_place look.by from thief victim v.held in let there = second_place look.by from thief victim v.held in
+      let apart : look.by ≢ from = λ same. other.1 (sym same) in
       record {
-        moved = moved_up v look.by from y z y_now z_now (λ same. other.1 (sym same)) may.free look.reads thread took.1 order other.0;
-        legal = contest_local w look from y z 1 0 refl refl thread took.0 chosen (looked_two v look e may look.by from y z may.looked.core other.0) may.worked may.first;
-        attempt = contest_is w look from y z 1 0 refl refl thread took.0 chosen;
-        inside = (may.looked.core, other.0);
+        moved = moved_both v look.by from y z y_now z_now apart may.ready.free look.reads thread takes may.looked.core other.0;
+        legal = contest_local w look from y z here.0 there.0 here.1 there.1 thread best chosen (looked_two v look e may look.by from y z apart may.looked.core other.0) may.ready.worked may.ready.first;
+        attempt = contest_is w look from y z here.0 there.0 here.1 there.1 thread best chosen;
       }
 
-  contested_down : from < look.by → (thread ≡ best_to_steal (meaning_in v) v.plan look.by z.core from y.core) × Takes thread z y z_now y_now → Contested v look from from look.by y z y_now z_now thread
-  contested_down order took =
-      let w : View = holding look.by z (holding from y v) in let e : Entry = entry_with look.by from look.reads thread in
-      record {
-        moved = moved_down v look.by from z y z_now y_now (λ same. other.1 (sym same)) may.free look.reads thread took.1 order may.looked.core;
-        legal = contest_local w look from z y 0 1 refl refl thread took.0 chosen (looked_two v look e may from look.by y z other.0 may.looked.core) may.worked may.first;
-        attempt = contest_is w look from z y 0 1 refl refl thread took.0 chosen;
-        inside = (other.0, may.looked.core);
-      }
+  pub contested_by : (p : Meaning) (plan : Plan) (a b : ℕ) → p ≡ meaning_in v → plan ≡ v.plan → a ≡ look.by → b ≡ from → thread ≡ best_to_steal p plan a y.core b z.core → Steals thread y z y_now z_now
+      → Contested v look from y z y_now z_now thread
+  contested_by p plan a b is_p is_plan first second best takes =
+      contested (subst (λ (x : Meaning × Plan × ℕ × ℕ). thread ≡ best_to_steal x.0 x.1 x.2 y.core x.3 z.core) (λ i. (is_p i, is_plan i, first i, second i)) best) takes
 
-  contested : Exchanged (meaning_in v) v.plan look.by (min look.by from) (max look.by from) y z y_now z_now thread → Contested v look from (min look.by from) (max look.by from) y z y_now z_now thread
-  contested took = dite (dec_lt look.by from)
-      (λ order. let low : min look.by from ≡ look.by = omega arith in let high : max look.by from ≡ from = omega arith in
-      subst (λ (x : ℕ × ℕ). Contested v look from x.0 x.1 y z y_now z_now thread) (λ i. (sym low i, sym high i))
-      (contested_up order ((subst (λ (x : ℕ × ℕ). Exchanged (meaning_in v) v.plan look.by x.0 x.1 y z y_now z_now thread) (λ i. (low i, high i)) took).0 refl)))
-      (λ order. let apart = other.1 in let down : from < look.by = below look.by from order apart in let low : min look.by from ≡ from = omega arith in let high : max look.by from ≡ look.by = omega arith in
-      subst (λ (x : ℕ × ℕ). Contested v look from x.0 x.1 y z y_now z_now thread) (λ i. (sym low i, sym high i))
-      (contested_down down ((subst (λ (x : ℕ × ℕ). Exchanged (meaning_in v) v.plan look.by x.0 x.1 y z y_now z_now thread) (λ i. (low i, high i)) took).1 refl)))
-    where
-      below : (a b : ℕ) → (a < b → ⊥) → b ≢ a → b < a
-      below a b most apart = omega arith
-
-  pub contested_by : (p : Meaning) (plan : Plan) (low high : ℕ) → p ≡ meaning_in v → plan ≡ v.plan → low ≡ min look.by from → high ≡ max look.by from → Exchanged p plan look.by low high y z y_now z_now thread
-      → Contested v look from (min look.by from) (max look.by from) y z y_now z_now thread
-  contested_by p plan low high is_p is_plan is_low is_high took =
-      contested (subst (λ (x : Meaning × Plan × ℕ × ℕ). Exchanged x.0 x.1 look.by x.2 x.3 y z y_now z_now thread) (λ i. (is_p i, is_plan i, is_low i, is_high i)) took)
-
-  pub contest_drawn : (low high : ℕ) (w u : View) (at : ℕ) → Contested v look from low high y z y_now z_now thread → w ≡ holding high z (holding low y v)
+  pub contest_drawn : (w u : View) (at : ℕ) → Contested v look from y z y_now z_now thread → w ≡ holding_two look.by y from z v
       → Draws (entry_with look.by from look.reads thread) w at u → IsDrawn look at (entry_with look.by from look.reads thread) v
-  contest_drawn low high w u at contest is drawn =
+  contest_drawn w u at contest is drawn =
       let e : Entry = entry_with look.by from look.reads thread in let d = subst (λ (x : View). Draws e x at u) is drawn in
-      drawn_by v look e may (holding high z (holding low y v)) u at d (λ i. (meaning_in v, v.plan))
-      (agrees_two v look e may low high y z contest.inside.0 contest.inside.1 d.history d.before) (contest.attempt d.history d.before) d.below
+      drawn_by v look e may (holding_two look.by y from z v) u at d (λ i. (meaning_in v, v.plan))
+      (agrees_two v may.ready.free look.by y from z d.history d.before) (contest.attempt d.history d.before)

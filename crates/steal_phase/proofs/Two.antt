@@ -13,6 +13,7 @@ use Rattle.round_model.specs.declared.plan.Plan.{Plan}
 use Rattle.round_model.specs.declared.state.ModelCore.{ModelCore}
 use Rattle.round_model.specs.Bounds.{CoreInBounds, standing_count}
 use Rattle.round_model.specs.BoundsLaws.{IsBounded}
+use Rattle.round_model.specs.Choices.{may_steal}
 use Rattle.round_model.specs.Cores.{seen_of}
 use Rattle.round_model.specs.Moves.{is_task, queued_of}
 use Rattle.round_model.specs.Reads.{values_of}
@@ -23,10 +24,13 @@ use Rattle.core_state.specs.Views.{CoreView}
 use Rattle.core_state.proofs.Taking.{best_pair, best_there}
 use Rattle.run_queue.specs.Tasks.{IsSeenTask, others_of}
 use Rattle.policy_eval.specs.Orders.{best_and_rest}
+use Rattle.core_table.specs.declared.views.HeldCore.{HeldCore}
 use Rattle.core_table.specs.declared.views.View.{View}
-use Rattle.core_table.specs.Views.{holding, meaning_in, taken}
+use Rattle.core_table.specs.Pairs.{holding_two}
+use Rattle.core_table.specs.Views.{meaning_in, taken}
 use Rattle.core_table.specs.Told.{IsCoreNow, IsKnown}
-use Rattle.steal_phase.specs.Taking.{AreTwo, best_to_steal, may_steal}
+use Rattle.core_table.proofs.TwoHeld.{first_place, second_place}
+use Rattle.steal_phase.specs.Taking.{AreTwo, best_to_steal}
 
 -- what stands in a list is found by a test that it passes
 there_found : {X : Type 0} (test : X → Bool) (xs : List X) (x : X) (at : ℕ) → at < length xs → get_or xs at x ≡ x → test x ≡ true → IsSome (find test xs)
@@ -46,7 +50,7 @@ best_queued first queue thread is = by_best (best_of first queue) refl is
         there_found (is_task thread) queue t there.0 there.1 there.2 (grind (arith, nat_tests))
 
 pub stolen_queued : (p : Meaning) (plan : Plan) (a : ℕ) (x : ModelCore) (b : ℕ) (y : ModelCore) (thread : ℕ) → best_to_steal p plan a x b y ≡ Some thread → IsSome (queued_of thread y)
-stolen_queued p plan a x b y thread is = by_filter (may_steal p plan a x b y) is
+stolen_queued p plan a x b y thread is = by_filter (may_steal p (values_of plan a (seen_of x)) (values_of plan b (seen_of y))) is
   where
     by_filter : (may : Bool) → cond may (option_map (λ (t : Task). t.id) (best_of (before p.steal) y.queue)) None ≡ Some thread → IsSome (queued_of thread y)
     by_filter true e = best_queued (before p.steal) y.queue thread e
@@ -92,17 +96,19 @@ module _ (p : Meaning) (plan : Plan) (a : ℕ) (y : CoreView) (b : ℕ) (z : Cor
   task_seen thread t is = thread_wide p two.fits.policy t (queued_fits p thread t z.core (bounds_hold p z.core (in_bounds b z two.second two.second_now)) is)
 
 -- two cores that a seat holds are such
-pub two_held : (v : View) (q : Meaning) (plan : Plan) (b c low high : ℕ) (y z : CoreView) → meaning_in v ≡ q → v.plan ≡ plan → low ≡ b → high ≡ c → b ≢ c → b < v.plan.cores → c < v.plan.cores
-    → IsKnown (holding c z (holding b y v)) → AreTwo q plan low y high z
-two_held v q plan b c low high y z is_q is_plan is_low is_high apart below above known =
-    subst (λ (x : Meaning × Plan × ℕ × ℕ). AreTwo x.0 x.1 x.2 y x.3 z) (λ i. (is_q i, is_plan i, sym is_low i, sym is_high i)) (record {
+pub two_held : (v : View) (q : Meaning) (plan : Plan) (b c first second : ℕ) (y z : CoreView) → meaning_in v ≡ q → v.plan ≡ plan → first ≡ b → second ≡ c → b ≢ c → b < v.plan.cores → c < v.plan.cores
+    → IsKnown (holding_two b y c z v) → AreTwo q plan first y second z
+two_held v q plan b c first second y z is_q is_plan is_first is_second apart inside above known =
+    let one : HeldCore = taken v.plan.cores b y in let other : HeldCore = taken v.plan.cores c z in
+    let here = first_place b c one other v.held in let there = second_place b c one other v.held in
+    subst (λ (x : Meaning × Plan × ℕ × ℕ). AreTwo x.0 x.1 x.2 y x.3 z) (λ i. (is_q i, is_plan i, sym is_first i, sym is_second i)) (record {
       history = known.0;
       fits = known.1.fits;
       handlers = known.1.handlers;
       legal = known.1.legal;
       apart = apart;
-      first = below;
+      first = inside;
       second = above;
-      first_now = (known.1.held 1 (taken v.plan.cores b y) refl).now;
-      second_now = (known.1.held 0 (taken v.plan.cores c z) refl).now;
+      first_now = (known.1.held here.0 one here.1).now;
+      second_now = (known.1.held there.0 other there.1).now;
     })

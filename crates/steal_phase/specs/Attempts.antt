@@ -2,13 +2,12 @@
 use Rattle.std.specs.Prelude.{◌≡◌, ◌↔◌, ℕ, ◌⊎◌, true, List, [], ◌∷◌, ◌++◌, map, length, IsTrue, IsFalse, IsSomeAnd}
 use Rattle.std.specs.Prelude.{Option, Some, None}
 use Rattle.policy_tree.specs.Meaning.{Meaning}
-use Rattle.policy_eval.specs.Sights.{pair_values}
-use Rattle.policy_eval.specs.Values.{holds}
 use Rattle.round_model.specs.declared.entry.Entry.{Entry}
 use Rattle.round_model.specs.declared.entry.Entry.TheVariants as entry
 use Rattle.round_model.specs.declared.plan.Plan.{Plan}
 use Rattle.round_model.specs.After.{after}
 use Rattle.round_model.specs.Attempts.{attempt_with, present_values}
+use Rattle.round_model.specs.Choices.{may_steal}
 use Rattle.round_model.specs.Cores.{Cores}
 use Rattle.round_model.specs.Legal.{Legal}
 use Rattle.round_model.specs.Scenes.{has_attempted, has_worked}
@@ -29,13 +28,16 @@ use Rattle.steal_phase.specs.declared.outcome.Outcome.TheVariants as outcome
 abbrev pub own_entries_in : View → List Entry
 own_entries_in v = map (λ (l : Logged). l.entry) v.own
 
--- by this look the core may make its attempt: it has run its unit, has made no attempt in the round, and holds nothing.
--- The look is the last thing that it read
-pub record MayAttempt (v : View) (look : Look) : Type 0 where
-  pub of_core : IsSeatOf v look.by
+-- the core may look at all cores: it has run its unit, has made no attempt in the round, and holds nothing
+pub record MayLook (v : View) (core : ℕ) : Type 0 where
+  pub of_core : IsSeatOf v core
   pub worked : IsTrue (has_worked (own_entries_in v))
   pub first : IsFalse (has_attempted (own_entries_in v))
   pub free : v.held ≡ []
+
+-- by this look the core may make its attempt: it may still look, and the look is the last thing that it read
+pub record MayAttempt (v : View) (look : Look) : Type 0 where
+  pub ready : MayLook v look.by
   pub looked : Looked v look
   pub last : AreLast v look.reads
 
@@ -65,21 +67,24 @@ pub record HasAdded (core at : ℕ) (e : Entry) (before now : View) : Type 0 whe
   pub notes : now.notes ≡ more ++ before.notes
   pub rest : now ≡ record before { role = now.role; own = now.own; notes = now.notes; held = now.held }
 
--- the entry stands at that position. It is legal behind the history before it, with which the view agreed, and it is
--- the model's attempt by the look, on the cores that this history leaves
-pub record IsDrawn (look : Look) (at : ℕ) (e : Entry) (v : View) : Type 0 where
+-- the entry stands at that position. It is legal behind the history before it, with which the view agreed
+pub record IsNext (at : ℕ) (e : Entry) (v : View) : Type 0 where
   pub history : List Entry
   pub agrees : Agrees v history
   pub position : length history ≡ at
   pub legal : Legal (meaning_in v) v.plan (history ++ e ∷ [])
-  pub attempt : e ≡ attempt_with (meaning_in v) v.plan (after (meaning_in v) v.plan history)
-      look.by look.reads look.choice
   pub above : IsAbove v at
+
+-- it is the model's attempt by the look, on the cores that the history before it leaves
+pub record IsDrawn (look : Look) (at : ℕ) (e : Entry) (v : View) : Type 0 where
+  pub next : IsNext at e v
+  pub attempt : e ≡ attempt_with (meaning_in v) v.plan (after (meaning_in v) v.plan next.history)
+      look.by look.reads look.choice
 
 -- nothing can be taken of the core v: the filter doesn't hold of both as they are, or nothing is queued there
 abbrev pub TakesNothing : Meaning → Plan → Cores → (a v : ℕ) → Type 0
 TakesNothing p plan m a v =
-    IsFalse (holds (pair_values (present_values plan m a) (present_values plan m v)) p.filter) ⊎ ((m v).queue ≡ [])
+    IsFalse (may_steal p (present_values plan m a) (present_values plan m v)) ⊎ ((m v).queue ≡ [])
 
 abbrev pub IsPassed : Outcome → Type 0
 IsPassed (outcome.Stole at thread) = ⊥
@@ -97,4 +102,4 @@ pub record Attempted (look : Look) (outcome : Outcome) (v : View) : Type 0 where
   pub drawn : IsDrawn look (position_of outcome) (entry_of look outcome) v
   pub passed : IsPassed outcome ↔ (look.choice ≡ None)
   pub failed : IsFailed outcome
-      ↔ IsSomeAnd look.choice (TakesNothing (meaning_in v) v.plan (after (meaning_in v) v.plan drawn.history) look.by)
+      ↔ IsSomeAnd look.choice (TakesNothing (meaning_in v) v.plan (after (meaning_in v) v.plan drawn.next.history) look.by)

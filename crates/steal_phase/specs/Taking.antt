@@ -1,14 +1,13 @@
 -- A thread that goes over from one held core to another.
-use Rattle.std.specs.Prelude.{◌≡◌, ◌≢◌, ℕ, ◌<◌, Bool, cond, List, option_map, Option, Some, None}
+use Rattle.std.specs.Prelude.{◌≡◌, ◌≢◌, ℕ, ◌<◌, cond, List, option_map, Option, Some, None}
 use Rattle.sched_base.specs.declared.task.Task.{Task}
 use Rattle.policy_tree.specs.Meaning.{Meaning}
 use Rattle.policy_eval.specs.Obligations.{MeetsHandlerObligations}
 use Rattle.policy_eval.specs.Orders.{best_of}
-use Rattle.policy_eval.specs.Sights.{pair_values}
-use Rattle.policy_eval.specs.Values.{holds}
 use Rattle.round_model.specs.declared.entry.Entry.{Entry}
 use Rattle.round_model.specs.declared.plan.Plan.{Plan}
 use Rattle.round_model.specs.declared.state.ModelCore.{ModelCore}
+use Rattle.round_model.specs.Choices.{may_steal}
 use Rattle.round_model.specs.Cores.{seen_of}
 use Rattle.round_model.specs.Fits.{Fits}
 use Rattle.round_model.specs.Legal.{Legal}
@@ -30,23 +29,20 @@ pub record AreTwo (p : Meaning) (plan : Plan) (a : ℕ) (y : CoreView) (b : ℕ)
   pub first_now : IsCoreNow p plan history a y
   pub second_now : IsCoreNow p plan history b z
 
--- whether the core a may steal from the core b, where these are the two
-abbrev pub may_steal : Meaning → Plan → (a : ℕ) → ModelCore → (b : ℕ) → ModelCore → Bool
-may_steal p plan a x b y = holds (pair_values (values_of plan a (seen_of x)) (values_of plan b (seen_of y))) p.filter
-
--- the thread that it takes: the best of the queue, where it may
+-- the thread that the core a takes of the core b, where these are the two: the best of the queue, where it may steal
 abbrev pub best_to_steal : Meaning → Plan → (a : ℕ) → ModelCore → (b : ℕ) → ModelCore → Option ℕ
 best_to_steal p plan a x b y =
-    cond (may_steal p plan a x b y) (option_map (λ (t : Task). t.id) (best_of (before p.steal) y.queue)) None
+    cond (may_steal p (values_of plan a (seen_of x)) (values_of plan b (seen_of y)))
+    (option_map (λ (t : Task). t.id) (best_of (before p.steal) y.queue)) None
 
 -- the queued thread of that number is in the one queue no more, and at the end of the other
-pub record TakesOne (thread : ℕ) (thief victim thief_now victim_now : CoreView) : Type 0 where
+pub record StealsOne (thread : ℕ) (thief victim thief_now victim_now : CoreView) : Type 0 where
   pub task : Task
   pub queued : queued_of thread victim.core ≡ Some task
   pub gained : thief_now ≡ record thief { core = received task thief.core }
   pub lost : victim_now ≡ record victim { core = handed thread victim.core }
 
 -- the thread goes over, or, where there is none, both stay
-abbrev pub Takes : Option ℕ → (thief victim thief_now victim_now : CoreView) → Type 0
-Takes None thief victim thief_now victim_now = (thief_now ≡ thief) × (victim_now ≡ victim)
-Takes (Some thread) thief victim thief_now victim_now = TakesOne thread thief victim thief_now victim_now
+abbrev pub Steals : Option ℕ → (thief victim thief_now victim_now : CoreView) → Type 0
+Steals None thief victim thief_now victim_now = (thief_now ≡ thief) × (victim_now ≡ victim)
+Steals (Some thread) thief victim thief_now victim_now = StealsOne thread thief victim thief_now victim_now

@@ -6,7 +6,7 @@ ghost use Rattle.round_model.specs.Code.Outcomes.{entry_with};
 ghost use Rattle.core_table.specs.Public.{IsOf, policy_of, view_of};
 ghost use Rattle.steal_phase.specs.Attempts.{HasAdded, IsDrawn, MayAttempt};
 
-use crate::taking::take_between;
+use crate::taking::take_best;
 use core_table::{Seat, Table};
 use policy_tree::Policy;
 use round_model::Entry;
@@ -53,7 +53,7 @@ pub(crate) fn contest<R: Wait>(
     ensures drawn { IsDrawn look result.0 (entry_with look.by from look.reads result.1) (view_of seat.old) }
 {
     let mut held = table.hold_two(rt, seat, look.by, from);
-    let stolen = take_between(table, policy, &mut held, look.by);
+    let stolen = take_best(table, policy, &mut held.first, &mut held.second);
     let at = table.draw_two(seat, &mut held, entry_of(look, from, stolen));
     table.publish_two(seat, &held);
     table.release_two(seat, held);

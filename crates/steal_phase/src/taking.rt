@@ -1,17 +1,19 @@
 //! The best thread of one held core goes over to another, where the filter holds of both as they are.
 
-ghost use Rattle.std.specs.Prelude.{◌≡◌, ◌<◌, ◌≤◌, ◌⊎◌};
+ghost use Rattle.std.specs.Prelude.{◌≡◌, ◌<◌, ◌≤◌};
 ghost use Rattle.sched_base.specs.declared.limits.TheConstants.{MAX_LOAD, MAX_THREADS};
 ghost use Rattle.policy_tree.specs.Meaning.{meaning_of};
+ghost use Rattle.round_model.specs.Choices.{may_steal as may_steal_by};
 ghost use Rattle.round_model.specs.Cores.{seen_of};
 ghost use Rattle.round_model.specs.Reads.{values_of};
 ghost use Rattle.core_table.specs.Public.{plan_of};
-ghost use Rattle.steal_phase.specs.Taking.{AreTwo, Takes, best_to_steal, may_steal};
+ghost use Rattle.steal_phase.specs.Taking.{AreTwo, Steals, best_to_steal};
 
-use core_table::{Held, HeldTwo, Table};
-use policy_eval::{CoreValues, Env, holds};
+use core_table::{Held, Table};
+use policy_eval::CoreValues;
 use policy_tree::Policy;
-use sched_base::{CoreId, ThreadId};
+use round_model::may_steal;
+use sched_base::ThreadId;
 
 /// What the filter sees of the held core.
 fn present(table: &Table, held: &Held) -> CoreValues
@@ -31,12 +33,13 @@ fn present(table: &Table, held: &Held) -> CoreValues
 fn filter_holds(table: &Table, policy: &Policy, thief: &Held, victim: &Held) -> bool
     requires { AreTwo (meaning_of policy.now) (plan_of table.now)
         thief.now.core thief.now.state victim.now.core victim.now.state }
-    ensures { result ≡ may_steal (meaning_of policy.now) (plan_of table.now)
-        thief.now.core thief.now.state.core victim.now.core victim.now.state.core }
+    ensures { result ≡ may_steal_by (meaning_of policy.now)
+        (values_of (plan_of table.now) thief.now.core (seen_of thief.now.state.core))
+        (values_of (plan_of table.now) victim.now.core (seen_of victim.now.state.core)) }
 {
     let own = present(table, thief);
     let other = present(table, victim);
-    holds(&policy.filter, &Env::of_pair(&own, &other))
+    may_steal(policy, &own, &other)
 }
 
 /// The thread that the thief may take of the victim.
@@ -54,7 +57,7 @@ fn best_thread(table: &Table, policy: &Policy, thief: &Held, victim: &Held) -> O
 }
 
 /// The thief takes that thread, if there is one.
-fn take_best(
+pub(crate) fn take_best(
     table: &Table,
     policy: &Policy,
     thief: &mut Held,
@@ -65,37 +68,10 @@ fn take_best(
     ensures cores { (thief.new.core ≡ thief.old.core) × (victim.new.core ≡ victim.old.core) }
     ensures thread { result ≡ best_to_steal (meaning_of policy.now) (plan_of table.now)
         thief.old.core thief.old.state.core victim.old.core victim.old.state.core }
-    ensures taken { Takes result thief.old.state victim.old.state thief.new.state victim.new.state }
+    ensures taken { Steals result thief.old.state victim.old.state thief.new.state victim.new.state }
 {
     let thread = best_thread(table, policy, thief, victim)?;
     let task = victim.state.hand_over(thread);
     thief.state.receive(task);
     Some(thread)
-}
-
-/// The same of two held cores, where the thief is the one of that number.
-pub(crate) fn take_between(
-    table: &Table,
-    policy: &Policy,
-    held: &mut HeldTwo,
-    by: CoreId,
-) -> Option<ThreadId>
-    requires two { AreTwo (meaning_of policy.now) (plan_of table.now)
-        held.old.low.core held.old.low.state held.old.high.core held.old.high.state }
-    requires by { (by ≡ held.old.low.core) ⊎ (by ≡ held.old.high.core) }
-    ensures cores { (held.new.low.core ≡ held.old.low.core) × (held.new.high.core ≡ held.old.high.core) }
-    ensures up { by ≡ held.old.low.core →
-        (result ≡ best_to_steal (meaning_of policy.now) (plan_of table.now)
-        held.old.low.core held.old.low.state.core held.old.high.core held.old.high.state.core)
-        × Takes result held.old.low.state held.old.high.state held.new.low.state held.new.high.state }
-    ensures down { by ≡ held.old.high.core →
-        (result ≡ best_to_steal (meaning_of policy.now) (plan_of table.now)
-        held.old.high.core held.old.high.state.core held.old.low.core held.old.low.state.core)
-        × Takes result held.old.high.state held.old.low.state held.new.high.state held.new.low.state }
-{
-    if by == held.low.core {
-        take_best(table, policy, &mut held.low, &mut held.high)
-    } else {
-        take_best(table, policy, &mut held.high, &mut held.low)
-    }
 }

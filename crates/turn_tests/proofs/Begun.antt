@@ -15,7 +15,7 @@ use Rattle.round_model.proofs.SerialEnding.{round_room}
 use Rattle.core_table.proofs.Histories.{own_begins}
 use Rattle.core_table.proofs.Opening.{first_agrees}
 use Rattle.turn_tests.specs.declared.memory_calls.MemoryCalls.{MemoryCalls}
-use Rattle.turn_tests.specs.Memory.{HasBegun, HasGrown, IsKept, IsNext, Keeps, MayBegin, history_of, meaning_in_memory, past_of, plan_of, policy_of}
+use Rattle.turn_tests.specs.Memory.{HasBegun, HasGrown, IsKept, MayGrow, Keeps, MayBegin, history_of, meaning_in_memory, past_of, plan_of, policy_of}
 use Rattle.turn_tests.proofs.Growing.{told}
 
 -- nothing is owed yet
@@ -43,7 +43,7 @@ module _ (it : MemoryCalls) (kept : IsKept it) (may : MayBegin it) (number : ℕ
   unfolding LegalNext
   legal_round = subst (LegalRound plan h) (sym is) may.next
 
-  pub round_next : IsNext it (entry.Round number)
+  pub round_next : MayGrow it (entry.Round number)
   round_next = let room = may.room in let few = kept.fits.few_entries in record { legal = legal_round; room = omega arith }
 
   module _ (now : MemoryCalls) (grown : HasGrown (entry.Round number) it now) where

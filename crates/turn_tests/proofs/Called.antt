@@ -1,5 +1,5 @@
 -- What the calls of a core in memory come to, by the entry that was added.
-use Rattle.std.proofs.Common.{◌≡◌, ◌≢◌, ℕ, ◌+◌, ◌<◌, ◌≤◌, ◌⊎◌, ⊎_elim, true, cond, List, [], ◌∷◌, ◌++◌, length, Option, Some, None, refl, sym, ap, ◌∙◌, subst, arith, ne_eqb}
+use Rattle.std.proofs.Common.{◌≡◌, ◌≢◌, ℕ, ◌+◌, ◌<◌, ◌⊎◌, ⊎_elim, true, cond, List, [], ◌∷◌, ◌++◌, length, Option, Some, None, refl, sym, ap, ◌∙◌, subst, arith, ne_eqb}
 use Rattle.std.specs.Prelude.{IsNone, IsSomeAnd}
 use Rattle.std.proofs.lemmas.List.{append-nil}
 use Rattle.policy_tree.specs.Meaning.{Meaning}
@@ -21,10 +21,10 @@ use Rattle.round_model.proofs.OwedTotals.{room_for}
 use Rattle.core_state.specs.Logs.{logged}
 use Rattle.core_table.specs.Logs.{own_log}
 use Rattle.core_table.proofs.Histories.{own_grows}
-use Rattle.core_calls.specs.Steps.{Adds, Entered, HasLetAllIn, MayEnter, MayWork, ReadsAtMost, Woken}
+use Rattle.core_calls.specs.Steps.{AddsNext, Entered, HasLetAllIn, MayEnter, MayWork, ReadsAtMost, Woken}
 use Rattle.turn_tests.specs.declared.memory_calls.MemoryCalls.{MemoryCalls}
 use Rattle.turn_tests.specs.Follows.{IsSame}
-use Rattle.turn_tests.specs.Memory.{HasGrown, IsNext, IsReady, core_of, history_of, meaning_in_memory, none_due_in, past_of, plan_of, policy_of, view_of}
+use Rattle.turn_tests.specs.Memory.{HasGrown, MayGrow, IsReady, core_of, history_of, meaning_in_memory, none_due_in, past_of, plan_of, policy_of, view_of}
 use Rattle.turn_tests.specs.Steps.{IsNextStep, did_in, wake_or_none, woken_in}
 use Rattle.turn_tests.proofs.Growing.{adds_one, longer_told, told}
 use Rattle.turn_tests.proofs.Rows.{row_count}
@@ -76,7 +76,7 @@ module _ (it : MemoryCalls) (ready : IsReady it) where
   a = core_of it
 
   -- what the step adds may be added
-  pub next_at : (step : NextStep) (e : Entry) → step ≡ next.Adds e → MayAdd p plan h step → ActsBy a step → IsNext it e
+  pub next_at : (step : NextStep) (e : Entry) → step ≡ next.Adds e → MayAdd p plan h step → ActsBy a step → MayGrow it e
   next_at step e is legal acts =
       let k = ready.kept in
       let may : LegalNext p plan h e = subst (MayAdd p plan h) is legal in
@@ -102,8 +102,8 @@ module _ (it : MemoryCalls) (ready : IsReady it) where
     pub still_ready : IsReady now × IsSame it now
     still_ready = subst (λ (x : MemoryCalls). IsReady x × IsSame it x) (sym grown.is) (longer_ready, record { policy = refl; plan = refl; core = refl; others = others_stay })
 
-    pub adds_at : (at : ℕ) → at ≡ length h → Adds a at e (view_of it) (view_of now)
-    adds_at at is = subst (λ (x : ℕ × MemoryCalls). Adds a x.0 e (view_of it) (view_of x.1)) (λ i. (sym is i, sym grown.is i)) (adds_one (policy_of it) plan a h (none_due_in it) e acting ready.agrees legal)
+    pub adds_at : (at : ℕ) → at ≡ length h → AddsNext a at e (view_of it) (view_of now)
+    adds_at at is = subst (λ (x : ℕ × MemoryCalls). AddsNext a x.0 e (view_of it) (view_of x.1)) (λ i. (sym is i, sym grown.is i)) (adds_one (policy_of it) plan a h (none_due_in it) e acting ready.agrees legal)
 
     -- where a placement looks, no more notes come than it has reads
     pub reads_few : (others : ℕ) (reads : List ℕ) → (0 < length reads → length reads ≡ plan.cores) → ReadsAtMost others (view_of it) (view_of now) reads
@@ -120,7 +120,7 @@ module _ (it : MemoryCalls) (ready : IsReady it) where
     pub step_ready : IsReady now × IsSame it now
     step_ready = still_ready e may by now grown
 
-    pub step_adds : (at : ℕ) → at ≡ length h → Adds a at e (view_of it) (view_of now)
+    pub step_adds : (at : ℕ) → at ≡ length h → AddsNext a at e (view_of it) (view_of now)
     step_adds = adds_at e may by now grown
 
     pub has_entered : (thread at : ℕ) → at ≡ length h → MayEnter (view_of it) a thread → IsNextStep it None step → Entered a thread at (view_of it) (view_of now)
@@ -131,7 +131,7 @@ module _ (it : MemoryCalls) (ready : IsReady it) where
           reads = _;
           late = placed_late it ready;
           all = reads_few e may by now grown 2 _ (placed_each it ready);
-          adds = subst (λ (x : Entry). Adds a at x (view_of it) (view_of now)) (same_entry step e _ is w.1) (step_adds at count);
+          adds = subst (λ (x : Entry). AddsNext a at x (view_of it) (view_of now)) (same_entry step e _ is w.1) (step_adds at count);
         }
 
     not_woken : IsWake e → HasWoken p plan h a → ⊥
@@ -155,7 +155,7 @@ module _ (it : MemoryCalls) (ready : IsReady it) where
           reads = _;
           late = placed_late it ready;
           all = reads_few e may by now grown 5 _ (placed_each it ready);
-          adds = subst (λ (x : Entry). Adds a at x (view_of it) (view_of now)) (same_entry step e _ is same) (step_adds at count);
+          adds = subst (λ (x : Entry). AddsNext a at x (view_of it) (view_of now)) (same_entry step e _ is same) (step_adds at count);
         }
         by_kind (rests none) = absurd (not_woken (woken_is step e wakes).1 none)
 

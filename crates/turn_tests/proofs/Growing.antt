@@ -27,7 +27,7 @@ use Rattle.core_table.specs.Logs.{own_log}
 use Rattle.core_table.specs.Told.{Agrees}
 use Rattle.core_table.proofs.Histories.{longer, own_grows}
 use Rattle.core_table.proofs.Positions.{above}
-use Rattle.core_calls.specs.Steps.{Adds}
+use Rattle.core_calls.specs.Steps.{AddsNext}
 use Rattle.turn_tests.specs.Memory.{viewed}
 use Rattle.turn_tests.proofs.Rows.{notes_grow, notes_true}
 
@@ -85,7 +85,7 @@ module _ (policy : Policy) (plan : Plan) (core : ℕ) (h : List Entry) (none_due
       (λ marked. due_stays p plan ag.fits h e core acting core (ag.role.due marked))
 
   -- the view is the one with that entry more
-  pub adds_one : Adds core (length h) e (viewed policy plan core h none_due) (viewed policy plan core (h ++ e ∷ []) none_due)
+  pub adds_one : AddsNext core (length h) e (viewed policy plan core h none_due) (viewed policy plan core (h ++ e ∷ []) none_due)
   adds_one = let notes = notes_grow p plan h e (no_round e core acting) in record {
     added = record {
       own = own_grows core h e (no_round e core acting) ∙ ap (λ b. own_log core h ++ cond b (logged (length h) e ∷ []) []) (acts_is e core core acting ∙ eq-eqb core core refl);

@@ -184,7 +184,7 @@ module _ (it : MemoryCalls) (ready : IsReady it) where
   -- The attempt.
   module _ (look : Look) (may : MayAttempt (view_of it) look) where
     pub by_is : look.by ≡ a
-    by_is = sym (ap core_by may.of_core.role)
+    by_is = sym (ap core_by may.ready.of_core.role)
 
     note_is : (c : ℕ) → c < plan.cores → IsTrueNote p plan h (noted c (slice_index look.reads c) (may.looked.seen c))
     note_is c low = let r = may.looked.read.each c low in notes_true p plan h r.place (noted c (slice_index look.reads c) (may.looked.seen c)) r.there
@@ -210,8 +210,8 @@ module _ (it : MemoryCalls) (ready : IsReady it) where
 
     pub tries_by : (step : NextStep) → IsNextStep it (Some look.reads) step → step ≡ next.Adds tried_entry
     tries_by step is =
-        let ran = subst (λ (own : List Entry). has_worked own ≡ true) (own_is a h) may.worked in
-        let first = subst (λ (own : List Entry). has_attempted own ≡ false) (own_is a h) may.first in
+        let ran = subst (λ (own : List Entry). has_worked own ≡ true) (own_is a h) may.ready.worked in
+        let first = subst (λ (own : List Entry). has_attempted own ≡ false) (own_is a h) may.ready.first in
         let late = worked_late p plan ready.kept.fits a h ready.kept.stands.legal ran in
         late_adds (Some look.reads) step tried_entry (none_of (entering_next plan (round_of h) a (own_entries h a)) late.0) (none_of (waking_next (round_of h) (after p plan h a)) late.1)
         (late_entry p plan h a look.reads tried_entry first ran entry_is) is

@@ -73,12 +73,14 @@ tries_at it ready look may step e is legal acts now grown next_is at count =
     let may_add = subst (MayAdd p plan h) is legal in let by = subst (ActsBy (core_of it)) is acts in
     let low = room_for p plan h e (core_of it) plan.limit k.fits k.handlers k.stands.legal may_add by ready.agrees.role.there k.reserve in
     has_tried look at e (view_of it) (view_of now) (record {
-      history = h;
-      agrees = ready.agrees;
-      position = sym count;
-      legal = legal_grows.grows p plan h e k.stands.legal may_add;
+      next = record {
+        history = h;
+        agrees = ready.agrees;
+        position = sym count;
+        legal = legal_grows.grows p plan h e k.stands.legal may_add;
+        above = above (view_of it) h at ready.agrees (sym count) (subst (λ (n : ℕ). n < plan.limit) (sym count) low);
+      };
       attempt = same;
-      above = above (view_of it) h at ready.agrees (sym count) (subst (λ (n : ℕ). n < plan.limit) (sym count) low);
     })
     (subst (λ (c : ℕ). HasAdded c at e (view_of it) (view_of now)) (sym (by_is it ready look may)) (step_adds it ready step e is legal acts now grown at count).added)
     (form_of look p plan (after p plan h) e same)

@@ -104,7 +104,7 @@ pub record IsReady (it : MemoryCalls) : Type 0 where
   pub agrees : Agrees (view_of it) (history_of it)
 
 -- the entry is legal next, and there is room for it
-pub record IsNext (it : MemoryCalls) (e : Entry) : Type 0 where
+pub record MayGrow (it : MemoryCalls) (e : Entry) : Type 0 where
   pub legal : LegalNext (meaning_in_memory it) (plan_of it) (history_of it) e
   pub room : length (history_of it) < MAX_ENTRIES
 

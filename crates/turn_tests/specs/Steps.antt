@@ -22,13 +22,8 @@ IsNextStep it look step = step_of (meaning_in_memory it) (plan_of it) (moment_of
     ≡ with_step (moment_of it look) (core_of it) (fresh_of (plan_of it) (history_of it)) step
 
 abbrev pub wake_or_none : Entry → Option Entry
-wake_or_none (entry.Round number) = None
-wake_or_none (entry.Enter thread by at reads) = None
 wake_or_none (entry.Wake thread by at reads) = Some (entry.Wake thread by at reads)
-wake_or_none (entry.Work by what) = None
-wake_or_none (entry.Steal by from thread reads) = None
-wake_or_none (entry.Fail by from reads) = None
-wake_or_none (entry.Pass by reads) = None
+wake_or_none e = None
 
 -- the entry by which a thread wakes
 abbrev pub woken_in : NextStep → Option Entry
@@ -37,13 +32,8 @@ woken_in next.Looks = None
 woken_in next.Over = None
 
 abbrev pub did_or_none : Entry → Option Did
-did_or_none (entry.Round number) = None
-did_or_none (entry.Enter thread by at reads) = None
-did_or_none (entry.Wake thread by at reads) = None
 did_or_none (entry.Work by what) = Some what
-did_or_none (entry.Steal by from thread reads) = None
-did_or_none (entry.Fail by from reads) = None
-did_or_none (entry.Pass by reads) = None
+did_or_none e = None
 
 -- what became of the thread that ran
 abbrev pub did_in : NextStep → Option Did
@@ -53,10 +43,6 @@ did_in next.Over = None
 
 -- what an attempt came to
 abbrev pub outcome_in : ℕ → Entry → Outcome
-outcome_in at (entry.Round number) = outcome.Passed at
-outcome_in at (entry.Enter thread by to reads) = outcome.Passed at
-outcome_in at (entry.Wake thread by to reads) = outcome.Passed at
-outcome_in at (entry.Work by what) = outcome.Passed at
 outcome_in at (entry.Steal by from thread reads) = outcome.Stole at thread
 outcome_in at (entry.Fail by from reads) = outcome.Failed at
-outcome_in at (entry.Pass by reads) = outcome.Passed at
+outcome_in at e = outcome.Passed at

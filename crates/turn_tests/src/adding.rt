@@ -7,7 +7,7 @@ ghost use Rattle.round_model.specs.Fits.{Fits};
 ghost use Rattle.round_model.specs.Legal.{LegalNext};
 ghost use Rattle.round_model.specs.Code.Past.{IsPastOf, OfEach, StandsFor};
 ghost use Rattle.round_model.specs.Code.Steps.{IsNextAfter};
-ghost use Rattle.turn_tests.specs.Memory.{HasGrown, IsKept, IsNext, history_of};
+ghost use Rattle.turn_tests.specs.Memory.{HasGrown, IsKept, MayGrow, history_of};
 
 use crate::memory_calls::MemoryCalls;
 use policy_tree::Policy;
@@ -59,7 +59,7 @@ impl MemoryCalls<'_> {
     /// Adds an entry that is legal next, and says at which position.
     pub(crate) fn add<R: Wait>(&mut self, rt: &R, entry: &Entry) -> Pos
         requires kept { IsKept self.old }
-        requires next { IsNext self.old entry.now }
+        requires next { MayGrow self.old entry.now }
         ensures at { result ≡ length (history_of self.old) }
         ensures grown { HasGrown entry.now self.old self.new }
     {

@@ -23,7 +23,7 @@ impl CoreCalls for MemoryCalls<'_> {
 
     ghost follows = { IsSame };
 
-    fn arrive<R: Wait>(&mut self, rt: &R, _thread: ThreadId) -> Pos {
+    fn enter<R: Wait>(&mut self, rt: &R, _thread: ThreadId) -> Pos {
         match self.next(None) {
             NextStep::Adds(entry) => self.add(rt, &entry),
             NextStep::Looks | NextStep::Over => unreachable!(),
@@ -61,7 +61,7 @@ impl CoreCalls for MemoryCalls<'_> {
         }
     }
 
-    fn act<R: Wait>(&mut self, rt: &R, look: Look) -> Outcome {
+    fn attempt<R: Wait>(&mut self, rt: &R, look: Look) -> Outcome {
         match self.next(Some(look.reads)) {
             NextStep::Adds(entry) => outcome(self.add(rt, &entry), &entry),
             NextStep::Looks | NextStep::Over => unreachable!(),

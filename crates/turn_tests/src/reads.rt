@@ -9,7 +9,7 @@ ghost use Rattle.turn_tests.specs.Memory.{IsReady, fresh_of, history_of, plan_of
 
 use crate::memory_calls::MemoryCalls;
 use policy_eval::CoreValues;
-use round_model::{History, Plan, round_start};
+use round_model::{History, Plan, round_start, values_of};
 use sched_base::{CoreId, MAX_CORES, Pos, Reads};
 
 /// One past the last of the entries that touches the core, and 0 where none does.
@@ -49,11 +49,7 @@ impl MemoryCalls<'_> {
         let mut values = [CoreValues::NONE; MAX_CORES];
         for core in 0..self.plan.cores {
             let seen = self.past.seen_at(core, reads.get(core));
-            values[core as usize] = CoreValues {
-                nr: seen.nr,
-                load: seen.load,
-                consts: *self.plan.consts.get(core),
-            };
+            values[core as usize] = values_of(self.plan, core, seen);
         }
         values
     }

@@ -1,6 +1,6 @@
 //! Plans and histories as texts.
 
-ghost use Rattle.std.specs.Prelude.{◌≡◌, ◌<◌, ◌≤◌, IfOk, length};
+ghost use Rattle.std.specs.Prelude.{◌≡◌, ◌<◌, ◌≤◌, IfSome, length};
 ghost use Rattle.sched_base.specs.declared.limits.TheConstants.{MAX_ENTRIES};
 ghost use Rattle.policy_tree.specs.Meaning.{meaning_of};
 ghost use Rattle.policy_eval.specs.Resolved.{IsResolved};
@@ -13,44 +13,43 @@ use round_model::{Entry, Plan};
 use sched_history::put_history;
 use sched_io::MemorySink;
 use std::alloc::Global;
-use std::test::Fail;
 
-/// The plan of the text.
-pub(crate) fn plan_of_text(alloc: Global, policy: &Policy, text: &str) -> Result<Plan, Fail>
+/// The plan of the text, if it has one and there is memory for it.
+pub(crate) fn plan_of_text(alloc: Global, policy: &Policy, text: &str) -> Option<Plan>
     requires { IsResolved (meaning_of policy.now) }
-    ensures { IfOk result (Fits (meaning_of policy.now)) }
+    ensures { IfSome result (Fits (meaning_of policy.now)) }
 {
     let bytes = text.as_bytes();
     if bytes.len() >= u32::MAX as usize {
-        return Err(Fail::new("the text is too long"));
+        return None;
     }
     let Ok(trace) = read_trace(alloc, bytes) else {
-        return Err(Fail::new("no trace"));
+        return None;
     };
-    match plan(alloc, &trace, policy) {
-        Ok(plan) => Ok(plan),
-        Err(_) => Err(Fail::new("no plan")),
-    }
+    let Ok(plan) = plan(alloc, &trace, policy) else {
+        return None;
+    };
+    Some(plan)
 }
 
-/// Whether the history is the one of the text.
+/// Room for the text of a history.
+const ROOM: u64 = 4096;
+
+/// Whether the history is the one of the text, and there was memory for it.
 pub(crate) fn is_spelled(
     alloc: Global,
     policy: &Policy,
     plan: &Plan,
     history: &[Entry],
     text: &str,
-) -> Result<bool, Fail>
+) -> bool
     requires fits { Fits (meaning_of policy.now) plan.now }
     requires legal { Legal (meaning_of policy.now) plan.now history.now }
     requires few { length history.now ≤ MAX_ENTRIES }
 {
     let Ok(mut out) = MemorySink::new(alloc, ROOM, Vec::new(alloc)) else {
-        return Err(Fail::new("no memory for the text"));
+        return false;
     };
     let _whole = put_history(&mut out, history);
-    Ok(out.bytes() == text.as_bytes())
+    out.bytes() == text.as_bytes()
 }
-
-/// Room for the text of a history.
-const ROOM: u64 = 4096;

@@ -2,9 +2,9 @@
 use Rattle.std.specs.Prelude.{ℕ, List}
 use Rattle.round_model.specs.declared.entry.Entry.TheVariants as entry
 use Rattle.core_table.specs.declared.views.View.{View}
-use Rattle.core_calls.specs.Steps.{Adds}
+use Rattle.core_calls.specs.Steps.{AddsNext}
 
 pub record WokenBy (core : ℕ) (reads : List ℕ) (at : ℕ) (before now : View) : Type 0 where
   pub thread : ℕ
   pub to : ℕ
-  pub adds : Adds core at (entry.Wake thread core to reads) before now
+  pub adds : AddsNext core at (entry.Wake thread core to reads) before now

@@ -23,13 +23,8 @@ use Rattle.round_model.specs.Code.Past.{arrival_of, arrives_at}
 
 -- the arrivals that are left after an entry of the core
 abbrev pub arrivals_after : ℕ → Entry → List Arrival → List Arrival
-arrivals_after a (entry.Round number) arrivals = arrivals
 arrivals_after a (entry.Enter thread by at reads) arrivals = without_first (arrives_at a) arrivals
-arrivals_after a (entry.Wake thread by at reads) arrivals = arrivals
-arrivals_after a (entry.Work by what) arrivals = arrivals
-arrivals_after a (entry.Steal by from thread reads) arrivals = arrivals
-arrivals_after a (entry.Fail by from reads) arrivals = arrivals
-arrivals_after a (entry.Pass by reads) arrivals = arrivals
+arrivals_after a e arrivals = arrivals
 
 abbrev pub ended_by : Did → List Bool → List Bool
 ended_by did.Nothing ended = ended
@@ -40,13 +35,8 @@ ended_by (did.Ended thread) ended = slice_set ended thread true
 
 -- the flags of the threads that have ended after an entry
 abbrev pub ended_after : Entry → List Bool → List Bool
-ended_after (entry.Round number) ended = ended
-ended_after (entry.Enter thread by at reads) ended = ended
-ended_after (entry.Wake thread by at reads) ended = ended
 ended_after (entry.Work by what) ended = ended_by what ended
-ended_after (entry.Steal by from thread reads) ended = ended
-ended_after (entry.Fail by from reads) ended = ended
-ended_after (entry.Pass by reads) ended = ended
+ended_after e ended = ended
 
 -- the turn with that entry
 abbrev pub turn_after : Entry → Turn → Turn

@@ -3,7 +3,7 @@ use Rattle.std.specs.Prelude.{◌≡◌, ℕ, ◌+◌, ◌==◌, nat_lt, ◌<◌
 use Rattle.std.specs.Prelude.{count_by, All, slice_index_or}
 use Rattle.sched_base.specs.declared.limits.TheConstants.{MAX_ENTRIES, MAX_THREADS}
 use Rattle.policy_tree.specs.Meaning.{Meaning}
-use Rattle.policy_eval.specs.Fitting.{IsWeight, LoadsFit}
+use Rattle.policy_eval.specs.Fitting.{LoadsFit}
 use Rattle.round_model.specs.declared.entry.Entry.{Entry}
 use Rattle.round_model.specs.declared.past.Arrival.{Arrival}
 use Rattle.round_model.specs.declared.past.Past.{Past}
@@ -21,7 +21,7 @@ use Rattle.round_model.specs.Scenes.{has_attempted, has_worked, is_entering, own
 
 -- a thread that is to enter, as the past keeps it
 abbrev pub arrival_of : Planned → Arrival
-arrival_of t = record { id = t.id; core = t.core; weight = t.weight }
+arrival_of t = record { id = t.id; core = t.core }
 
 abbrev pub arrives_at : ℕ → Arrival → Bool
 arrives_at a x = x.core == a
@@ -83,7 +83,6 @@ pub record IsPastOf (p : Meaning) (plan : Plan) (past : Past) : Type 0 where
   pub each : All (CoreInBounds p) past.state
   pub total : sum_by standing_count past.state + length past.arrivals
       + count_by (λ (t : Planned). nat_lt past.rounds t.round) plan.threads ≤ length plan.threads
-  pub arrivals : All (λ (x : Arrival). IsWeight p x.weight) past.arrivals
   pub window : IsWindow past
   pub rows : (k c : ℕ) → k < length past.rows → c < plan.cores →
       LoadsFit p (seen_in past.rows k c).nr (seen_in past.rows k c).load

@@ -20,30 +20,18 @@ pub record IsNextAfter (p : Meaning) (plan : Plan) (past : Past) (e : Entry) : T
 
 -- the cores that the entry changes are among so many
 abbrev pub AreThere : ℕ → Entry → Type 0
-AreThere n (entry.Round number) = Unit {0}
 AreThere n (entry.Enter thread by at reads) = at < n
 AreThere n (entry.Wake thread by at reads) = (by < n) × (at < n)
 AreThere n (entry.Work by what) = by < n
 AreThere n (entry.Steal by from thread reads) = (by < n) × (from < n)
-AreThere n (entry.Fail by from reads) = Unit {0}
-AreThere n (entry.Pass by reads) = Unit {0}
+AreThere n e = Unit {0}
 
 -- what the entry says of a unit is what the unit comes to
 abbrev pub MayBeSaid : Meaning → Plan → ℕ → Cores → Entry → Type 0
-MayBeSaid p plan round m (entry.Round number) = Unit {0}
-MayBeSaid p plan round m (entry.Enter thread by at reads) = Unit {0}
-MayBeSaid p plan round m (entry.Wake thread by at reads) = Unit {0}
 MayBeSaid p plan round m (entry.Work by what) = IsOutcomeOfWork p plan round (m by) what
-MayBeSaid p plan round m (entry.Steal by from thread reads) = Unit {0}
-MayBeSaid p plan round m (entry.Fail by from reads) = Unit {0}
-MayBeSaid p plan round m (entry.Pass by reads) = Unit {0}
+MayBeSaid p plan round m e = Unit {0}
 
 -- how many threads come with the entry
 abbrev pub comes : Entry → ℕ
-comes (entry.Round number) = 0
 comes (entry.Enter thread by at reads) = 1
-comes (entry.Wake thread by at reads) = 0
-comes (entry.Work by what) = 0
-comes (entry.Steal by from thread reads) = 0
-comes (entry.Fail by from reads) = 0
-comes (entry.Pass by reads) = 0
+comes e = 0

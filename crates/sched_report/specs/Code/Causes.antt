@@ -57,21 +57,11 @@ pub record IsFailTold (past : Past) (by from : ℕ) (reads : List ℕ) (row : Fa
 
 -- what has to hold of the past before the entry for its row to be told
 abbrev pub MayBeTold : Past → Entry → Type 0
-MayBeTold past (entry.Round number) = Unit {0}
-MayBeTold past (entry.Enter thread by at reads) = Unit {0}
-MayBeTold past (entry.Wake thread by at reads) = Unit {0}
-MayBeTold past (entry.Work by what) = Unit {0}
-MayBeTold past (entry.Steal by from thread reads) = Unit {0}
 MayBeTold past (entry.Fail by from reads) = IsFailAfter past by from reads
-MayBeTold past (entry.Pass by reads) = Unit {0}
+MayBeTold past e = Unit {0}
 
 -- what is added to the rows of failed steals by the entry
 abbrev pub AddsFail : Past → Entry → List FailRow → List FailRow → Type 0
-AddsFail past (entry.Round number) old new = new ≡ old
-AddsFail past (entry.Enter thread by at reads) old new = new ≡ old
-AddsFail past (entry.Wake thread by at reads) old new = new ≡ old
-AddsFail past (entry.Work by what) old new = new ≡ old
-AddsFail past (entry.Steal by from thread reads) old new = new ≡ old
 AddsFail past (entry.Fail by from reads) old new =
     (row : FailRow) × (new ≡ old ++ row ∷ []) × IsFailTold past by from reads row
-AddsFail past (entry.Pass by reads) old new = new ≡ old
+AddsFail past e old new = new ≡ old

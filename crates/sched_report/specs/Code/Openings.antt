@@ -25,9 +25,4 @@ row_in cores number = record { number = number; spread = spread_of (map load_of 
 -- the row of an entry, where a round begins in it
 abbrev pub row_told : List ModelCore → Entry → Option RoundRow
 row_told cores (entry.Round number) = Some (row_in cores number)
-row_told cores (entry.Enter thread by at reads) = None
-row_told cores (entry.Wake thread by at reads) = None
-row_told cores (entry.Work by what) = None
-row_told cores (entry.Steal by from thread reads) = None
-row_told cores (entry.Fail by from reads) = None
-row_told cores (entry.Pass by reads) = None
+row_told cores e = None

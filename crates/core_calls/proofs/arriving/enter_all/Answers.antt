@@ -9,8 +9,8 @@ use Rattle.core_calls.proofs.Turning.{core_is, own_few}
 use Rattle.core_calls.proofs.arriving.enter_all.Goals.{then-thread-core+then-thread-round, else-thread-core, else-thread-core-via-then-thread-core+else-thread-round, else-thread-core-via-else-thread-core}
 use Rattle.core_calls.proofs.arriving.enter_all.Goals as goal
 
-pub arrive-requires-clause-may : goal.arrive-requires-clause-may
-arrive-requires-clause-may g c =
+pub enter-requires-clause-may : goal.enter-requires-clause-may
+enter-requires-clause-may g c =
     let i = c.loop-thread.invariant.0 in let v = g.C.CoreCalls.view c.loop-thread.calls in let a = c.args.core in let d = c.thread-item.result in let k = c.loop-thread.thread-index in
     let threads = c.as_slice-thread-items.ensures.items ∙ ap (λ (p : Plan). p.threads) (c.requires.plan ∙ sym (ap (λ (u : View). u.plan) i.drawn.rest)) in
     let inside : k < length v.plan.threads = let count = ap length threads in let low = c.loop-thread-test.true in omega arith in
@@ -21,9 +21,9 @@ arrive-requires-clause-may g c =
 
 pub overflow_add-entered : goal.overflow_add-entered
 overflow_add-entered g c =
-    let i = c.loop-thread.invariant.0 in let v = g.C.CoreCalls.view c.loop-thread.calls in let w = g.C.CoreCalls.view c.arrive.new.self in
-    let e = subst (λ core. Entered core c.thread-item.result.id c.arrive.result v w) (core_is v c.args.core i.drawn.of_core) c.arrive.ensures.entered in
-    let few = own_few c.args.core c.arrive.result (entry.Enter c.thread-item.result.id c.args.core e.to e.reads) v w i.drawn.of_core e.adds in
+    let i = c.loop-thread.invariant.0 in let v = g.C.CoreCalls.view c.loop-thread.calls in let w = g.C.CoreCalls.view c.enter.new.self in
+    let e = subst (λ core. Entered core c.thread-item.result.id c.enter.result v w) (core_is v c.args.core i.drawn.of_core) c.enter.ensures.entered in
+    let few = own_few c.args.core c.enter.result (entry.Enter c.thread-item.result.id c.args.core e.to e.reads) v w i.drawn.of_core e.adds in
     let count = i.drawn.count_is in
     omega arith
 
@@ -45,10 +45,10 @@ loop-thread-preserved g c =
     elim c.if-thread-core.branch [
       | then-thread-core+then-thread-round w ↦
           subst (λ (x : _ × ℕ × ℕ). HasPassed before (g.C.CoreCalls.view x.0) a x.1 x.2 × g.C.CoreCalls.ready x.0 × g.C.CoreCalls.follows c.args.calls.now x.0) (λ j. (sym w.calls-is j, next j, sym w.entered-is j)) (
-            passed_in before v (g.C.CoreCalls.view w.arrive.new.self) a k c.loop-thread.entered w.arrive.result d i
-                (subst (λ core. Entered core d.id w.arrive.result v (g.C.CoreCalls.view w.arrive.new.self)) (core_is v a i.drawn.of_core) w.arrive.ensures.entered) inside item w.if-thread-core.true (w.if-thread-round.true ∙ same),
-            w.arrive.ensures.ready.0,
-            g.met.C.CoreCalls.in_a_row c.args.calls.now c.loop-thread.calls w.arrive.new.self c.loop-thread.invariant.2 w.arrive.ensures.ready.1,
+            passed_in before v (g.C.CoreCalls.view w.enter.new.self) a k c.loop-thread.entered w.enter.result d i
+                (subst (λ core. Entered core d.id w.enter.result v (g.C.CoreCalls.view w.enter.new.self)) (core_is v a i.drawn.of_core) w.enter.ensures.entered) inside item w.if-thread-core.true (w.if-thread-round.true ∙ same),
+            w.enter.ensures.ready.0,
+            g.met.C.CoreCalls.in_a_row c.args.calls.now c.loop-thread.calls w.enter.new.self c.loop-thread.invariant.2 w.enter.ensures.ready.1,
           )
       | else-thread-core w ↦
           subst (λ (x : _ × ℕ × ℕ). HasPassed before (g.C.CoreCalls.view x.0) a x.1 x.2 × g.C.CoreCalls.ready x.0 × g.C.CoreCalls.follows c.args.calls.now x.0) (λ j. (sym w.calls-is j, next j, sym w.entered-is j)) (

@@ -38,8 +38,8 @@ look-look-requires-clause-may g c =
     let a = core_in v in let work = subst (λ k. Worked k c.work-did.result w x) (core_is w a e.drawn.of_core) c.work-did.ensures.worked in
     may_look a c.wake_all-drawn.result v w x e.drawn c.work-did.result work
 
-pub act-requires-clause-may : goal.act-requires-clause-may
-act-requires-clause-may g c =
+pub attempt-requires-clause-may : goal.attempt-requires-clause-may
+attempt-requires-clause-may g c =
     let v = g.C.CoreCalls.view c.enter_all-entered.new.calls in let w = g.C.CoreCalls.view c.wake_all-drawn.new.calls in let x = g.C.CoreCalls.view c.work-did.new.self in let e = c.wake_all-drawn.ensures in
     let a = core_in v in let work = subst (λ k. Worked k c.work-did.result w x) (core_is w a e.drawn.of_core) c.work-did.ensures.worked in
     may_attempt a c.wake_all-drawn.result v w x e.drawn c.work-did.result work (g.C.CoreCalls.view c.look-look.new.self) c.look-look.result c.look-look.ensures.looked
@@ -58,15 +58,15 @@ returns-clause-turned g c =
     let drawn = subst (λ k. HasDrawn k n v w) same e.drawn in
     let work = subst (λ k. Worked k c.work-did.result w x) (core_is w a drawn.of_core) c.work-did.ensures.worked in
     let by = c.look-look.ensures.looked.by ∙ core_is x a work.adds.added.of_core in
-    turned_by a n v w x drawn c.work-did.result work (g.C.CoreCalls.view c.args.calls.now) (g.C.CoreCalls.view c.look-look.new.self) (g.C.CoreCalls.view c.act.new.self) c.enter_all-entered.result begun
-    (subst (HasLetAllIn w) same e.entered) (subst (λ k. w.role ≡ role.Core k true) same e.marked) c.look-look.ensures.looked.read c.look-look.result by c.act.result c.act.ensures.tried.added
+    turned_by a n v w x drawn c.work-did.result work (g.C.CoreCalls.view c.args.calls.now) (g.C.CoreCalls.view c.look-look.new.self) (g.C.CoreCalls.view c.attempt.new.self) c.enter_all-entered.result begun
+    (subst (HasLetAllIn w) same e.entered) (subst (λ k. w.role ≡ role.Core k true) same e.marked) c.look-look.ensures.looked.read c.look-look.result by c.attempt.result c.attempt.ensures.tried.added
     (record { entries = n + 2; ended = c.ended_in.result }) refl c.ended_in.ensures
 
 pub returns-clause-ready : goal.returns-clause-ready
 returns-clause-ready g c =
     let then = g.met.C.CoreCalls.in_a_row in let first = c.args.calls.now in let one = c.enter_all-entered.new.calls in let two = c.wake_all-drawn.new.calls in
-    let three = c.work-did.new.self in let four = c.look-look.new.self in let five = c.act.new.self in (
-      c.act.ensures.ready.0,
+    let three = c.work-did.new.self in let four = c.look-look.new.self in let five = c.attempt.new.self in (
+      c.attempt.ensures.ready.0,
       then first one five c.enter_all-entered.ensures.ready.1
-          (then one two five c.wake_all-drawn.ensures.ready.1 (then two three five c.work-did.ensures.ready.1 (then three four five c.look-look.ensures.ready.1 c.act.ensures.ready.1))),
+          (then one two five c.wake_all-drawn.ensures.ready.1 (then two three five c.work-did.ensures.ready.1 (then three four five c.look-look.ensures.ready.1 c.attempt.ensures.ready.1))),
     )

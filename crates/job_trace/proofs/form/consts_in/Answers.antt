@@ -1,7 +1,7 @@
 use Rattle.std.proofs.Common.{◌∙◌, ◌++◌, [], ◌∷◌, ap, arith, rules, sym, FitsSigned}
 use Rattle.std.specs.Int.{w32}
 use Rattle.std.proofs.lemmas.Int.{to_z-of_z}
-use Rattle.job_trace.specs.Steps.{named}
+use Rattle.job_trace.specs.Code.Steps.{named}
 use Rattle.job_trace.proofs.StepLemmas.{all-consts, more-consts, no-const_left}
 use Rattle.job_trace.proofs.form.consts_in.Goals as goal
 

@@ -1,7 +1,7 @@
 -- The constants so far, and those that are left.
 use Rattle.std.proofs.Common.{◌≡◌, ◌+◌, ◌≤◌, length, vec_len}
 use Rattle.job_trace.specs.Words.{words}
-use Rattle.job_trace.specs.Steps.{consts_in, extended}
+use Rattle.job_trace.specs.Code.Steps.{consts_in, extended}
 use Rattle.job_trace.proofs.form.consts_in.Given as goal
 
 abbrev pub invariant-loop-name : goal.invariant-loop-name

@@ -1,7 +1,7 @@
 -- The numbers so far, and those that are left.
 use Rattle.std.proofs.Common.{◌≡◌, ◌+◌, ◌≤◌, length, vec_len}
 use Rattle.job_trace.specs.Words.{words}
-use Rattle.job_trace.specs.Steps.{extended, numbers_in}
+use Rattle.job_trace.specs.Code.Steps.{extended, numbers_in}
 use Rattle.job_trace.proofs.form.numbers_in.Given as goal
 
 abbrev pub invariant-loop-word : goal.invariant-loop-word

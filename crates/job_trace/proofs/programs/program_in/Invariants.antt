@@ -1,7 +1,7 @@
 -- The bursts so far, and the program that is left.
 use Rattle.std.proofs.Common.{◌≡◌, ◌+◌, ◌≤◌, length, vec_len}
 use Rattle.job_trace.specs.Words.{words}
-use Rattle.job_trace.specs.Steps.{extended, program_in}
+use Rattle.job_trace.specs.Code.Steps.{extended, program_in}
 use Rattle.job_trace.proofs.programs.program_in.Given as goal
 
 abbrev pub invariant-loop-burst : goal.invariant-loop-burst

@@ -1,6 +1,6 @@
 use Rattle.std.proofs.Common.{◌∙◌, Ok, ap, sym, arith}
 use Rattle.std.proofs.lemmas.Result.{err_from_is_err_and}
-use Rattle.job_trace.specs.Steps.{scan}
+use Rattle.job_trace.specs.Code.Steps.{scan}
 use Rattle.job_trace.proofs.ScanLemmas.{added-rules, scan-more, scan-short, scan-stops, scan-whole}
 use Rattle.job_trace.proofs.reading.read.Goals as goal
 

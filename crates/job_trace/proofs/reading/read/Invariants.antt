@@ -3,7 +3,7 @@ use Rattle.std.proofs.Common.{◌≡◌, ◌+◌, ◌<◌, ◌≤◌, [], length
 use Rattle.sched_base.specs.declared.limits.TheConstants.{MAX_CORES}
 use Rattle.text_forms.specs.Lines.{lines_of}
 use Rattle.job_trace.specs.Rules.{MayAllFollow, all_gifts, cores_of}
-use Rattle.job_trace.specs.Steps.{scan}
+use Rattle.job_trace.specs.Code.Steps.{scan}
 use Rattle.job_trace.proofs.reading.read.Given as goal
 
 abbrev pub invariant-loop-line : goal.invariant-loop-line

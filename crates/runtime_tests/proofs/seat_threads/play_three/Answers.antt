@@ -1,6 +1,6 @@
 use Rattle.std.proofs.Common.{◌≡◌, ◌+◌, ap, sym, subst}
-use Rattle.runtime_tests.specs.Games.{IsTaking}
-use Rattle.runtime_tests.proofs.Dealing.{dealt}
+use Rattle.table_players.specs.Games.{IsTaking}
+use Rattle.table_players.proofs.Dealing.{dealt}
 use Rattle.runtime_tests.proofs.seat_threads.play_three.Goals as goal
 
 pub take_back-requires-clause-seat : goal.take_back-requires-clause-seat

@@ -1,9 +1,9 @@
 use Rattle.std.proofs.Common.{subst}
 use Rattle.core_table.specs.declared.seat.Table.{Table}
 use Rattle.core_table.specs.Public.{IsOf, view_of}
-use Rattle.runtime_tests.specs.declared.players.Stage.TheVariants as stage
-use Rattle.runtime_tests.specs.Games.{IsTurn}
-use Rattle.runtime_tests.proofs.Turning.{over_now}
+use Rattle.table_players.specs.declared.players.Stage.TheVariants as stage
+use Rattle.table_players.specs.Games.{IsTurn}
+use Rattle.table_players.proofs.Turning.{over_now}
 use Rattle.runtime_tests.proofs.seat_threads.turned.Goals as goal
 
 pub returns : goal.returns

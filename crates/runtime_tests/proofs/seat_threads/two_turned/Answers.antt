@@ -4,7 +4,7 @@ use denote.Exit.{no}
 use denote.Param.{param}
 use denote.Param.Send.{IsSync, arg_send, param_send, sendable, shr_send}
 use Rattle.core_calls.proofs.Crossing.{plan_sync, policy_sync, seat_send, table_sync, tuple_send}
-use Rattle.runtime_tests.proofs.Crossing.{player_send}
+use Rattle.table_players.proofs.Crossing.{player_send}
 use Rattle.runtime_tests.proofs.seat_threads.two_turned.Goals as goal
 
 pub join-requires-send-F : goal.join-requires-send-F

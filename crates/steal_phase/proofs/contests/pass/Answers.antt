@@ -13,7 +13,7 @@ pub draw_one-at-requires-clause-moved : goal.draw_one-at-requires-clause-moved
 draw_one-at-requires-clause-moved g c =
     let v = view_of c.args.seat.now in let look = c.args.look in let e = c.hold-held.ensures in
     subst (λ (x : View × ℕ). HasMoved (entry.Pass look.by look.reads) x.0 x.1 c.hold-held.result.state) (λ i. (sym e.held.view i, sym e.core i))
-    (moved_pass v look.by c.hold-held.result.state look.reads c.requires.may.free c.requires.may.looked.core)
+    (moved_pass v look.by c.hold-held.result.state look.reads c.requires.may.ready.free c.requires.may.looked.core)
 
 pub draw_one-at-requires-clause-legal : goal.draw_one-at-requires-clause-legal
 draw_one-at-requires-clause-legal g c =
@@ -31,6 +31,6 @@ returns-clause-drawn g c =
 pub returns-clause-added : goal.returns-clause-added
 returns-clause-added g c =
     let v = view_of c.args.seat.now in let look = c.args.look in let held = c.draw_one-at.new.held in
-    added_one v look.by c.draw_one-at.result (entry.Pass look.by look.reads) c.requires.may.of_core look.by c.hold-held.result.state held.core held.state c.requires.may.free c.requires.may.looked.core
+    added_one v look.by c.draw_one-at.result (entry.Pass look.by look.reads) c.requires.may.ready.of_core look.by c.hold-held.result.state held.core held.state c.requires.may.ready.free c.requires.may.looked.core
     (view_of c.hold-held.new.seat) (view_of c.draw_one-at.new.seat) (view_of c.publish.new.seat) (view_of c.release.new.seat)
     c.hold-held.ensures.held.view c.draw_one-at.ensures.drawn c.publish.ensures.seen.view c.release.ensures.home.view

@@ -1,6 +1,0 @@
-use Rattle.std.proofs.Common.{◌≡◌, vec_len, All}
-use Rattle.linear_form.specs.System.{IsBound}
-use Rattle.checker_tests.proofs.tests.ranges_of.Given as goal
-
-abbrev pub invariant-loop-lo : goal.invariant-loop-lo
-invariant-loop-lo l = record { fit : All IsBound l.list.items; count : vec_len l.list ≡ l.lo-index }

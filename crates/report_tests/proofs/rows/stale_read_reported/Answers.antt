@@ -1,5 +1,0 @@
-use Rattle.report_tests.proofs.Reported.{stale_read_reported}
-use Rattle.report_tests.proofs.rows.stale_read_reported.Goals as goal
-
-pub returns : goal.returns
-returns c = stale_read_reported

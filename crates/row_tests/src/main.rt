@@ -1,0 +1,54 @@
+//! The worked rows of the model and of the report, played through the public calls, a line for each. The reports on two of
+//! the histories are contracts too.
+#![tactic(auto)]
+
+mod bodies;
+mod histories;
+mod reports;
+pub mod rows;
+
+use crate::bodies::{
+    before_the_first_round, choices_of_the_basic_policy, cores_of_an_entry,
+    spreads_of_the_eight_threads, windows_of_reads,
+};
+use crate::histories::{a_round_with_one_steal, serial_play_of_two_cores};
+use crate::reports::{a_failed_steal, a_put_that_fails, a_still_stretch, totals_alone};
+use std::alloc::AllocError;
+use std::io;
+
+fn main(rt: HostRuntime) -> io::Result<()> {
+    let alloc = rt.alloc();
+    told::<_, AllocError>(
+        &rt,
+        "spreads of the eight threads",
+        Ok(spreads_of_the_eight_threads()),
+    )?;
+    told(
+        &rt,
+        "choices of the basic policy",
+        choices_of_the_basic_policy(alloc),
+    )?;
+    told(&rt, "windows of reads", windows_of_reads(alloc))?;
+    told::<_, AllocError>(&rt, "cores of an entry", Ok(cores_of_an_entry()))?;
+    told(&rt, "before the first round", before_the_first_round(alloc))?;
+    told(&rt, "a round with one steal", a_round_with_one_steal(alloc))?;
+    told(
+        &rt,
+        "serial play of two cores",
+        serial_play_of_two_cores(alloc),
+    )?;
+    told(&rt, "a failed steal", a_failed_steal(alloc))?;
+    told(&rt, "a still stretch", a_still_stretch(alloc))?;
+    told(&rt, "a put that fails", a_put_that_fails(alloc))?;
+    told(&rt, "totals alone", totals_alone(alloc))
+}
+
+/// Prints whether a row came out as expected.
+fn told<R: Print, E: Drop>(rt: &R, name: &str, row: Result<bool, E>) -> io::Result<()> {
+    let came = match row {
+        Ok(true) => "as expected",
+        Ok(false) => "otherwise",
+        Err(_) => "without memory",
+    };
+    println!(rt; "{name}: {came}")
+}

@@ -1,6 +1,0 @@
-use Rattle.runtime_tests.specs.Games.{Plays, table_in}
-use Rattle.runtime_tests.proofs.game.Game.turn.Given as goal
-
--- it plays its core still
-abbrev pub invariant-loop : goal.invariant-loop
-invariant-loop g l = Plays (table_in l.self) l.fn.player.core l.player

@@ -1,6 +1,0 @@
-use Rattle.runtime_tests.specs.Games.{LetsNone}
-use Rattle.runtime_tests.proofs.players.next_place.Given as goal
-
--- none so far is to be let in
-abbrev pub invariant-loop-at : goal.invariant-loop-at
-invariant-loop-at l = LetsNone l.core l.plan.threads l.from l.at
