@@ -75,7 +75,8 @@ fn put_split(text: &mut Vec<u8>, variable: u32, at: i64) -> Result<(), AllocErro
     Ok(())
 }
 
-fn put_number<I: Integer>(text: &mut Vec<u8>, number: I) -> Result<(), AllocError>
+/// Puts the number behind the text, in decimal.
+pub fn put_number<I: Integer>(text: &mut Vec<u8>, number: I) -> Result<(), AllocError>
     ensures { OnOk result (text.new.items ≡ text.old.items ++ I.text number) }
 {
     let mut buffer = Buffer::new();

@@ -1,3 +1,4 @@
 pub mod Counts
+pub mod MergedLists
 pub mod Steps
 pub mod Walks

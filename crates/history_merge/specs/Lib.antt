@@ -1,3 +1,4 @@
 pub mod Code
 pub mod Cursors
 pub mod Laws
+pub mod Merged

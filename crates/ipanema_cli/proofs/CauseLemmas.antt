@@ -15,9 +15,9 @@ use Rattle.policy_check.specs.declared.answer.CheckAnswer.TheVariants as checked
 use Rattle.policy_check.specs.declared.explaining.ExplainAnswer.TheVariants as explained
 use Rattle.policy_check.specs.declared.reading.Refusal.{Refusal}
 use Rattle.policy_check.specs.declared.reading.Refusal.TheVariants as refusal
-use Rattle.round_model.specs.declared.serial.Played.TheVariants as played
 use Rattle.trace_play.specs.declared.answer.PlayAnswer.{PlayAnswer}
 use Rattle.trace_play.specs.declared.answer.PlayAnswer.TheVariants as play_answer
+use Rattle.trace_play.specs.declared.cores.PlayedCores.TheVariants as cores
 use Rattle.history_replay.specs.declared.answer.HistoryAnswer.{HistoryAnswer}
 use Rattle.history_replay.specs.declared.answer.HistoryAnswer.TheVariants as judged
 use Rattle.history_replay.specs.declared.refusal.HistoryRefusal.TheVariants as no_history
@@ -58,8 +58,8 @@ seven (answer.Explained (explained.Explained told)) e = absurd (outcome_low told
 seven (answer.Explained (explained.Unjudged (refusal.Faulty fault))) e = absurd (omega arith)
 seven (answer.Explained (explained.Unjudged (refusal.Crowded name))) e = absurd (omega arith)
 seven (answer.Played (play_answer.Broken fault)) e = absurd (omega arith)
-seven (answer.Played (play_answer.Played (played.Whole history))) e = absurd (omega arith)
-seven (answer.Played (play_answer.Played (played.Full history))) e = absurd (omega arith)
+seven (answer.Played (play_answer.Played (cores.Whole closed))) e = absurd (omega arith)
+seven (answer.Played (play_answer.Played (cores.Full closed))) e = absurd (omega arith)
 seven (answer.Judged (judged.Whole count)) e = absurd (omega arith)
 seven (answer.Judged (judged.Reported told)) e = absurd (omega arith)
 seven (answer.Judged (judged.Refused (no_history.Trace fault))) e = absurd (omega arith)
@@ -103,8 +103,8 @@ nine (answer.Explained (explained.Explained told)) e = absurd (outcome_low told.
 nine (answer.Explained (explained.Unjudged (refusal.Faulty fault))) e = absurd (omega arith)
 nine (answer.Explained (explained.Unjudged (refusal.Crowded name))) e = absurd (omega arith)
 nine (answer.Played (play_answer.Broken fault)) e = absurd (omega arith)
-nine (answer.Played (play_answer.Played (played.Whole history))) e = absurd (omega arith)
-nine (answer.Played (play_answer.Played (played.Full history))) e = absurd (omega arith)
+nine (answer.Played (play_answer.Played (cores.Whole closed))) e = absurd (omega arith)
+nine (answer.Played (play_answer.Played (cores.Full closed))) e = absurd (omega arith)
 nine (answer.Judged h) e = (h, refl)
 nine (answer.Made text) e = absurd (omega arith)
 nine (answer.Benched told) e = absurd (omega arith)
@@ -326,8 +326,8 @@ module _ (told : List ℕ → Told) (before after : Option (List ℕ)) where
   ten asked (answer.Made text) is e added = absurd (omega arith)
   ten asked (answer.Benched told) is e added = absurd (omega arith)
   ten asked (answer.Played (play_answer.Broken fault)) is e added = absurd (omega arith)
-  ten asked (answer.Played (play_answer.Played (played.Whole history))) is e added = absurd (omega arith)
-  ten asked (answer.Played (play_answer.Played (played.Full history))) is e added = absurd (omega arith)
+  ten asked (answer.Played (play_answer.Played (cores.Whole closed))) is e added = absurd (omega arith)
+  ten asked (answer.Played (play_answer.Played (cores.Full closed))) is e added = absurd (omega arith)
   ten asked answer.BadWords is e added = absurd (omega arith)
 
 pub causes : (asked : Option Asked) (told : List ℕ → Told) (read_fault : Type 0) (before after : Shown) (code : ℕ) → Ends asked told read_fault before after code → HasCause asked told read_fault before after code

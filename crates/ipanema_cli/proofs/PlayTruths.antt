@@ -11,8 +11,10 @@ use Rattle.round_model.specs.SerialEnds.{EndsWhole, IsFull, StopsFull}
 use Rattle.round_model.specs.SerialRounds.{serial_rounds}
 use Rattle.round_laws.proofs.MainTheorem.{main_theorem}
 use Rattle.sched_history.specs.Spelling.{text_of_history}
+use Rattle.history_merge.specs.Merged.{merged}
 use Rattle.trace_play.specs.declared.answer.PlayAnswer.{PlayAnswer}
 use Rattle.trace_play.specs.declared.answer.PlayAnswer.TheVariants as play_answer
+use Rattle.trace_play.specs.declared.cores.PlayedCores.TheVariants as cores
 use Rattle.trace_play.specs.Plays as plays
 use Rattle.ipanema_cli.specs.Answers.{AnswersPlay, play_status}
 use Rattle.ipanema_cli.specs.Causes.{OneOf}
@@ -79,8 +81,8 @@ played_full policy trace text jobs p history before after code read made own add
 answered_trace : (policy trace : Told) (text jobs : List ℕ) (p : Meaning) (play : PlayAnswer) (before after : Option (List ℕ)) (code : ℕ) → Read policy trace text jobs p
     → plays.IsPlayOf p jobs play → code ≡ code_of (play_status play) → Adds (plays.output_of play) before after → PlaysTruly policy trace before after code
 answered_trace policy trace text jobs p (play_answer.Broken fault) before after code read is own added = broken_trace EndsWhole StopsFull MustPlay must_of policy trace text jobs p fault before after code read is own added
-answered_trace policy trace text jobs p (play_answer.Played (played.Whole history)) before after code read is own added = played_whole policy trace text jobs p history before after code read is own added
-answered_trace policy trace text jobs p (play_answer.Played (played.Full history)) before after code read is own added = played_full policy trace text jobs p history before after code read is own added
+answered_trace policy trace text jobs p (play_answer.Played (cores.Whole closed)) before after code read is own added = played_whole policy trace text jobs p (merged closed) before after code read is own added
+answered_trace policy trace text jobs p (play_answer.Played (cores.Full closed)) before after code read is own added = played_full policy trace text jobs p (merged closed) before after code read is own added
 
 pub plays_truly : (policy trace : Told) (before after : Shown) (code : ℕ) (a : Answer) → AnswersPlay plays.IsPlayOf policy trace a
     → Writes a before after code → PlaysTruly policy trace before.written after.written code

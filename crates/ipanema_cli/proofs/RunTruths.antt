@@ -7,15 +7,17 @@ use Rattle.policy_eval.proofs.Statements.{handler_obligations}
 use Rattle.policy_tree.specs.Meaning.{Meaning}
 use Rattle.round_model.specs.declared.entry.Entry.{Entry}
 use Rattle.round_model.specs.declared.plan.Plan.{Plan}
-use Rattle.round_model.specs.declared.serial.Played.{Played}
 use Rattle.round_model.specs.declared.serial.Played.TheVariants as played
 use Rattle.round_model.specs.Legal.{Whole, rounds_begun}
 use Rattle.round_model.specs.Room.{HasRoomForRounds}
 use Rattle.round_model.proofs.EntryBounds.{room_suffices}
 use Rattle.round_laws.proofs.MainTheorem.{main_theorem}
 use Rattle.sched_history.specs.Spelling.{text_of_history}
+use Rattle.history_merge.specs.Merged.{merged}
 use Rattle.trace_play.specs.declared.answer.PlayAnswer.{PlayAnswer}
 use Rattle.trace_play.specs.declared.answer.PlayAnswer.TheVariants as play_answer
+use Rattle.trace_play.specs.declared.cores.PlayedCores.{PlayedCores}
+use Rattle.trace_play.specs.declared.cores.PlayedCores.TheVariants as cores
 use Rattle.trace_play.specs.Plays as plays
 use Rattle.parallel_play.specs.Runs.{AllPassed, HadRoom}
 use Rattle.parallel_play.proofs.Beginnings.{never_whole}
@@ -39,10 +41,10 @@ must_of policy trace code low others = record {
 }
 
 -- the plan is the one whose cores passed the gate
-past_by : (Passed : ℕ → ℕ → Type 0) (p : Meaning) (jobs : List ℕ) (play : Played) → HavePassedFor Passed p jobs (play_answer.Played play) → (made : RunsText p jobs play)
-    → AllPassed Passed made.plan (rounds_begun (plays.history_of play))
-past_by Passed p jobs play past made =
-    subst (λ (plan : Plan). AllPassed Passed plan (rounds_begun (plays.history_of play)))
+past_by : (Passed : ℕ → ℕ → Type 0) (p : Meaning) (jobs : List ℕ) (left : PlayedCores) → HavePassedFor Passed p jobs (play_answer.Played left) → (made : RunsText p jobs (plays.played_by left))
+    → AllPassed Passed made.plan (rounds_begun (plays.history_of (plays.played_by left)))
+past_by Passed p jobs left past made =
+    subst (λ (plan : Plan). AllPassed Passed plan (rounds_begun (plays.history_of (plays.played_by left))))
     (same_plan p jobs past.1.trace made.trace past.0 made.plan past.1.spells past.1.means made.spells made.means) past.2
 
 module _ (Passed : ℕ → ℕ → Type 0) where
@@ -50,11 +52,11 @@ module _ (Passed : ℕ → ℕ → Type 0) where
   stopped_run policy trace before after code stop = stopped_trace (GatedEnds Passed) (GatedStops Passed) MustRun must_of policy trace before after code stop
 
   ran_whole : (policy trace : Told) (text jobs : List ℕ) (p : Meaning) (history : List Entry) (before after : Option (List ℕ)) (code : ℕ) → Read policy trace text jobs p
-      → RunsText p jobs (played.Whole history) → HavePassedFor Passed p jobs (play_answer.Played (played.Whole history)) → code ≡ 0 → Adds (text_of_history history) before after → RunsTruly Passed policy trace before after code
+      → (made : RunsText p jobs (played.Whole history)) → AllPassed Passed made.plan (rounds_begun history) → code ≡ 0 → Adds (text_of_history history) before after → RunsTruly Passed policy trace before after code
   ran_whole policy trace text jobs p history before after code read made past own added = record {
     whole = λ h.
         let may = may_play policy trace text jobs p made.trace made.plan read made.spells made.means made.fits in
-        (p, made.plan, history, may, (made.ran, past_by Passed p jobs (played.Whole history) past made), main_theorem p may.meets made.plan history made.fits made.ran.whole.legal, added);
+        (p, made.plan, history, may, (made.ran, past), main_theorem p may.meets made.plan history made.fits made.ran.whole.legal, added);
     full = λ h. absurd (omega arith);
     must = record {
       ends = λ other plan held. rw own refl;
@@ -75,12 +77,12 @@ module _ (Passed : ℕ → ℕ → Type 0) where
           none history (subst (λ (q : Meaning). Whole q plan history) s.policy (subst (λ (x : Plan). Whole p x history) is_plan made.ran.whole)) (subst (λ (x : Plan). HadRoom x history) is_plan made.ran.roomy)
 
   ran_full : (policy trace : Told) (text jobs : List ℕ) (p : Meaning) (history : List Entry) (before after : Option (List ℕ)) (code : ℕ) → Read policy trace text jobs p
-      → RunsText p jobs (played.Full history) → HavePassedFor Passed p jobs (play_answer.Played (played.Full history)) → code ≡ 8 → Adds (text_of_history history) before after → RunsTruly Passed policy trace before after code
+      → (made : RunsText p jobs (played.Full history)) → AllPassed Passed made.plan (rounds_begun history) → code ≡ 8 → Adds (text_of_history history) before after → RunsTruly Passed policy trace before after code
   ran_full policy trace text jobs p history before after code read made past own added =
       let may = may_play policy trace text jobs p made.trace made.plan read made.spells made.means made.fits in
       record {
         whole = λ h. absurd (omega arith);
-        full = λ h. (p, made.plan, history, may, (made.ran, past_by Passed p jobs (played.Full history) past made), main_theorem p may.meets made.plan history made.fits made.ran.legal, added);
+        full = λ h. (p, made.plan, history, may, (made.ran, past), main_theorem p may.meets made.plan history made.fits made.ran.legal, added);
         must = record {
           ends = λ other plan held. rw own refl;
           reaches_end = λ other plan held room.
@@ -99,8 +101,10 @@ module _ (Passed : ℕ → ℕ → Type 0) where
   answered_trace : (policy trace : Told) (text jobs : List ℕ) (p : Meaning) (play : PlayAnswer) (before after : Option (List ℕ)) (code : ℕ) → Read policy trace text jobs p
       → IsGatedRunOf Passed p jobs play → code ≡ code_of (play_status play) → Adds (plays.output_of play) before after → RunsTruly Passed policy trace before after code
   answered_trace policy trace text jobs p (play_answer.Broken fault) before after code read is own added = broken_trace (GatedEnds Passed) (GatedStops Passed) MustRun must_of policy trace text jobs p fault before after code read is.0 own added
-  answered_trace policy trace text jobs p (play_answer.Played (played.Whole history)) before after code read is own added = ran_whole policy trace text jobs p history before after code read is.0 is.1 own added
-  answered_trace policy trace text jobs p (play_answer.Played (played.Full history)) before after code read is own added = ran_full policy trace text jobs p history before after code read is.0 is.1 own added
+  answered_trace policy trace text jobs p (play_answer.Played (cores.Whole closed)) before after code read is own added =
+      ran_whole policy trace text jobs p (merged closed) before after code read is.0 (past_by Passed p jobs (cores.Whole closed) is.1 is.0) own added
+  answered_trace policy trace text jobs p (play_answer.Played (cores.Full closed)) before after code read is own added =
+      ran_full policy trace text jobs p (merged closed) before after code read is.0 (past_by Passed p jobs (cores.Full closed) is.1 is.0) own added
 
   pub runs_truly : (policy trace : Told) (before after : Shown) (code : ℕ) (a : Answer) → AnswersPlay (IsGatedRunOf Passed) policy trace a
       → Writes a before after code → RunsTruly Passed policy trace before.written after.written code

@@ -33,6 +33,7 @@ use Rattle.trace_play.specs.declared.fault.LineFault.{LineFault}
 use Rattle.trace_play.specs.Plays as plays
 use Rattle.trace_play.specs.Told as trace_faults
 use Rattle.sched_history.specs.Spelling.{line_of_entry}
+use Rattle.history_merge.specs.Merged.{merged}
 use Rattle.trace_play.proofs.OnePlay.{never_faulty, one_plan, one_trace}
 use Rattle.ipanema_cli.specs.Answers.{AnswersPlay, IsAccepted, Playing, accepts, play_status}
 use Rattle.ipanema_cli.specs.Causes.{OneOf}
@@ -179,7 +180,7 @@ others_played policy trace text jobs p lines plan code read spells means other_c
 -- the bytes of the lines are those of the answer
 played_lines : (p : PlayAnswer) → joined (plays.lines_of p) ≡ plays.output_of p
 played_lines (play_answer.Broken fault) = append-nil (trace_faults.fault_line fault)
-played_lines (play_answer.Played play) = flat_map-map (λ l. l) line_of_entry (plays.history_of play)
+played_lines (play_answer.Played left) = flat_map-map (λ l. l) line_of_entry (merged (plays.closed_of left))
 
 -- what a status promises of its play follows where nothing was played
 module _ (Ends Stops : Meaning → Plan → List Entry → Type 0) (Must : Told → Told → ℕ → Type 0)

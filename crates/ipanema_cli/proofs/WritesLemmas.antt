@@ -13,9 +13,9 @@ use Rattle.policy_check.specs.declared.explaining.ExplainAnswer.{ExplainAnswer}
 use Rattle.policy_check.specs.declared.explaining.ExplainAnswer.TheVariants as explained
 use Rattle.policy_check.specs.declared.reading.Refusal.{Refusal}
 use Rattle.policy_check.specs.declared.reading.Refusal.TheVariants as refusal
-use Rattle.round_model.specs.declared.serial.Played.TheVariants as played
 use Rattle.trace_play.specs.declared.answer.PlayAnswer.{PlayAnswer}
 use Rattle.trace_play.specs.declared.answer.PlayAnswer.TheVariants as play_answer
+use Rattle.trace_play.specs.declared.cores.PlayedCores.TheVariants as cores
 use Rattle.ipanema_cli.specs.Answers.{IsAnswer, lines_of, output_of, play_status, status_of}
 use Rattle.history_replay.specs.declared.answer.HistoryAnswer.{HistoryAnswer}
 use Rattle.history_replay.specs.declared.answer.HistoryAnswer.TheVariants as judged
@@ -58,8 +58,8 @@ explain_code (explained.Unjudged why) = refusal_code why
 
 play_code : (p : PlayAnswer) → AnswerCode (code_of (play_status p))
 play_code (play_answer.Broken fault) = is_2 refl
-play_code (play_answer.Played (played.Whole history)) = is_0 refl
-play_code (play_answer.Played (played.Full history)) = is_8 refl
+play_code (play_answer.Played (cores.Whole closed)) = is_0 refl
+play_code (play_answer.Played (cores.Full closed)) = is_8 refl
 
 history_code : (h : HistoryAnswer) → AnswerCode (code_of (history_status h))
 history_code (judged.Whole count) = is_0 refl

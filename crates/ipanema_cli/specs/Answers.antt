@@ -16,11 +16,11 @@ use Rattle.policy_check.specs.Checks.{IsCheckOf, IsExplainOf}
 use Rattle.policy_check.specs.Lines.{check_lines, explain_lines}
 use Rattle.sched_io.specs.Puts.{joined}
 use Rattle.sched_io.specs.Told.{Told}
-use Rattle.round_model.specs.declared.serial.Played.TheVariants as played
 use Rattle.trace_maker.specs.Made.{made}
 use Rattle.trace_printer.specs.Printed.{trace_text}
 use Rattle.trace_play.specs.declared.answer.PlayAnswer.{PlayAnswer}
 use Rattle.trace_play.specs.declared.answer.PlayAnswer.TheVariants as play_answer
+use Rattle.trace_play.specs.declared.cores.PlayedCores.TheVariants as cores
 use Rattle.trace_play.specs.Plays as plays
 use Rattle.trace_run.specs.Runs.{IsGatedRunOf, IsRunOf}
 use Rattle.history_replay.specs.declared.answer.HistoryAnswer.{HistoryAnswer}
@@ -59,8 +59,8 @@ output_of a = joined (lines_of a)
 -- the status of a trace that was read, and played if it could be
 abbrev pub play_status : PlayAnswer → Status
 play_status (play_answer.Broken fault) = status.BadText
-play_status (play_answer.Played (played.Whole history)) = status.Done
-play_status (play_answer.Played (played.Full history)) = status.HistoryFull
+play_status (play_answer.Played (cores.Whole closed)) = status.Done
+play_status (play_answer.Played (cores.Full closed)) = status.HistoryFull
 
 -- the status of an answer
 abbrev pub status_of : Answer → Status

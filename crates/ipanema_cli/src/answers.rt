@@ -19,14 +19,13 @@ use fair_policy::fair_policy;
 use history_replay::{HistoryAnswer, replay_texts, report_texts};
 use policy_check::{CheckAnswer, ExplainAnswer, check_text};
 use policy_checker::{AcceptedPolicy, CheckFault, Verdict, check_policy};
-use round_model::Played;
 use sched_base::CHECK_BUDGET;
 use sched_io::{Gate, PutFault, Sink, put_all};
 use std::alloc::Global;
 use std::sync::Wait;
 use std::thread::Threads;
 use trace_maker::make_trace;
-use trace_play::{PlayAnswer, PlayMemory, play_text};
+use trace_play::{PlayAnswer, PlayMemory, PlayedCores, play_text};
 use trace_printer::print_trace;
 use trace_run::run_text;
 
@@ -178,8 +177,8 @@ impl Answer {
             Answer::Checked(answer) => check_status(answer),
             Answer::Explained(answer) => explain_status(answer),
             Answer::Played(PlayAnswer::Broken(_)) => Status::BadText,
-            Answer::Played(PlayAnswer::Played(Played::Whole(_))) => Status::Done,
-            Answer::Played(PlayAnswer::Played(Played::Full(_))) => Status::HistoryFull,
+            Answer::Played(PlayAnswer::Played(PlayedCores::Whole(_))) => Status::Done,
+            Answer::Played(PlayAnswer::Played(PlayedCores::Full(_))) => Status::HistoryFull,
             Answer::Judged(answer) => history_status(answer),
             Answer::Made(_) => Status::Done,
             Answer::Benched(_) => Status::Done,

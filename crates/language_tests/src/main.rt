@@ -1,6 +1,6 @@
-//! Plays the tables of `data/` over the reader, the printer and the names of policies, and prints how many cases of each
+//! Plays the tables of `data/` over the reader, the printer and the names of policies. It prints how many cases of each
 //! part came out as expected, and every one that didn't. A policy that is built without a text is compared with that
-//! of its text.
+//! of its text. The last line shows how a check that fails is told.
 #![tactic(auto)]
 
 mod answers;
@@ -23,5 +23,6 @@ fn main(rt: HostRuntime) -> io::Result<()> {
         &rt,
         "fair, built as its text spells it",
         fair_is_as_spelled(alloc)?,
-    )
+    )?;
+    told(&rt, "what isn't so is told so", false)
 }

@@ -25,8 +25,8 @@ pub fn law_counts()
     ensures { CountsAreCases }
 {}
 
-/// Where threads are counted and each comparison is one of a constant with a variable or with the difference of two, all
-/// systems are of the form that is always decided.
+/// Where threads are counted and each comparison is one of a constant with a variable or with the difference of two,
+/// all systems are of the form that is always decided.
 pub fn law_differences()
     ensures { ComparisonsGiveDifferences }
 {}

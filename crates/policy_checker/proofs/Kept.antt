@@ -16,7 +16,7 @@ use Rattle.policy_checker.specs.declared.answer.Answered.{Answered}
 use Rattle.policy_checker.specs.declared.answer.ObAnswer.{ObAnswer}
 use Rattle.policy_checker.specs.declared.answer.ObAnswer.TheVariants as answer
 
-certificates : (budget : ℕ) (systems : List LinearSystem) (certs : List Cert) → AllRefuted budget systems certs
+pub certificates : (budget : ℕ) (systems : List LinearSystem) (certs : List Cert) → AllRefuted budget systems certs
     → AllZip (λ (system : LinearSystem) (cert : Cert). Refutes system (cert_tree cert)) systems certs
 certificates budget [] [] all = tt
 certificates budget [] (cert ∷ certs) all = absurd all
@@ -46,19 +46,19 @@ neither true b e = absurd (let clash : ⊥ = cc in clash)
 neither false b e = (refl, e)
 
 -- the trees of the certificates that an answer keeps
-abbrev trees_of : ObAnswer → List CertTree
+abbrev pub trees_of : ObAnswer → List CertTree
 trees_of (answer.Holds certs) = map cert_tree certs
 trees_of (answer.Fails point) = []
 trees_of (answer.Undecided points) = []
 
-refuted_trees : (systems : List LinearSystem) (certs : List Cert) → AllZip (λ (system : LinearSystem) (cert : Cert). Refutes system (cert_tree cert)) systems certs
+pub refuted_trees : (systems : List LinearSystem) (certs : List Cert) → AllZip (λ (system : LinearSystem) (cert : Cert). Refutes system (cert_tree cert)) systems certs
     → AllZip Refutes systems (map cert_tree certs)
 refuted_trees [] [] all = tt
 refuted_trees [] (cert ∷ certs) all = absurd all
 refuted_trees (system ∷ systems) [] all = absurd all
 refuted_trees (system ∷ systems) (cert ∷ certs) all = (all.0, refuted_trees systems certs all.1)
 
-kept_trees : (systems : List LinearSystem) (answer : ObAnswer) → Keeps systems answer → AllZip Refutes systems (trees_of answer)
+pub kept_trees : (systems : List LinearSystem) (answer : ObAnswer) → Keeps systems answer → AllZip Refutes systems (trees_of answer)
 kept_trees systems (answer.Holds certs) keeps = refuted_trees systems certs keeps
 kept_trees systems (answer.Fails point) keeps = absurd keeps
 kept_trees systems (answer.Undecided points) keeps = absurd keeps

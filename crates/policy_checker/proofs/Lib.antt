@@ -1,8 +1,10 @@
 pub mod Decided
 pub mod Joined
 pub mod Kept
+pub mod KeptHandlers
 pub mod Named
 pub mod Nearer
+pub mod Places
 pub mod Points
 pub mod True
 pub mod Worth

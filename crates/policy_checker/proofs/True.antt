@@ -31,7 +31,7 @@ Unsolved system = HasNoSolution system.bounds system.rows
 none_solves : (system : LinearSystem) (tree : CertTree) → Refutes system tree → Unsolved system
 none_solves system tree refutes = no_solution system.bounds system.rows tree refutes.right
 
-all_unsolved : (systems : List LinearSystem) (trees : List CertTree) → AllZip Refutes systems trees → AllByRecursion Unsolved systems
+pub all_unsolved : (systems : List LinearSystem) (trees : List CertTree) → AllZip Refutes systems trees → AllByRecursion Unsolved systems
 all_unsolved [] [] all = tt
 all_unsolved [] (tree ∷ trees) all = absurd all
 all_unsolved (system ∷ systems) [] all = absurd all
@@ -66,13 +66,13 @@ left_open (system ∷ systems) points (inr later) =
     (rest.0, (suc inside.0, (let lt = inside.1 in omega arith), inside.2), rest.2)
 
 module _ (p : Meaning) (is : IsResolved p) where
-  met_if : (s : Statement) → AllByRecursion Unsolved (systems_of p s) → IsMet p s
+  pub met_if : (s : Statement) → AllByRecursion Unsolved (systems_of p s) → IsMet p s
   met_if s all = (systems_are_statements p is s).1 (All-from_recursion Unsolved (systems_of p s) all)
 
   met_where : (s : Statement) → IsMet p s → AllByRecursion Unsolved (systems_of p s)
   met_where s met = recursion_from_All Unsolved (systems_of p s) ((systems_are_statements p is s).0 met)
 
-  told : (name : ObName) (answer : ObAnswer) → IsAnswer CHECK_BUDGET (systems_of p (statement_of name)) answer → IsTold p name (outcome_of answer)
+  pub told : (name : ObName) (answer : ObAnswer) → IsAnswer CHECK_BUDGET (systems_of p (statement_of name)) answer → IsTold p name (outcome_of answer)
   told name (answer.Holds certs) all = met_if (statement_of name) (certified_unsolved CHECK_BUDGET (systems_of p (statement_of name)) certs all)
   told name (answer.Fails point) solved = λ met. solved_one CHECK_BUDGET (systems_of p (statement_of name)) point.vals solved (met_where (statement_of name) met)
   told name (answer.Undecided points) left = left_open (systems_of p (statement_of name)) points left

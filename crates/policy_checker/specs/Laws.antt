@@ -1,8 +1,8 @@
 -- Laws: what certificates, answers and points say of a policy.
-use Rattle.std.specs.Prelude.{◌≡◌, ℕ, ℤ, IsFalse, List, map}
+use Rattle.std.specs.Prelude.{◌≡◌, ◌⊎◌, ℕ, ℤ, IsFalse, IsTrue, List, map}
 use Rattle.sched_base.specs.declared.limits.TheConstants.{CHECK_BUDGET}
 use Rattle.policy_tree.specs.Meaning.{Meaning}
-use Rattle.policy_eval.specs.Obligations.{MeetsObligations, Statement}
+use Rattle.policy_eval.specs.Obligations.{IsMet, MeetsHandlerObligations, MeetsObligations, Statement}
 use Rattle.policy_eval.specs.Ranges.{AreIn}
 use Rattle.policy_eval.specs.Resolved.{IsResolved}
 use Rattle.policy_eval.specs.Values.{Assignment, Holds, variable_of}
@@ -14,6 +14,7 @@ use Rattle.obligations.specs.Systems.{systems_of, variable_ranges, variables_of}
 use Rattle.policy_checker.specs.Answers.{IsAnswer, IsFirstSolved}
 use Rattle.policy_checker.specs.Certified.{IsCertified}
 use Rattle.policy_checker.specs.Outcomes.{HasOpen, IsTold, outcome_of}
+use Rattle.policy_checker.specs.Playable.{HasCertifiedHandlers, is_of_handler, is_playable}
 use Rattle.policy_checker.specs.Verdicts.{IsDecided, IsVerdict, is_left}
 use Rattle.policy_checker.specs.declared.answer.ObAnswer.{ObAnswer}
 use Rattle.policy_checker.specs.declared.verdict.Verdict.{Verdict}
@@ -51,3 +52,19 @@ pub record DifferencesAreDecided : Type 0 where
   -- bounded elimination leaves no system of it open
   pub none_open : (p : Meaning) → ComparesDifferences p → (name : ObName)
       → HasOpen (systems_of p (statement_of name)) → ⊥
+
+-- Some handler obligation isn't met, or has a system that elimination may leave open.
+pub record HasUncertainHandler (p : Meaning) : Type 0 where
+  pub name : ObName
+  pub of_handler : IsTrue (is_of_handler name)
+  pub uncertain : (IsMet p (statement_of name) → ⊥) ⊎ HasOpen (systems_of p (statement_of name))
+
+-- What it means that a policy can be played.
+pub record PlayableLaw : Type 0 where
+  -- where the handlers are certified, the policy meets its handler obligations
+  pub meets : (p : Meaning) → IsResolved p → HasCertifiedHandlers p → MeetsHandlerObligations p
+  -- they are where each obligation is
+  pub accepted : (p : Meaning) → IsCertified p → HasCertifiedHandlers p
+  -- no verdict under the budget of the program keeps a policy from play without a cause
+  pub others : (p : Meaning) → IsResolved p → (verdict : Verdict) → IsVerdict p CHECK_BUDGET verdict
+      → IsFalse (is_playable verdict) → HasUncertainHandler p

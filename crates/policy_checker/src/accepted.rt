@@ -1,12 +1,16 @@
 //! Accepted policies.
 
-ghost use Rattle.std.specs.Prelude.{◌≡◌};
+ghost use Rattle.std.specs.Prelude.{◌≡◌, Some, map, slice_get};
+ghost use Rattle.linear_cert.specs.Right.{cert_tree};
 ghost use Rattle.policy_tree.specs.Meaning.{meaning_of};
 ghost use Rattle.policy_eval.specs.Obligations.{MeetsObligations};
 ghost use Rattle.policy_eval.specs.Resolved.{IsResolved};
-ghost use Rattle.policy_checker.specs.Certified.{IsCertified, KeepAll};
+ghost use Rattle.obligations.specs.Names.{ob_names};
+ghost use Rattle.policy_checker.specs.Certified.{Certifies, IsCertified, KeepAll};
 
-use crate::answer::ObAnswers;
+use crate::answer::{CertList, ObAnswer, ObAnswers};
+use crate::playing::PlayablePolicy;
+use obligations::ObName;
 use policy_tree::Policy;
 use std::marker::Model;
 
@@ -57,5 +61,43 @@ impl AcceptedPolicy {
         ensures meets { MeetsObligations (meaning_of self.now) }
     {
         &self.policy
+    }
+
+    /// The same policy as one that can be played.
+    pub fn into_playable(self) -> PlayablePolicy
+        ensures { result ≡ self }
+    {
+        PlayablePolicy::new(self.policy, self.answers)
+    }
+
+    /// The certificates of that obligation, one for each of its systems, in their order.
+    pub fn certs(&self, ob: ObName) -> &CertList
+        ensures { Certifies (meaning_of self.now) ob (map cert_tree result.now) }
+    {
+        match &self.answers.get(place_of(ob)).answer {
+            ObAnswer::Holds(certs) => certs,
+            ObAnswer::Fails(_) | ObAnswer::Undecided(_) => unreachable!(),
+        }
+    }
+}
+
+/// The place of the obligation among all of them.
+#[tactic(auto, unfolding(obligations::specs::Names::ob_names))]
+fn place_of(ob: ObName) -> u32
+    ensures { slice_get ob_names result ≡ Some ob }
+{
+    match ob {
+        ObName::B1 => 0,
+        ObName::B2 => 1,
+        ObName::B3 => 2,
+        ObName::B4 => 3,
+        ObName::H1Enqueue => 4,
+        ObName::H2Enqueue => 5,
+        ObName::H1Tick => 6,
+        ObName::H2Tick => 7,
+        ObName::H1Yield => 8,
+        ObName::H2Yield => 9,
+        ObName::H1Block => 10,
+        ObName::H2Block => 11,
     }
 }

@@ -4,6 +4,7 @@ ghost use Rattle.std.specs.Prelude.{◌≡◌, ◌∷◌, ◌++◌, [], ℕ, Lis
 ghost use Rattle.linear_form.specs.System.{LinearSystem};
 ghost use Rattle.policy_checker.specs.Answers.{HasRoom, IsAnswer, IsFound};
 ghost use Rattle.policy_checker.specs.Outcomes.{outcome_of};
+ghost use Rattle.policy_checker.specs.Playable.{is_holding};
 ghost use Rattle.policy_checker.specs.Verdicts.{is_failure, is_left};
 ghost use Rattle.policy_checker.specs.declared.answer.ObAnswer.TheVariants.{Holds};
 
@@ -67,6 +68,13 @@ impl ObAnswer {
         ensures { result ≡ is_failure self.now }
     {
         matches!(self, ObAnswer::Fails(_))
+    }
+
+    /// Whether the obligation holds.
+    pub(crate) fn is_holding(&self) -> bool
+        ensures { result ≡ is_holding self.now }
+    {
+        matches!(self, ObAnswer::Holds(_))
     }
 
     /// Whether it isn't known whether the obligation holds.

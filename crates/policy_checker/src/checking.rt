@@ -26,8 +26,8 @@ use std::alloc::{AllocError, Global};
 /// within the budget.
 ///
 /// A system that isn't one of differences is left undecided only where it has more points than the budget and bounded
-/// elimination doesn't refute it. Under a budget of 0 each such system is left undecided. So a policy that counts threads
-/// and compares constants with variables and differences of two alone is decided under every budget.
+/// elimination doesn't refute it. Under a budget of 0 each such system is left undecided. So a policy that counts
+/// threads and compares constants with variables and differences of two alone is decided under every budget.
 pub fn check_policy(alloc: Global, policy: Policy, budget: u64) -> Result<Verdict, CheckFault>
     requires { IsResolved (meaning_of policy) }
     ensures crowded { (name : ObName) (count : ℕ) → (result ≡ Err (Cases name count policy)) ↔

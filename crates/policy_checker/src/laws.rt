@@ -1,7 +1,7 @@
 //! Laws of the definitions, each a function without parameters whose contract is the law.
 
 ghost use Rattle.policy_checker.specs.Laws.{AnswersAreTrue, CertifiedMeet, DifferencesAreDecided};
-ghost use Rattle.policy_checker.specs.Laws.{PointsRefute};
+ghost use Rattle.policy_checker.specs.Laws.{PlayableLaw, PointsRefute};
 
 /// A policy of which each system of each obligation has a right certificate meets all its obligations.
 pub fn law_certified()
@@ -19,8 +19,14 @@ pub fn law_points()
     ensures { PointsRefute }
 {}
 
-/// Where threads are counted and each comparison is one of a constant with a variable or with the difference of two, the
-/// policy and each of its obligations are decided.
+/// Where threads are counted and each comparison is one of a constant with a variable or with the difference of two,
+/// the policy and each of its obligations are decided.
 pub fn law_differences()
     ensures { DifferencesAreDecided }
+{}
+
+/// A policy whose handlers are certified meets its handler obligations, and a certified policy is such a one. Where a
+/// verdict isn't playable, some handler obligation fails or has a system that bounded elimination leaves open.
+pub fn law_playable()
+    ensures { PlayableLaw }
 {}

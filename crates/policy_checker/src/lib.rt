@@ -8,12 +8,14 @@ mod checking;
 mod deciding;
 mod laws;
 mod one;
+mod playing;
 mod smaller;
 mod verdict;
 
 pub use accepted::AcceptedPolicy;
 pub use answer::{Answered, CertList, ObAnswer, ObAnswers, Outcome};
 pub use checking::check_policy;
-pub use laws::{law_answers, law_certified, law_differences, law_points};
+pub use laws::{law_answers, law_certified, law_differences, law_playable, law_points};
 pub use one::{One, OneFault, check_one};
+pub use playing::{PlayablePolicy, playable};
 pub use verdict::{CheckFault, Verdict};

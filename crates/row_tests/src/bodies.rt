@@ -86,13 +86,12 @@ pub(crate) fn before_the_first_round(alloc: Global) -> Result<bool, ModelMemory>
     let policy = basic_policy(alloc)?;
     let plan = two_cores(alloc)?;
     let past = no_past(alloc, &plan)?;
-    let comes = |entry: Entry| may_come_first(&policy, &plan, &past, &entry);
     Ok(
         opening(alloc, &plan)?.len() == 2
             && round_due(&plan, &past)
-            && comes(Entry::Round { number: 1 })
-            && !comes(Entry::Round { number: 2 })
-            && !comes(idle(0)),
+            && may_come_first(&policy, &plan, &past, &Entry::Round { number: 1 })
+            && !may_come_first(&policy, &plan, &past, &Entry::Round { number: 2 })
+            && !may_come_first(&policy, &plan, &past, &idle(0)),
     )
 }
 

@@ -1,5 +1,5 @@
-//! The worked rows of the model and of the report, played through the public calls, a line for each. The reports on two of
-//! the histories are contracts too.
+//! The worked rows of the model and of the report, played through the public calls, a line for each. The reports on two
+//! of the histories are contracts too.
 #![tactic(auto)]
 
 mod bodies;

@@ -1,6 +1,14 @@
 pub mod Best
+pub mod Counted
+pub mod Keeping
 pub mod Lines
+pub mod Numbering
+pub mod Ordered
 pub mod Places
 pub mod Pushed
+pub mod Queueing
+pub mod Ranking
 pub mod Removed
+pub mod Rooted
 pub mod Scanning
+pub mod Sifting

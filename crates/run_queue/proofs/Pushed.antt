@@ -26,7 +26,7 @@ module _ (nodes : Nodes Task) (first last : Option ℕ) (cells : List Cell) (lin
   inside = slice_get_within nodes x.node None free
 
   -- no node of the line is free
-  else_node : (k : ℕ) (cell : Cell) → slice_get cells k ≡ Some cell → cell.node ≢ x.node
+  pub else_node : (k : ℕ) (cell : Cell) → slice_get cells k ≡ Some cell → cell.node ≢ x.node
   else_node k cell is same =
       let taken : is_some (held_at nodes cell.node) ≡ true = is_taken nodes first last cells line k cell is in
       let none : is_some (held_at nodes cell.node) ≡ false = ap (λ node. is_some (held_at nodes node)) same ∙ ap is_some (get_or_from_slice_get nodes x.node None None free) in

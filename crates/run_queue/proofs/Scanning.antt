@@ -6,7 +6,7 @@ use Rattle.std.proofs.lemmas.Option.{get_or_from_slice_get, slice_get-map, slice
 use Rattle.sched_base.specs.declared.task.Task.{Task}
 use Rattle.policy_tree.specs.Meaning.{KeyTree}
 use Rattle.run_queue.specs.declared.line.Spot.{Spot}
-use Rattle.run_queue.specs.Code.Lines.{Cell, LineView, spot_at, tasks_of}
+use Rattle.run_queue.specs.Code.Lines.{Cell, LineView, node_at, spot_at, tasks_of}
 use Rattle.run_queue.specs.Code.Scans.{CanScan}
 use Rattle.run_queue.specs.Tasks.{IsSeenTask, QueueView, without_first}
 use Rattle.run_queue.proofs.Lines.{spot_cell}
@@ -82,3 +82,9 @@ pub view_without : (line after : LineView) (order : List KeyTree) (k : ℕ) (tas
 view_without line after order k tasks is rest =
     ap (λ (l : LineView). queue_of l order) is
     ∙ ap (λ (t : List Task). let q : QueueView = record { tasks = t; order = order; room = line.room } in q) (tasks_of-remove line.cells k ∙ rest)
+
+-- the node of a spot
+pub node_of_spot : (cells : List Cell) (k : ℕ) (spot : Spot) → spot_at cells k ≡ Some spot → node_at cells k ≡ Some spot.node
+node_of_spot cells k spot is =
+    let of = spot_cell cells k spot is in
+    ap (option_map (λ (cell : Cell). cell.node)) of.found ∙ ap (λ (n : ℕ). Some n) (sym of.node)

@@ -4,11 +4,15 @@
 //! elected, and how many tasks have room.
 #![tactic(auto)]
 
+mod heap;
 mod line;
 mod links;
 pub mod memory;
+mod numbers;
 pub mod queue;
+mod ranked;
 mod scans;
+mod sift;
 
 pub use crate::memory::QueueMemory;
 pub use crate::queue::Queue;

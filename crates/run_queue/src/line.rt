@@ -38,6 +38,7 @@ impl Model for Line {
 
 impl Line {
     ghost use Rattle.sched_base.specs.declared.task.Task.{Task};
+    ghost use Rattle.run_queue.specs.Code.Ahead.{HasNode, task_at};
     ghost use Rattle.run_queue.specs.Code.Lines.{IsSpot, spot_at, tasks_of};
 
     /// A line without tasks, with room for so many.
@@ -59,10 +60,11 @@ impl Line {
         self.len
     }
 
-    /// The task comes to the line's end.
-    pub(crate) fn push(&mut self, task: Task)
+    /// The task comes to the line's end, in a node that wasn't the line's.
+    pub(crate) fn push(&mut self, task: Task) -> Index
         requires { length self.old.cells < self.old.room }
-        ensures tasks { tasks_of self.new.cells ≡ tasks_of self.old.cells ++ task ∷ [] }
+        ensures cells { self.new.cells ≡ self.old.cells ++ record { node = result; task = task } ∷ [] }
+        ensures fresh { HasNode self.old.cells result → ⊥ }
         ensures room { self.new.room ≡ self.old.room }
     {
         let Ok(node) = self.pool.take(task) else {
@@ -71,6 +73,7 @@ impl Line {
         self.first = relink(&mut self.pool, self.first, self.last, Some(node));
         self.last = Some(node);
         self.len += 1;
+        node
     }
 
     /// The first place. `None` where there is no task.
@@ -100,6 +103,31 @@ impl Line {
             slice_get (tasks_of self.now.cells) k ≡ Some result.now }
     {
         self.pool.get(spot.node)
+    }
+
+    /// The task in that node.
+    pub(crate) fn task_of(&self, node: Index) -> &Task
+        requires { HasNode self.now.cells node }
+        ensures { result.now ≡ task_at self.now.cells node }
+    {
+        self.pool.get(node)
+    }
+
+    /// The place of that node. It walks along the links, for the node before it.
+    pub(crate) fn spot_of(&self, node: Index) -> Spot
+        requires { HasNode self.now.cells node }
+        ensures spot { IsSpot self.now.cells result }
+        ensures node { result.node ≡ node }
+    {
+        let mut next = self.first();
+        for _place in 0..self.len() {
+            let Some(spot) = next else { unreachable!() };
+            if spot.node == node {
+                return spot;
+            }
+            next = self.after(spot);
+        }
+        unreachable!()
     }
 
     /// Takes the task of that place out.

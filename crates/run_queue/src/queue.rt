@@ -6,9 +6,12 @@ ghost use Rattle.policy_tree.specs.Meaning.{order_tree};
 ghost use Rattle.policy_eval.specs.Evaluable.{IsEvaluableOrder};
 ghost use Rattle.policy_eval.specs.Orders.{best_of};
 
+use crate::heap::{add, take_out};
 use crate::line::Line;
 use crate::memory::QueueMemory;
-use crate::scans::{best_spot, thread_spot, weight_of};
+use crate::numbers::next_number;
+use crate::ranked::Ranked;
+use crate::scans::{best_spot, thread_spot};
 use policy_tree::{Order, copy_of_order};
 use sched_base::{Task, ThreadId};
 use std::alloc::Global;
@@ -22,14 +25,21 @@ pub struct Queue {
     line: Line,
     /// The keys by which the best task is elected.
     order: Order,
+    /// The nodes of the line. The best task's is the root.
+    heap: Vec<Ranked>,
+    /// The number for the task that comes next.
+    next: u32,
+    /// The weights of the tasks, added up.
+    sum: u64,
 }
 
 impl Model for Queue {
     ghost use Rattle.policy_tree.specs.Meaning.{order_tree};
     ghost use Rattle.std.specs.Coded.{codes};
     ghost use Rattle.run_queue.specs.Code.Codes.{key_code};
-    ghost use Rattle.run_queue.specs.Code.Scans.{CanScan};
     ghost use Rattle.run_queue.specs.Code.Lines.{tasks_of};
+    ghost use Rattle.run_queue.specs.Code.Queues.{IsKept};
+    ghost use Rattle.std.specs.Vec.{vec_capacity};
     ghost use Rattle.run_queue.specs.Tasks.{QueueView};
 
     ghost Value = { QueueView };
@@ -38,7 +48,7 @@ impl Model for Queue {
 
     ghost view = { λ q. record { tasks = tasks_of q.line.cells; order = order_tree q.order; room = q.line.room } };
 
-    ghost invariant = { λ q. CanScan (order_tree q.order) (tasks_of q.line.cells) };
+    ghost invariant = { λ q. IsKept (order_tree q.order) q.line q.heap.items (vec_capacity q.heap) q.next q.sum };
 }
 
 impl Queue {
@@ -49,9 +59,13 @@ impl Queue {
         requires { IsEvaluableOrder (order_tree elect.now) }
         ensures { IfOk result (λ queue. queue ≡ record { tasks = []; order = order_tree elect.now; room = room }) }
     {
-        let line = Line::with_room(alloc, room)?;
-        let order = copy_of_order(alloc, elect)?;
-        Ok(Queue { line, order })
+        Ok(Queue {
+            line: Line::with_room(alloc, room)?,
+            order: copy_of_order(alloc, elect)?,
+            heap: Vec::with_capacity(alloc, room as usize)?,
+            next: 0,
+            sum: 0,
+        })
     }
 
     /// The number of tasks.
@@ -72,7 +86,7 @@ impl Queue {
     pub fn load(&self) -> u64
         ensures { result ≡ sum_by (λ (t : Task). t.weight) self.now.tasks }
     {
-        weight_of(&self.line)
+        self.sum
     }
 
     /// The task comes to the queue's end.
@@ -81,7 +95,16 @@ impl Queue {
         requires task { IsSeenTask task }
         ensures { self.new ≡ record self.old { tasks = self.old.tasks ++ task ∷ [] } }
     {
-        self.line.push(task);
+        let arrival = next_number(&self.line, &self.order, &mut self.heap, self.next);
+        let node = self.line.push(task);
+        add(
+            &self.line,
+            &self.order,
+            &mut self.heap,
+            Ranked { node, arrival },
+        );
+        self.next = arrival + 1;
+        self.sum += u64::from(task.weight);
     }
 
     /// Takes out the best task by the elect keys, of equals the earliest. `None` where there is no task.
@@ -91,8 +114,11 @@ impl Queue {
           tasks = rest_of_best (before self.old.order) self.old.tasks;
         } }
     {
-        let spot = best_spot(&self.line, &self.order)?;
-        Some(self.line.remove(spot))
+        let root = *self.heap.first()?;
+        let spot = self.line.spot_of(root.node);
+        let task = take_out(&mut self.line, &self.order, &mut self.heap, spot);
+        self.sum -= u64::from(task.weight);
+        Some(task)
     }
 
     /// The number of the best task by those keys, of equals the earliest. `None` where there is no task.
@@ -110,6 +136,8 @@ impl Queue {
         ensures rest { self.new ≡ record self.old { tasks = without_first (is_thread id) self.old.tasks } }
     {
         let spot = thread_spot(&self.line, id)?;
-        Some(self.line.remove(spot))
+        let task = take_out(&mut self.line, &self.order, &mut self.heap, spot);
+        self.sum -= u64::from(task.weight);
+        Some(task)
     }
 }

@@ -1,6 +1,6 @@
 //! Walks along a line, for the task that is sought.
 
-ghost use Rattle.std.specs.Prelude.{◌≡◌, ℕ, All, MatchOption, Some, [], cond, slice_get, sum_by};
+ghost use Rattle.std.specs.Prelude.{◌≡◌, ℕ, All, MatchOption, Some, [], cond, slice_get};
 ghost use Rattle.sched_base.specs.declared.task.Task.{Task};
 ghost use Rattle.policy_tree.specs.Meaning.{order_tree};
 ghost use Rattle.policy_eval.specs.Evaluable.{IsEvaluableOrder};
@@ -48,7 +48,7 @@ fn better_spot(line: &Line, order: &Order, earlier: Spot, later: Spot) -> Spot
 }
 
 /// Whether the first task comes strictly before the second.
-fn comes_first(order: &Order, first: &Task, second: &Task) -> bool
+pub(crate) fn comes_first(order: &Order, first: &Task, second: &Task) -> bool
     requires order { IsEvaluableOrder (order_tree order.now) }
     requires first { IsSeenTask first.now }
     requires second { IsSeenTask second.now }
@@ -70,19 +70,4 @@ pub(crate) fn thread_spot(line: &Line, id: ThreadId) -> Option<Spot>
         next = line.after(spot);
     }
     None
-}
-
-/// The weights of the tasks, added up.
-pub(crate) fn weight_of(line: &Line) -> u64
-    ensures { result ≡ sum_by (λ (t : Task). t.weight) (tasks_of line.now.cells) }
-{
-    let mut sum = 0;
-    let mut here = line.first();
-    for _place in 0..line.len() {
-        let Some(spot) = here else { unreachable!() };
-        let task = line.task(spot);
-        sum += u64::from(task.weight);
-        here = line.after(spot);
-    }
-    sum
 }

@@ -12,3 +12,6 @@ pub mod LastRounds
 pub mod PaidLemmas
 pub mod ReportLemmas
 pub mod OneReport
+pub mod CauseLemmas
+pub mod StealLemmas
+pub mod WasteLemmas

@@ -133,7 +133,7 @@ module _ (p : Meaning) (plan : Plan) (history : List Entry) where
         let row = All-contains (IsStillRow p plan history) ys has.row other.each has.among in
         subst (Contains ys) (one_row has.row z has.first_is has.last_is row is) has.among
 
-    one_stills : (xs ys : List StillRow) → AreStillRows p plan history xs → AreStillRows p plan history ys → xs ≡ ys
+    pub one_stills : (xs ys : List StillRow) → AreStillRows p plan history xs → AreStillRows p plan history ys → xs ≡ ys
     one_stills xs ys one other = same_rows xs ys (in_order xs one.ordered) (in_order ys other.ordered) (found_in xs ys one other) (found_in ys xs other one)
 
 pub one_report : OneReportLaw

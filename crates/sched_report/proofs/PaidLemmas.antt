@@ -15,7 +15,7 @@ use Rattle.round_model.specs.declared.plan.Plan.{Plan}
 use Rattle.round_model.specs.After.{after}
 use Rattle.round_model.specs.Fits.{Fits}
 use Rattle.round_model.specs.Kinds.{is_round}
-use Rattle.round_model.specs.Legal.{Whole, rounds_begun}
+use Rattle.round_model.specs.Legal.{Legal, Whole, rounds_begun}
 use Rattle.round_model.specs.Rounds.{BeginsAt, IsBad}
 use Rattle.round_model.specs.Spread.{Beside}
 use Rattle.round_laws.proofs.Bests.{filtered_pass}
@@ -74,11 +74,11 @@ module _ (p : Meaning) (plan : Plan) (history : List Entry) where
     begins : BeginsAt history (suc before) opening
     is : row ≡ round_row plan (suc before) (after p plan (take opening history))
 
-  module _ (whole : Whole p plan history) where
+  module _ (legal : Legal p plan history) where
     each_row : All IsRowOf (round_rows p plan history)
     each_row k d inside =
         let begun : k < rounds_begun history = omega (arith, rows_counted p plan history) in
-        let told = round_told p plan history whole.legal k begun in
+        let told = round_told p plan history legal k begun in
         record {
           before = k;
           begun = begun;
@@ -87,6 +87,21 @@ module _ (p : Meaning) (plan : Plan) (history : List Entry) where
           is = get_or_from_slice_get (round_rows p plan history) k (round_row plan (suc k) (after p plan (take told.opening history))) d told.row;
         }
 
+    -- the sums of the rows are small
+    pub few_rows : length history ≤ MAX_ENTRIES → length (round_rows p plan history) ≤ MAX_ENTRIES
+    few_rows few = omega (arith, rows_counted p plan history, count_by-le-length is_round history)
+
+    pub small_sum : Fits p plan → length history ≤ MAX_ENTRIES → sum_by (λ (row : RoundRow). row.idle) (round_rows p plan history) < 2 ^ 32
+    small_sum fits few =
+        let rows = round_rows p plan history in
+        let cores = fits.few_cores in
+        let each : All (λ (row : RoundRow). row.idle ≤ MAX_CORES) rows =
+        All-weaker IsRowOf (λ (row : RoundRow). row.idle ≤ MAX_CORES)
+        (λ row told. let idle = few_idle plan (after p plan (take told.opening history)) (suc told.before) in let same : row.idle ≡ (round_row plan (suc told.before) (after p plan (take told.opening history))).idle = ap (λ (x : RoundRow). x.idle) told.is in omega arith)
+        rows each_row in
+        omega (arith, sum_by-le (λ (row : RoundRow). row.idle) MAX_CORES rows each, few_rows few)
+
+  module _ (whole : Whole p plan history) where
     -- a bad row among those of some rounds is that of a bad round
     abbrev IsBadAmong : ℕ → ℕ → ℕ → Type 0
     IsBadAmong first last number = (first ≤ number) × (number ≤ last) × IsBad p plan history number
@@ -114,7 +129,7 @@ module _ (p : Meaning) (plan : Plan) (history : List Entry) where
         ∙ beside_is_bad plan (after p plan (take told.opening history)) (suc told.before) (subst (λ k. Beside plan (after p plan (take k history))) same bad.beside)
 
     pub bad_exactly : (row : RoundRow) → Contains (round_rows p plan history) row → IsTrue (is_bad row) ↔ IsBad p plan history row.number
-    bad_exactly row among = let told = All-contains IsRowOf (round_rows p plan history) row each_row among in (bad_round row told, round_bad row told)
+    bad_exactly row among = let told = All-contains IsRowOf (round_rows p plan history) row (each_row whole.legal) among in (bad_round row told, round_bad row told)
 
     bad_row : (first last : ℕ) (row : RoundRow) → IsRowOf row → is_bad_within first last row ≡ true → IsBadAmong first last row.number
     bad_row first last row told passes =
@@ -129,7 +144,7 @@ module _ (p : Meaning) (plan : Plan) (history : List Entry) where
         let kept = filter test rows in
         All-map (IsBadAmong first last) number_of kept
         (All-weaker (Contains kept) (λ row. IsBadAmong first last row.number)
-        (λ row among. bad_row first last row (All-contains IsRowOf kept row (All-filter test IsRowOf rows each_row) among) (filtered_pass test rows row among)) kept (All-contains_itself kept))
+        (λ row among. bad_row first last row (All-contains IsRowOf kept row (All-filter test IsRowOf rows (each_row whole.legal)) among) (filtered_pass test rows row among)) kept (All-contains_itself kept))
 
     pub paid_row : Fits p plan → MeetsObligations p → (row : StillRow) → IsStillRow p plan history row → 2 * row.bad ≤ row.spread
     paid_row fits meets row is =
@@ -140,17 +155,3 @@ module _ (p : Meaning) (plan : Plan) (history : List Entry) where
         let paid = (still_rounds p plan history fits meets whole.legal).bad_rounds_paid row.first row.last is.opening (map number_of (filter test rows)) is.longest.still is.begins rise.0 (bad_rows row.first row.last) in
         let bad = is.bad in let spread = is.spread in
         omega (arith, length-map (filter test rows) number_of, length-filter test rows)
-
-    -- and the sums of the rows are small
-    pub few_rows : length history ≤ MAX_ENTRIES → length (round_rows p plan history) ≤ MAX_ENTRIES
-    few_rows few = omega (arith, rows_counted p plan history, count_by-le-length is_round history)
-
-    pub small_sum : Fits p plan → length history ≤ MAX_ENTRIES → sum_by (λ (row : RoundRow). row.idle) (round_rows p plan history) < 2 ^ 32
-    small_sum fits few =
-        let rows = round_rows p plan history in
-        let cores = fits.few_cores in
-        let each : All (λ (row : RoundRow). row.idle ≤ MAX_CORES) rows =
-        All-weaker IsRowOf (λ (row : RoundRow). row.idle ≤ MAX_CORES)
-        (λ row told. let idle = few_idle plan (after p plan (take told.opening history)) (suc told.before) in let same : row.idle ≡ (round_row plan (suc told.before) (after p plan (take told.opening history))).idle = ap (λ (x : RoundRow). x.idle) told.is in omega arith)
-        rows each_row in
-        omega (arith, sum_by-le (λ (row : RoundRow). row.idle) MAX_CORES rows each, few_rows few)

@@ -9,7 +9,6 @@ use Rattle.std.proofs.lemmas.List.Sums.{count_by-le-length}
 use mathlib.Core.Option.{some, some-injective, some-ne-none}
 use lib.ListN.{get_elem?}
 use Rattle.policy_tree.specs.Meaning.{Meaning}
-use Rattle.policy_eval.specs.Obligations.{MeetsObligations}
 use Rattle.round_model.specs.declared.entry.Entry.{Entry}
 use Rattle.round_model.specs.declared.entry.Entry.TheVariants as entry
 use Rattle.round_model.specs.declared.past.Past.{Past}
@@ -24,26 +23,27 @@ use Rattle.round_model.specs.Kinds.{is_round}
 use Rattle.round_model.specs.Legal.{Legal}
 use Rattle.round_model.specs.Reads.{IsReadOf, round_start}
 use Rattle.round_laws.proofs.Choosing.{legal_fail}
-use Rattle.round_laws.proofs.FailedSteals.{failed_steals}
 use Rattle.round_laws.proofs.Positions.{entry_more, seen_before}
-use Rattle.sched_report.specs.Code.Causes.{AddsFail, Causes, Changes, IsFailAfter, IsFailTold, IsFirstCause, MayBeTold}
+use Rattle.sched_report.specs.CauseRows.{IsCause}
+use Rattle.sched_report.specs.Code.Causes.{AddsFail, AreKept, Causes, Changes, IsCauseIn, IsFailTold, IsFirstCause, MayBeTold}
 use Rattle.sched_report.specs.Code.Openings.{row_told}
-use Rattle.sched_report.specs.FailRows.{IsFailRow, fail_at}
+use Rattle.sched_report.specs.FailRows.{fail_at}
 use Rattle.sched_report.specs.RoundRows.{row_at, row_of}
 use Rattle.sched_report.specs.Code.Runs.{flags_with}
 use Rattle.sched_report.specs.Code.Walks.{AreFlags, IsTally, IsTallySoFar}
-use Rattle.sched_report.specs.declared.rows.FailRow.{FailRow}
+use Rattle.sched_report.specs.declared.rows.CauseRow.{CauseRow}
 use Rattle.sched_report.specs.declared.rows.RoundRow.{RoundRow}
 use Rattle.sched_report.specs.declared.walk.Tally.{Tally}
 use Rattle.sched_report.proofs.FlagLemmas.{flags_more}
 use Rattle.sched_report.proofs.OpeningRows.{row_is}
 
--- what is picked of the items of a list with their places
-module _ {X Y : Type 0} (f : ℕ × X → Option Y) where
-  enumerate_more : (n m : ℕ) (xs : List X) (x : X) → m ≡ n + length xs → enumerate_from n (xs ++ x ∷ []) ≡ enumerate_from n xs ++ (m, x) ∷ []
-  enumerate_more n m [] x is = let same : n ≡ m = omega arith in ap (λ k. (k, x) ∷ []) same
-  enumerate_more n m (y ∷ ys) x is = ap (λ rest. (n, y) ∷ rest) (enumerate_more (n + 1) m ys x (omega arith))
+-- the items of a list with their places, and one more
+pub enumerate_more : {X : Type 0} (n m : ℕ) (xs : List X) (x : X) → m ≡ n + length xs → enumerate_from n (xs ++ x ∷ []) ≡ enumerate_from n xs ++ (m, x) ∷ []
+enumerate_more n m [] x is = let same : n ≡ m = omega arith in ap (λ k. (k, x) ∷ []) same
+enumerate_more n m (y ∷ ys) x is = ap (λ rest. (n, y) ∷ rest) (enumerate_more (n + 1) m ys x (omega arith))
 
+-- what is picked of them
+module _ {X Y : Type 0} (f : ℕ × X → Option Y) where
   one_picked : (o : Option Y) → cons_option o [] ≡ option_to_list o
   one_picked None = refl
   one_picked (Some y) = refl
@@ -141,57 +141,47 @@ module _ (p : Meaning) (plan : Plan) (history : List Entry) (at : ℕ) (inside :
         by_core (inl thief) = inl (moved by (thief ∙ same_thief is.thief is.victim is.reads same))
         by_core (inr victim) = inr (moved from (victim ∙ same_victim is.thief is.victim is.reads same))
 
-    -- the row that was told is the row of the Fail
-    fail_row_is : (past : Past) (row : FailRow) → StandsFor p plan past (take at history) → by < plan.cores → from < plan.cores → IsFailTold past by from reads row
-        → (row.at ≡ at) × IsFailRow p plan history row
-    fail_row_is past row stands thief victim told =
-        let here : row.at ≡ at = told.at ∙ (stands.entries ∙ long) in
-        let is = told.by_is p plan (take at history) stands thief victim in (
-          here,
-          record {
-            explains = subst (λ k. Explains p plan history k row.by) (sym here) (explaining row.by (let within = is.inside in omega (arith, long)) is.causes);
-            first = λ cause explains. by_order cause (subst (λ k. Explains p plan history k cause) here explains) is (cases_lt cause row.by);
-          },
-        )
-      where
-        by_order : (cause : ℕ) → Explains p plan history at cause → IsFirstCause p plan (take at history) by from reads row.by → (cause < row.by) ⊎ (row.by ≤ cause) → row.by ≤ cause
-        by_order cause explains is (inl early) = absurd (is.first cause early (causing cause explains))
-        by_order cause explains is (inr late) = late
+    first_of : (k : ℕ) → IsFirstCause p plan (take at history) by from reads k → (cause : ℕ) → Explains p plan history at cause → (cause < k) ⊎ (k ≤ cause) → k ≤ cause
+    first_of k is cause explains (inl early) = absurd (is.first cause early (causing cause explains))
+    first_of k is cause explains (inr late) = late
 
-  module _ (fits : Fits p plan) (meets : MeetsObligations p) (legal : Legal p plan history) (past : Past) (belongs : IsPastOf p plan past) (stands : StandsFor p plan past (take at history)) where
+    -- what was told to be the cause is that of the Fail
+    cause_is : (o : Option ℕ) → IsCauseIn p plan (take at history) by from reads o → IsCause p plan history at o
+    cause_is None none = λ cause explains. none cause (let before = explains.before_fail in omega (arith, long)) (causing cause explains)
+    cause_is (Some k) is = record {
+      explains = explaining k (let within = is.inside in omega (arith, long)) is.causes;
+      first = λ cause explains. first_of k is cause explains (cases_lt cause k);
+    }
+
+    -- the row that was told is the row of the Fail
+    cause_row_is : (past : Past) (row : CauseRow) → StandsFor p plan past (take at history) → by < plan.cores → from < plan.cores → IsFailTold past by from reads row
+        → (row.at ≡ at) × IsCause p plan history row.at row.by
+    cause_row_is past row stands thief victim told =
+        let here : row.at ≡ at = told.at ∙ (stands.entries ∙ long) in
+        (here, subst (λ k. IsCause p plan history k row.by) (sym here) (cause_is row.by (told.by_is p plan (take at history) stands thief victim)))
+
+  module _ (fits : Fits p plan) (legal : Legal p plan history) (past : Past) (belongs : IsPastOf p plan past) (stands : StandsFor p plan past (take at history)) where
     kept_read : (read : ℕ) → IsReadOf (round_start (take at history)) (length (take at history)) read → IsKeptPosition past read
     kept_read read is =
         let low = is.in_round in let high = is.before_entry in let entries = stands.entries in let window = stands.rows.window in
         record { not_after = omega arith; not_before = omega arith }
 
     -- the row of a Fail may be told
-    fail_told : (by from : ℕ) (reads : List ℕ) → get_elem? history at ≡ some (entry.Fail by from reads) → IsFailAfter past by from reads
-    fail_told by from reads fails =
+    fail_kept : (by from : ℕ) (reads : List ℕ) → get_elem? history at ≡ some (entry.Fail by from reads) → AreKept past by from reads
+    fail_kept by from reads fails =
         let failed = legal_fail p plan (take at history) by from reads (legal at (entry.Fail by from reads) fails) in
         let fit = failed.read in
         let few = fits.few_cores in
         let thief = failed.thief_there in
         let victim = failed.candidate.there in
-        let explained = (failed_steals p plan history fits meets legal at by from reads fails) in
         record {
-          p = p;
-          plan = plan;
-          history = take at history;
-          stands = stands;
-          thief_there = thief;
-          victim_there = victim;
-          kept = record {
-            window = belongs.window;
-            thief_there = omega arith;
-            victim_there = omega arith;
-            thief_read = omega (arith, fit.one_each);
-            victim_read = omega (arith, fit.one_each);
-            thief_kept = kept_read (slice_index reads by) (fit.each by 0 (omega (arith, fit.one_each)));
-            victim_kept = kept_read (slice_index reads from) (fit.each from 0 (omega (arith, fit.one_each)));
-          };
-          cause = explained.cause;
-          inside = let before = explained.explains.before_fail in omega (arith, long);
-          causes = causing by from reads fails explained.cause explained.explains;
+          window = belongs.window;
+          thief_there = omega arith;
+          victim_there = omega arith;
+          thief_read = omega (arith, fit.one_each);
+          victim_read = omega (arith, fit.one_each);
+          thief_kept = kept_read (slice_index reads by) (fit.each by 0 (omega (arith, fit.one_each)));
+          victim_kept = kept_read (slice_index reads from) (fit.each from 0 (omega (arith, fit.one_each)));
         }
 
     pub may_be_told : (e : Entry) → get_elem? history at ≡ some e → MayBeTold past e
@@ -200,24 +190,27 @@ module _ (p : Meaning) (plan : Plan) (history : List Entry) (at : ℕ) (inside :
     may_be_told (entry.Wake thread by to reads) is = tt
     may_be_told (entry.Work by what) is = tt
     may_be_told (entry.Steal by from thread reads) is = tt
-    may_be_told (entry.Fail by from reads) is = fail_told by from reads is
+    may_be_told (entry.Fail by from reads) is = fail_kept by from reads is
     may_be_told (entry.Pass by reads) is = tt
 
     -- the rows of failed steals with those of the entry
-    abbrev at_of : FailRow → ℕ
+    abbrev at_of : CauseRow → ℕ
     at_of row = row.at
 
-    record FailsMore (e : Entry) (old new : List FailRow) : Type 0 where
-      positions : map at_of new ≡ map at_of old ++ option_to_list (fail_at (at, e))
-      fails : All (IsFailRow p plan history) old → All (IsFailRow p plan history) new
+    abbrev HasItsCause : CauseRow → Type 0
+    HasItsCause row = IsCause p plan history row.at row.by
 
-    same_fails : (e : Entry) (old new : List FailRow) → fail_at (at, e) ≡ None → new ≡ old → FailsMore e old new
+    record FailsMore (e : Entry) (old new : List CauseRow) : Type 0 where
+      positions : map at_of new ≡ map at_of old ++ option_to_list (fail_at (at, e))
+      causes : All HasItsCause old → All HasItsCause new
+
+    same_fails : (e : Entry) (old new : List CauseRow) → fail_at (at, e) ≡ None → new ≡ old → FailsMore e old new
     same_fails e old new none same = record {
       positions = ap (map at_of) same ∙ (sym (append-nil (map at_of old)) ∙ ap (λ o. map at_of old ++ option_to_list o) (sym none));
-      fails = λ each. subst (All (IsFailRow p plan history)) (sym same) each;
+      causes = λ each. subst (All HasItsCause) (sym same) each;
     }
 
-    fails_more : (e : Entry) (old new : List FailRow) → get_elem? history at ≡ some e → AddsFail past e old new → FailsMore e old new
+    fails_more : (e : Entry) (old new : List CauseRow) → get_elem? history at ≡ some e → AddsFail past e old new → FailsMore e old new
     fails_more (entry.Round number) old new is same = same_fails (entry.Round number) old new refl same
     fails_more (entry.Enter thread by to reads) old new is same = same_fails (entry.Enter thread by to reads) old new refl same
     fails_more (entry.Wake thread by to reads) old new is same = same_fails (entry.Wake thread by to reads) old new refl same
@@ -226,18 +219,18 @@ module _ (p : Meaning) (plan : Plan) (history : List Entry) (at : ℕ) (inside :
     fails_more (entry.Pass by reads) old new is same = same_fails (entry.Pass by reads) old new refl same
     fails_more (entry.Fail by from reads) old new is (row, same, told) =
         let failed = legal_fail p plan (take at history) by from reads (legal at (entry.Fail by from reads) is) in
-        let found = fail_row_is by from reads is past row stands failed.thief_there failed.candidate.there told in
+        let found = cause_row_is by from reads is past row stands failed.thief_there failed.candidate.there told in
         record {
           positions = ap (map at_of) same ∙ (map-append at_of old (row ∷ []) ∙ ap (λ n. map at_of old ++ n ∷ []) found.0);
-          fails = λ each. subst (All (IsFailRow p plan history)) (sym same) (All-push (IsFailRow p plan history) old row each found.1);
+          causes = λ each. subst (All HasItsCause) (sym same) (All-push HasItsCause old row each found.1);
         }
 
     -- what is told with the entry
     pub tally_more : (e : Entry) (old new : Tally) (state : List ModelCore) → get_elem? history at ≡ some e → IsTallySoFar p plan history at old
         → state ≡ listed plan.cores (after p plan (take at history)) → new.rounds ≡ old.rounds ++ option_to_list (row_told state e) → new.still ≡ flags_with e old.still
-        → AddsFail past e old.fails new.fails → IsTallySoFar p plan history (suc at) new
+        → AddsFail past e old.causes new.causes → IsTallySoFar p plan history (suc at) new
     tally_more e old new state is so_far cores rounds still fails =
-        let more = fails_more e old.fails new.fails is fails in
+        let more = fails_more e old.causes new.causes is fails in
         record {
           rounds = rounds
               ∙ (ap₂ (λ (front : List RoundRow) (o : Option RoundRow). front ++ option_to_list o) so_far.rounds (told_is plan (after p plan (take at history)) state e cores)
@@ -245,16 +238,16 @@ module _ (p : Meaning) (plan : Plan) (history : List Entry) (at : ℕ) (inside :
           still = subst (λ h. AreFlags h new.still) (sym (entry_more history at e is))
               (subst (AreFlags (take at history ++ e ∷ [])) (sym still) (flags_more p plan (take at history) e stands.legal (legal at e is) old.still so_far.still));
           positions = more.positions ∙ (ap (λ front. front ++ option_to_list (fail_at (at, e))) so_far.positions ∙ sym (picked_more fail_at history at e is inside));
-          fails = more.fails so_far.fails;
+          causes = more.causes so_far.causes;
         }
 
 -- of no entry nothing is told
-pub tally_none : (p : Meaning) (plan : Plan) (history : List Entry) (tally : Tally) → tally ≡ record { rounds = []; still = []; fails = [] } → IsTallySoFar p plan history 0 tally
+pub tally_none : (p : Meaning) (plan : Plan) (history : List Entry) (tally : Tally) → tally ≡ record { rounds = []; still = []; causes = [] } → IsTallySoFar p plan history 0 tally
 tally_none p plan history tally is = record {
   rounds = ap (λ (t : Tally). t.rounds) is;
   still = subst (AreFlags []) (sym (ap (λ (t : Tally). t.still) is)) (record { count = refl; still = λ r flagged k e there. absurd (some-ne-none e (sym there)); stirred = λ r positive within. absurd (omega arith) });
-  positions = ap (λ (t : Tally). map (λ (row : FailRow). row.at) t.fails) is;
-  fails = subst (All (IsFailRow p plan history)) (sym (ap (λ (t : Tally). t.fails) is)) (λ k d inside. absurd (omega arith));
+  positions = ap (λ (t : Tally). map (λ (row : CauseRow). row.at) t.causes) is;
+  causes = subst (All (λ (row : CauseRow). IsCause p plan history row.at row.by)) (sym (ap (λ (t : Tally). t.causes) is)) (λ k d inside. absurd (omega arith));
 }
 
 -- at the end all is told
@@ -264,7 +257,7 @@ tally_whole p plan history at tally ended so_far =
     record {
       rounds = so_far.rounds ∙ ap (λ h. filter_map (row_at p plan history) (enumerate_from 0 h)) all;
       still = subst (λ h. AreFlags h tally.still) all so_far.still;
-      fails = record { positions = so_far.positions ∙ ap (λ h. filter_map fail_at (enumerate_from 0 h)) all; each = so_far.fails };
+      causes = record { positions = so_far.positions ∙ ap (λ h. filter_map fail_at (enumerate_from 0 h)) all; each = so_far.causes };
     }
 
 -- there are no more rows, flags or Fails than entries
@@ -278,6 +271,6 @@ module _ (p : Meaning) (plan : Plan) (history : List Entry) (at : ℕ) (tally : 
   pub few_flags : length tally.still ≤ at
   few_flags = let count = so_far.still.count in omega (arith, count_by-le-length is_round (take at history), front_within)
 
-  pub few_fails : length tally.fails ≤ at
+  pub few_fails : length tally.causes ≤ at
   few_fails =
-      omega (arith, ap length so_far.positions, few_picked fail_at 0 (take at history), length-map tally.fails (λ (row : FailRow). row.at), front_within)
+      omega (arith, ap length so_far.positions, few_picked fail_at 0 (take at history), length-map tally.causes (λ (row : CauseRow). row.at), front_within)

@@ -3,4 +3,6 @@
 pub mod Causes
 pub mod Openings
 pub mod Runs
+pub mod Steals
+pub mod Tellings
 pub mod Walks

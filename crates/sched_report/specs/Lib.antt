@@ -1,3 +1,4 @@
+pub mod CauseRows
 pub mod Code
 pub mod FailRows
 pub mod Laws
@@ -5,3 +6,5 @@ pub mod Lines
 pub mod Reports
 pub mod RoundRows
 pub mod StillRows
+pub mod StretchRows
+pub mod Wastes

@@ -1,10 +1,13 @@
 -- How a report is written, line by line.
-use Rattle.std.specs.Prelude.{ℕ, List, [], ◌∷◌, ◌++◌, codes, decimal, map}
+use Rattle.std.specs.Prelude.{ℕ, List, [], ◌∷◌, ◌++◌, Option, None, Some, codes, decimal, map}
+use Rattle.sched_report.specs.declared.rows.CauseRow.{CauseRow}
 use Rattle.sched_report.specs.declared.rows.FailRow.{FailRow}
 use Rattle.sched_report.specs.declared.rows.FullReport.{FullReport}
 use Rattle.sched_report.specs.declared.rows.RoundRow.{RoundRow}
 use Rattle.sched_report.specs.declared.rows.StillRow.{StillRow}
+use Rattle.sched_report.specs.declared.rows.StretchRow.{StretchRow}
 use Rattle.sched_report.specs.declared.rows.Totals.{Totals}
+use Rattle.sched_report.specs.declared.rows.WasteReport.{WasteReport}
 
 -- words and the number behind them
 abbrev pub named : List ℕ → ℕ → List ℕ
@@ -14,12 +17,28 @@ abbrev pub line_of_round : RoundRow → List ℕ
 line_of_round row = named (codes "round ") row.number ++ named (codes " spread ") row.spread
     ++ named (codes " idle ") row.idle ++ codes "\n"
 
+-- the line of a stretch, up to that end
+abbrev pub still_until : StillRow → List ℕ → List ℕ
+still_until row end = named (codes "still ") row.first ++ named (codes " ") row.last
+    ++ named (codes " spread ") row.spread ++ named (codes " bad ") row.bad ++ end
+
 abbrev pub line_of_still : StillRow → List ℕ
-line_of_still row = named (codes "still ") row.first ++ named (codes " ") row.last
-    ++ named (codes " spread ") row.spread ++ named (codes " bad ") row.bad ++ codes "\n"
+line_of_still row = still_until row (codes "\n")
+
+-- the same with its steals
+abbrev pub line_of_stretch : StretchRow → List ℕ
+line_of_stretch row = still_until row.still (named (codes " steals ") row.steals ++ codes "\n")
 
 abbrev pub line_of_fail : FailRow → List ℕ
 line_of_fail row = named (codes "fail ") row.at ++ named (codes " by ") row.by ++ codes "\n"
+
+-- so it is where an entry explains the Fail. Where none does, its position stands alone
+abbrev pub line_of_cause_at : ℕ → Option ℕ → List ℕ
+line_of_cause_at at None = named (codes "fail ") at ++ codes "\n"
+line_of_cause_at at (Some by) = line_of_fail (record { at = at; by = by })
+
+abbrev pub line_of_cause : CauseRow → List ℕ
+line_of_cause row = line_of_cause_at row.at row.by
 
 abbrev pub line_of_total : List ℕ → ℕ → List ℕ
 line_of_total word number = named word number ++ codes "\n"
@@ -39,3 +58,8 @@ totals_lines totals =
 abbrev pub report_lines : FullReport → List (List ℕ)
 report_lines report = map line_of_round report.rounds ++ map line_of_still report.stills
     ++ map line_of_fail report.fails ++ totals_lines report.totals
+
+-- the lines of a report on a policy that may waste cores, in the same order
+abbrev pub waste_lines : WasteReport → List (List ℕ)
+waste_lines waste = map line_of_round waste.rounds ++ map line_of_stretch waste.stretches
+    ++ map line_of_cause waste.causes ++ totals_lines waste.totals

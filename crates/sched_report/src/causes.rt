@@ -1,41 +1,45 @@
 //! What explains a failed steal.
 
-ghost use Rattle.std.specs.Prelude.{◌≡◌, ◌≢◌, ◌↔◌, ◌+◌, ◌<◌, ◌≤◌, ◌++◌, ℕ, IfOk, IsTrue, List, MatchOption, length};
+ghost use Rattle.std.specs.Prelude.{◌≡◌, ◌≢◌, ◌↔◌, ◌+◌, ◌<◌, ◌≤◌, ◌++◌, IfOk, IsTrue, List, length};
 ghost use Rattle.policy_tree.specs.Meaning.{Meaning};
 ghost use Rattle.sched_base.specs.declared.limits.TheConstants.{MAX_ENTRIES};
 ghost use Rattle.round_model.specs.declared.entry.Entry.{Entry};
 ghost use Rattle.round_model.specs.declared.plan.Plan.{Plan};
 ghost use Rattle.round_model.specs.Code.Past.{IsKeptPosition, IsWindow, StandsFor};
-ghost use Rattle.sched_report.specs.Code.Causes.{AddsFail, AreKept, Causes, Changes, IsFailAfter, IsFailTold};
-ghost use Rattle.sched_report.specs.Code.Causes.{IsFirstCause, MayBeTold};
+ghost use Rattle.sched_report.specs.Code.Causes.{AddsFail, AreKept, Changes, IsCauseIn, IsFailTold};
+ghost use Rattle.sched_report.specs.Code.Causes.{MayBeTold};
 
-use crate::rows::{FailRow, FailRows};
+use crate::rows::{CauseRow, CauseRows};
 use round_model::state::CountAndLoad;
 use round_model::{Entry, Past};
 use sched_base::{CoreId, MAX_CORES, Pos, Reads};
 use std::alloc::AllocError;
 
 /// Adds the row of the entry, where a steal fails in it, after this past.
-pub(crate) fn note_fail(fails: &mut FailRows, past: &Past, entry: &Entry) -> Result<(), AllocError>
-    requires room { length fails.old < MAX_ENTRIES }
+pub(crate) fn note_fail(
+    causes: &mut CauseRows,
+    past: &Past,
+    entry: &Entry,
+) -> Result<(), AllocError>
+    requires room { length causes.old < MAX_ENTRIES }
     requires told { MayBeTold past.now entry.now }
-    ensures { IfOk result (λ _. AddsFail past.now entry.now fails.old fails.new) }
+    ensures { IfOk result (λ _. AddsFail past.now entry.now causes.old causes.new) }
 {
     match *entry {
-        Entry::Fail { by, from, reads } => fails.push(fail_row(past, by, from, &reads)),
+        Entry::Fail { by, from, reads } => causes.push(cause_row(past, by, from, &reads)),
         Entry::Round { .. } | Entry::Enter { .. } | Entry::Wake { .. } => Ok(()),
         Entry::Work { .. } | Entry::Steal { .. } | Entry::Pass { .. } => Ok(()),
     }
 }
 
 /// The row of a steal that fails after this past.
-fn fail_row(past: &Past, by: CoreId, from: CoreId, reads: &Reads) -> FailRow
-    requires { IsFailAfter past.now by from reads.now }
+fn cause_row(past: &Past, by: CoreId, from: CoreId, reads: &Reads) -> CauseRow
+    requires { AreKept past.now by from reads.now }
     ensures { IsFailTold past.now by from reads.now result }
 {
-    FailRow {
+    CauseRow {
         at: past.entries(),
-        by: first_cause(past, by, from, reads).unwrap(),
+        by: first_cause(past, by, from, reads),
     }
 }
 
@@ -44,8 +48,7 @@ fn first_cause(past: &Past, by: CoreId, from: CoreId, reads: &Reads) -> Option<P
     requires { AreKept past.now by from reads.now }
     ensures { (p : Meaning) (plan : Plan) (history : List Entry) → StandsFor p plan past.now history →
         by < plan.cores → from < plan.cores →
-        MatchOption result ((k : ℕ) → k < length history → ¬ Causes p plan history by from reads.now k)
-        (IsFirstCause p plan history by from reads.now) }
+        IsCauseIn p plan history by from reads.now result }
 {
     let thief_read = reads.get(by);
     let victim_read = reads.get(from);

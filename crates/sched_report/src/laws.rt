@@ -1,6 +1,6 @@
 //! Laws of reports, each a function without parameters whose contract is the law.
 
-ghost use Rattle.sched_report.specs.Laws.{BadRoundsLaw, BadRowsLaw, OneReportLaw};
+ghost use Rattle.sched_report.specs.Laws.{BadRoundsLaw, BadRowsLaw, OneReportLaw, WasteLaw};
 
 /// The row of a round is bad exactly where some core is idle beside an overloaded one as the round opens.
 pub fn law_bad_rows()
@@ -15,4 +15,10 @@ pub fn law_bad_rounds()
 /// A legal history has no two reports.
 pub fn law_one_report()
     ensures { OneReportLaw }
+{}
+
+/// Of a policy that meets its obligations each failed steal has an explanation, and both kinds of report say the same. A
+/// legal history has no two reports that tell its waste.
+pub fn law_waste()
+    ensures { WasteLaw }
 {}

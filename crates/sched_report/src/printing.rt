@@ -1,22 +1,41 @@
 //! How a report is written: a line for each row, and one for each total.
 
-ghost use Rattle.std.specs.Prelude.{◌≡◌, ◌+◌, ◌*◌, ◌≤◌, ℕ, List, ◌++◌, decimal, length, map};
+ghost use Rattle.std.specs.Prelude.{◌≡◌, ◌+◌, ◌*◌, ◌≤◌, ℕ, List, None, ◌++◌, decimal, length, map};
 ghost use Rattle.sched_io.specs.Puts.{Puts};
 ghost use Rattle.sched_report.specs.declared.printing.TheConstants.{WORD_ROOM};
 ghost use Rattle.sched_report.specs.Lines.{line_of_fail, line_of_round, line_of_still, line_of_total, report_lines};
-ghost use Rattle.sched_report.specs.Lines.{totals_lines};
+ghost use Rattle.sched_report.specs.Lines.{line_of_cause, line_of_cause_at, line_of_stretch, still_until, totals_lines, waste_lines};
 
-use crate::rows::{FailRow, FullReport, RoundRow, StillRow, Totals};
+use crate::rows::{
+    CauseRow, FailRow, FullReport, RoundRow, StillRow, StretchRow, Totals, WasteReport,
+};
+use sched_base::Pos;
 use sched_io::{LINE_ROOM, Line, NUMBER_ROOM, PutFault, Sink, put_all};
 
 /// Writes the lines of the report.
 pub fn print_report<S: Sink>(out: &mut S, report: &FullReport) -> Result<(), PutFault>
     ensures { Puts (report_lines report.now) result (S.shown out.old) (S.shown out.new) }
 {
-    put_rows(out, report.rounds.as_slice())?;
-    put_rows(out, report.stills.as_slice())?;
-    put_rows(out, report.fails.as_slice())?;
-    print_totals(out, &report.totals)
+    put_lines(
+        out,
+        report.rounds.as_slice(),
+        report.stills.as_slice(),
+        report.fails.as_slice(),
+        &report.totals,
+    )
+}
+
+/// Writes the lines of the report that tells of waste.
+pub fn print_waste<S: Sink>(out: &mut S, waste: &WasteReport) -> Result<(), PutFault>
+    ensures { Puts (waste_lines waste.now) result (S.shown out.old) (S.shown out.new) }
+{
+    put_lines(
+        out,
+        waste.rounds.as_slice(),
+        waste.stretches.as_slice(),
+        waste.causes.as_slice(),
+        &waste.totals,
+    )
 }
 
 /// Writes the lines of the totals.
@@ -32,6 +51,24 @@ pub fn print_totals<S: Sink>(out: &mut S, totals: &Totals) -> Result<(), PutFaul
         Total::of(b"wasted ", totals.wasted),
     ];
     put_rows(out, &rows)
+}
+
+/// Writes the rows of both kinds of report in their order, and the totals.
+fn put_lines<S: Sink, A: Row, B: Row>(
+    out: &mut S,
+    rounds: &[RoundRow],
+    stretches: &[A],
+    fails: &[B],
+    totals: &Totals,
+) -> Result<(), PutFault>
+    ensures { Puts
+        (map line_of_round rounds.now ++ map A.text stretches.now ++ map B.text fails.now ++ totals_lines totals.now)
+        result (S.shown out.old) (S.shown out.new) }
+{
+    put_rows(out, rounds)?;
+    put_rows(out, stretches)?;
+    put_rows(out, fails)?;
+    print_totals(out, totals)
 }
 
 /// What is written as one line.
@@ -71,14 +108,34 @@ impl Row for StillRow {
     ghost text = { line_of_still };
 
     fn line(&self) -> Line {
-        let mut line = Line::new();
-        add_named(&mut line, b"still ", u64::from(self.first));
-        add_named(&mut line, b" ", u64::from(self.last));
-        add_named(&mut line, b" spread ", self.spread);
-        add_named(&mut line, b" bad ", u64::from(self.bad));
+        let mut line = still_begun(self);
         line.add(b"\n");
         line
     }
+}
+
+impl Row for StretchRow {
+    ghost text = { line_of_stretch };
+
+    fn line(&self) -> Line {
+        let mut line = still_begun(&self.still);
+        add_named(&mut line, b" steals ", u64::from(self.steals));
+        line.add(b"\n");
+        line
+    }
+}
+
+/// The words of a stretch, without the end of its line.
+fn still_begun(still: &StillRow) -> Line
+    ensures line { (end : List ℕ) → result ++ end ≡ still_until still.now end }
+    ensures small { length result ≤ 4 * (WORD_ROOM + NUMBER_ROOM) }
+{
+    let mut line = Line::new();
+    add_named(&mut line, b"still ", u64::from(still.first));
+    add_named(&mut line, b" ", u64::from(still.last));
+    add_named(&mut line, b" spread ", still.spread);
+    add_named(&mut line, b" bad ", u64::from(still.bad));
+    line
 }
 
 impl Row for FailRow {
@@ -91,6 +148,27 @@ impl Row for FailRow {
         line.add(b"\n");
         line
     }
+}
+
+impl Row for CauseRow {
+    ghost text = { line_of_cause };
+
+    fn line(&self) -> Line {
+        match self.by {
+            Some(by) => FailRow { at: self.at, by }.line(),
+            None => unexplained(self.at),
+        }
+    }
+}
+
+/// The line of a failed steal at that position that nothing explains.
+fn unexplained(at: Pos) -> Line
+    ensures { result ≡ line_of_cause_at at None }
+{
+    let mut line = Line::new();
+    add_named(&mut line, b"fail ", u64::from(at));
+    line.add(b"\n");
+    line
 }
 
 /// The longest word of a line, its blanks counted.

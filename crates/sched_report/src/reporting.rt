@@ -1,17 +1,18 @@
-//! The report.
+//! The two kinds of report.
 
 ghost use Rattle.std.specs.Prelude.{◌≤◌, IfOk, length};
 ghost use Rattle.policy_tree.specs.Meaning.{meaning_of};
-ghost use Rattle.policy_eval.specs.Obligations.{MeetsObligations};
+ghost use Rattle.policy_eval.specs.Obligations.{MeetsHandlerObligations, MeetsObligations};
 ghost use Rattle.round_model.specs.Fits.{Fits};
-ghost use Rattle.round_model.specs.Legal.{Whole};
+ghost use Rattle.round_model.specs.Legal.{Legal, Whole};
 ghost use Rattle.sched_report.specs.Reports.{AddsUp, IsPaid, IsReport};
+ghost use Rattle.sched_report.specs.Wastes.{IsWaste};
 
+use crate::explained::explained;
 use crate::memory::ReportMemory;
-use crate::rows::FullReport;
-use crate::stretches::stretches_of;
-use crate::totals::totals_of;
-use crate::walk::walk;
+use crate::rows::{FullReport, WasteReport};
+use crate::steals::{steals_of_rounds, with_steals};
+use crate::telling::tell;
 use policy_tree::Policy;
 use round_model::{History, Plan};
 use sched_base::MAX_ENTRIES;
@@ -33,14 +34,36 @@ pub fn report(
     ensures paid { IfOk result IsPaid }
     ensures adds_up { IfOk result AddsUp }
 {
-    let entries = history.as_slice();
-    let tally = walk(alloc, policy, plan, entries)?;
-    let stills = stretches_of(alloc, tally.rounds.as_slice(), tally.still.as_slice())?;
-    let totals = totals_of(entries, tally.rounds.as_slice());
+    let told = tell(alloc, policy, plan, history)?;
+    let fails = explained(alloc, told.causes.as_slice())?;
     Ok(FullReport {
-        rounds: tally.rounds,
-        stills,
-        fails: tally.fails,
-        totals,
+        rounds: told.rounds,
+        stills: told.stills,
+        fails,
+        totals: told.totals,
+    })
+}
+
+/// The report on a legal history of a policy that may waste cores. It takes as long.
+pub fn waste(
+    alloc: Global,
+    policy: &Policy,
+    plan: &Plan,
+    history: &History,
+) -> Result<WasteReport, ReportMemory>
+    requires fits { Fits (meaning_of policy.now) plan.now }
+    requires handlers { MeetsHandlerObligations (meaning_of policy.now) }
+    requires legal { Legal (meaning_of policy.now) plan.now history.now }
+    requires few { length history.now ≤ MAX_ENTRIES }
+    ensures { IfOk result (IsWaste (meaning_of policy.now) plan.now history.now) }
+{
+    let told = tell(alloc, policy, plan, history)?;
+    let counts = steals_of_rounds(alloc, history.as_slice())?;
+    let stretches = with_steals(alloc, told.stills.as_slice(), counts.as_slice())?;
+    Ok(WasteReport {
+        rounds: told.rounds,
+        stretches,
+        causes: told.causes,
+        totals: told.totals,
     })
 }

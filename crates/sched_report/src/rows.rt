@@ -36,12 +36,34 @@ pub struct FailRow {
     pub by: Pos,
 }
 
+/// What is told of a failed steal that may have no explanation.
+#[derive(Clone, Copy)]
+pub struct CauseRow {
+    /// The position of the Fail.
+    pub at: Pos,
+    /// The position of the first entry that explains it, if any does.
+    pub by: Option<Pos>,
+}
+
+/// What is told of a longest stretch of still rounds, and of its steals.
+#[derive(Clone, Copy)]
+pub struct StretchRow {
+    /// The stretch.
+    pub still: StillRow,
+    /// How many threads are stolen in its rounds.
+    pub steals: u32,
+}
+
 /// A row for each round, in order.
 pub type RoundRows = Items<RoundRow>;
 /// A row for each longest stretch of still rounds, in order.
 pub type StillRows = Items<StillRow>;
 /// A row for each Fail, in order.
 pub type FailRows = Items<FailRow>;
+/// A row for each Fail, in order, whether anything explains it or not.
+pub type CauseRows = Items<CauseRow>;
+/// A row for each longest stretch of still rounds with its steals, in order.
+pub type StretchRows = Items<StretchRow>;
 
 /// What a history comes to.
 #[derive(Clone, Copy)]
@@ -66,5 +88,14 @@ pub struct FullReport {
     pub rounds: RoundRows,
     pub stills: StillRows,
     pub fails: FailRows,
+    pub totals: Totals,
+}
+
+/// What is told of a history of a policy that may waste cores.
+#[derive(Drop)]
+pub struct WasteReport {
+    pub rounds: RoundRows,
+    pub stretches: StretchRows,
+    pub causes: CauseRows,
     pub totals: Totals,
 }

@@ -62,7 +62,7 @@ fn bad_count(rounds: &[RoundRow]) -> u32
 }
 
 /// Whether a core takes a thread in the entry.
-fn is_steal(entry: &Entry) -> bool
+pub(crate) fn is_steal(entry: &Entry) -> bool
     ensures { result ≡ steals entry.now }
 {
     matches!(entry, Entry::Steal { .. })

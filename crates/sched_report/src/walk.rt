@@ -2,7 +2,7 @@
 
 ghost use Rattle.std.specs.Prelude.{◌≡◌, ◌≤◌, [], IfOk, length};
 ghost use Rattle.policy_tree.specs.Meaning.{meaning_of};
-ghost use Rattle.policy_eval.specs.Obligations.{MeetsObligations};
+ghost use Rattle.policy_eval.specs.Obligations.{MeetsHandlerObligations};
 ghost use Rattle.round_model.specs.Fits.{Fits};
 ghost use Rattle.round_model.specs.Legal.{Legal};
 ghost use Rattle.sched_report.specs.Code.Walks.{IsTally};
@@ -10,7 +10,7 @@ ghost use Rattle.sched_report.specs.Code.Walks.{IsTally};
 use crate::causes::note_fail;
 use crate::memory::ReportMemory;
 use crate::openings::note_round;
-use crate::rows::{FailRows, RoundRows};
+use crate::rows::{CauseRows, RoundRows};
 use crate::stretches::{Flags, note_still};
 use policy_tree::Policy;
 use round_model::{Entry, Past, Plan, step};
@@ -22,7 +22,7 @@ use std::alloc::Global;
 pub(crate) struct Tally {
     pub(crate) rounds: RoundRows,
     pub(crate) still: Flags,
-    pub(crate) fails: FailRows,
+    pub(crate) causes: CauseRows,
 }
 
 /// What the history tells.
@@ -33,7 +33,7 @@ pub(crate) fn walk(
     history: &[Entry],
 ) -> Result<Tally, ReportMemory>
     requires fits { Fits (meaning_of policy.now) plan.now }
-    requires meets { MeetsObligations (meaning_of policy.now) }
+    requires handlers { MeetsHandlerObligations (meaning_of policy.now) }
     requires legal { Legal (meaning_of policy.now) plan.now history.now }
     requires few { length history.now ≤ MAX_ENTRIES }
     ensures { IfOk result (IsTally (meaning_of policy.now) plan.now history.now) }
@@ -43,7 +43,7 @@ pub(crate) fn walk(
     for entry in history {
         note_round(&mut tally.rounds, past.state(), entry)?;
         note_still(&mut tally.still, entry)?;
-        note_fail(&mut tally.fails, &past, entry)?;
+        note_fail(&mut tally.causes, &past, entry)?;
         step(alloc, policy, plan, &mut past, *entry)?;
     }
     Ok(tally)
@@ -52,12 +52,12 @@ pub(crate) fn walk(
 impl Tally {
     /// Of no entry anything is told.
     fn new(alloc: Global) -> Tally
-        ensures { result ≡ record { rounds = []; still = []; fails = [] } }
+        ensures { result ≡ record { rounds = []; still = []; causes = [] } }
     {
         Tally {
             rounds: RoundRows::from_vec(Vec::new(alloc)),
             still: Flags::from_vec(Vec::new(alloc)),
-            fails: FailRows::from_vec(Vec::new(alloc)),
+            causes: CauseRows::from_vec(Vec::new(alloc)),
         }
     }
 }

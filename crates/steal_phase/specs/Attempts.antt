@@ -102,4 +102,5 @@ pub record Attempted (look : Look) (outcome : Outcome) (v : View) : Type 0 where
   pub drawn : IsDrawn look (position_of outcome) (entry_of look outcome) v
   pub passed : IsPassed outcome ↔ (look.choice ≡ None)
   pub failed : IsFailed outcome
-      ↔ IsSomeAnd look.choice (TakesNothing (meaning_in v) v.plan (after (meaning_in v) v.plan drawn.next.history) look.by)
+      ↔ IsSomeAnd look.choice
+      (TakesNothing (meaning_in v) v.plan (after (meaning_in v) v.plan drawn.next.history) look.by)

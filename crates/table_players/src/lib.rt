@@ -1,6 +1,6 @@
 //! Cores that take their turns at the shared table step by step, each by its own seat, and small plans for them.
 //!
-//! Tests and benches play by these, since one may step the cores in any order. The program's own turns are in `core_calls`.
+//! Tests and benches play by these, since one may step the cores in any order. The turns of `run` are in `core_calls`.
 #![tactic(auto)]
 
 pub mod crowds;

@@ -1,5 +1,5 @@
 -- What serial play of a trace's text comes to.
-use Rattle.std.specs.Prelude.{◌≡◌, ℕ, List, [], ◌∷◌, All, Option, Some, None}
+use Rattle.std.specs.Prelude.{◌≡◌, ℕ, List, [], ◌∷◌, Option, Some, None}
 use Rattle.policy_tree.specs.Meaning.{Meaning}
 use Rattle.round_model.specs.declared.entry.Entry.{Entry}
 use Rattle.round_model.specs.declared.plan.Plan.{Plan}
@@ -13,10 +13,13 @@ use Rattle.job_trace.specs.TraceText.{SpellsTrace}
 use Rattle.round_model.specs.declared.serial.Played.{Played}
 use Rattle.round_model.specs.declared.serial.Played.TheVariants as played
 use Rattle.round_model.specs.SerialEnds.{IsPlayed}
-use Rattle.sched_history.specs.Ranges.{IsPrintable}
+use Rattle.core_state.specs.Views.{ClosedView}
+use Rattle.history_merge.specs.Merged.{CanBeWritten, merged}
 use Rattle.sched_history.specs.Spelling.{lines_of_history, text_of_history}
 use Rattle.trace_play.specs.declared.answer.PlayAnswer.{PlayAnswer}
 use Rattle.trace_play.specs.declared.answer.PlayAnswer.TheVariants as answer
+use Rattle.trace_play.specs.declared.cores.PlayedCores.{PlayedCores}
+use Rattle.trace_play.specs.declared.cores.PlayedCores.TheVariants as cores
 use Rattle.trace_play.specs.declared.fault.LineFault.{LineFault}
 use Rattle.trace_play.specs.declared.planning.PlanStop.{PlanStop}
 use Rattle.trace_play.specs.declared.planning.PlanStop.TheVariants as stop
@@ -27,20 +30,30 @@ abbrev pub history_of : Played → List Entry
 history_of (played.Whole history) = history
 history_of (played.Full history) = history
 
+-- the cores that were played
+abbrev pub closed_of : PlayedCores → ClosedView
+closed_of (cores.Whole closed) = closed
+closed_of (cores.Full closed) = closed
+
+-- what they played: the history of their logs
+abbrev pub played_by : PlayedCores → Played
+played_by (cores.Whole closed) = played.Whole (merged closed)
+played_by (cores.Full closed) = played.Full (merged closed)
+
 -- the bytes of an answer
 abbrev pub output_of : PlayAnswer → List ℕ
 output_of (answer.Broken fault) = fault_line fault
-output_of (answer.Played play) = text_of_history (history_of play)
+output_of (answer.Played left) = text_of_history (merged (closed_of left))
 
 -- the lines of an answer
 abbrev pub lines_of : PlayAnswer → List (List ℕ)
 lines_of (answer.Broken fault) = fault_line fault ∷ []
-lines_of (answer.Played play) = lines_of_history (history_of play)
+lines_of (answer.Played left) = lines_of_history (merged (closed_of left))
 
 -- the answer can be written
 abbrev pub IsShown : PlayAnswer → Type 0
 IsShown (answer.Broken fault) = Unit {0}
-IsShown (answer.Played play) = All IsPrintable (history_of play)
+IsShown (answer.Played left) = CanBeWritten (closed_of left)
 
 -- the text has that fault, or it spells a trace that doesn't fit the policy for it
 pub data HasFault (p : Meaning) (text : List ℕ) (fault : LineFault) : Type 0 where
@@ -77,4 +90,4 @@ pub record PlaysText (p : Meaning) (text : List ℕ) (play : Played) : Type 0 wh
 -- the answer is the one that the text gets under the policy
 abbrev pub IsPlayOf : Meaning → List ℕ → PlayAnswer → Type 0
 IsPlayOf p text (answer.Broken fault) = HasFault p text fault
-IsPlayOf p text (answer.Played play) = PlaysText p text play
+IsPlayOf p text (answer.Played left) = PlaysText p text (played_by left)

@@ -2,11 +2,13 @@
 #![tactic(auto)]
 
 mod answer;
+mod cores;
 mod fault;
 mod planning;
 mod playing;
 
 pub use answer::PlayAnswer;
+pub use cores::PlayedCores;
 pub use fault::{FaultWord, LineFault};
 pub use planning::{PlanStop, plan_text};
-pub use playing::{PlayMemory, play_plan, play_text};
+pub use playing::{PlayMemory, play_cores, play_plan, play_text};

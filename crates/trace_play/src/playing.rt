@@ -4,9 +4,11 @@ ghost use Rattle.std.specs.Prelude.{◌<◌, ◌≡◌, IfOk, length};
 ghost use Rattle.policy_tree.specs.Meaning.{meaning_of};
 ghost use Rattle.round_model.specs.Fits.{Fits};
 ghost use Rattle.round_model.specs.SerialEnds.{IsPlayed};
-ghost use Rattle.trace_play.specs.Plays.{IsPlayOf, IsShown};
+ghost use Rattle.history_merge.specs.Merged.{CanBeWritten};
+ghost use Rattle.trace_play.specs.Plays.{IsPlayOf, IsShown, closed_of, played_by};
 
 use crate::answer::PlayAnswer;
+use crate::cores::PlayedCores;
 use crate::planning::{PlanStop, plan_text};
 use core_worker::{PlayFault, play_rounds};
 use history_merge::{HistoryMemory, merge};
@@ -42,20 +44,36 @@ pub fn play_text(
     ensures shown { IfOk result IsShown }
 {
     match plan_text(alloc, policy.policy(), text) {
-        Ok(plan) => Ok(PlayAnswer::Played(play_plan(alloc, policy, &plan)?)),
+        Ok(plan) => Ok(PlayAnswer::Played(play_cores(alloc, policy, &plan)?)),
         Err(PlanStop::Broken(fault)) => Ok(PlayAnswer::Broken(fault)),
         Err(PlanStop::Memory) => Err(PlayMemory::Memory),
     }
 }
 
-/// What serial play of the plan under the policy comes to: running cores play it, and their logs are merged.
+/// What serial play of the plan under the policy comes to: the running cores that played it.
+pub fn play_cores(
+    alloc: Global,
+    policy: &AcceptedPolicy,
+    plan: &Plan,
+) -> Result<PlayedCores, PlayMemory>
+    requires { Fits (meaning_of policy.now) plan.now }
+    ensures play { IfOk result (λ left. IsPlayed (meaning_of policy.now) plan.now (played_by left)) }
+    ensures shown { IfOk result (λ left. CanBeWritten (closed_of left)) }
+{
+    match play_rounds(alloc, policy, plan) {
+        Ok(closed) => Ok(PlayedCores::Whole(closed)),
+        Err(PlayFault::HistoryFull(closed)) => Ok(PlayedCores::Full(closed)),
+        Err(PlayFault::Memory) => Err(PlayMemory::Memory),
+    }
+}
+
+/// What serial play of the plan under the policy comes to, as a history: the logs of the cores are merged.
 pub fn play_plan(alloc: Global, policy: &AcceptedPolicy, plan: &Plan) -> Result<Played, PlayMemory>
     requires { Fits (meaning_of policy.now) plan.now }
     ensures { IfOk result (IsPlayed (meaning_of policy.now) plan.now) }
 {
-    match play_rounds(alloc, policy, plan) {
-        Ok(closed) => Ok(Played::Whole(merge(alloc, &closed)?)),
-        Err(PlayFault::HistoryFull(closed)) => Ok(Played::Full(merge(alloc, &closed)?)),
-        Err(PlayFault::Memory) => Err(PlayMemory::Memory),
+    match play_cores(alloc, policy, plan)? {
+        PlayedCores::Whole(closed) => Ok(Played::Whole(merge(alloc, &closed)?)),
+        PlayedCores::Full(closed) => Ok(Played::Full(merge(alloc, &closed)?)),
     }
 }

@@ -17,7 +17,7 @@ use Rattle.job_trace.specs.Plans.{SpellsPlan}
 use Rattle.job_trace.specs.TraceText.{SpellsTrace}
 use Rattle.trace_play.specs.declared.answer.PlayAnswer.{PlayAnswer}
 use Rattle.trace_play.specs.declared.answer.PlayAnswer.TheVariants as answer
-use Rattle.trace_play.specs.Plays.{HasFault, MeansPlan, history_of}
+use Rattle.trace_play.specs.Plays.{HasFault, MeansPlan, history_of, played_by}
 
 -- the run came to its end: the history is whole, and each of its rounds had room
 pub record RunEnds (p : Meaning) (plan : Plan) (history : List Entry) : Type 0 where
@@ -57,7 +57,7 @@ pub record RunsText (p : Meaning) (text : List ℕ) (play : Played) : Type 0 whe
 -- the answer is one that the text may get under the policy
 abbrev pub IsRunOf : Meaning → List ℕ → PlayAnswer → Type 0
 IsRunOf p text (answer.Broken fault) = HasFault p text fault
-IsRunOf p text (answer.Played play) = RunsText p text play
+IsRunOf p text (answer.Played left) = RunsText p text (played_by left)
 
 -- each core of the plan passed the gate in each round of the history that was run
 abbrev pub HavePassed : (Passed : ℕ → ℕ → Type 0) → Plan → Played → Type 0
@@ -66,7 +66,8 @@ HavePassed Passed plan play = AllPassed Passed plan (rounds_begun (history_of pl
 -- so did those of the plan that the text means, where it means one
 abbrev pub HavePassedFor : (Passed : ℕ → ℕ → Type 0) → Meaning → List ℕ → PlayAnswer → Type 0
 HavePassedFor Passed p text (answer.Broken fault) = Unit {0}
-HavePassedFor Passed p text (answer.Played play) = (plan : Plan) × MeansPlan p text plan × HavePassed Passed plan play
+HavePassedFor Passed p text (answer.Played left) = (plan : Plan) × MeansPlan p text plan
+    × HavePassed Passed plan (played_by left)
 
 -- so a run whose cores passed the gate ends
 abbrev pub GatedEnds : (Passed : ℕ → ℕ → Type 0) → Meaning → Plan → List Entry → Type 0

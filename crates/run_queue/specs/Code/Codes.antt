@@ -1,8 +1,7 @@
 -- How the keys of an order are stored, so that a queue may be seen with them: an expression and a condition are each
 -- stored as words, the parts of each before the word that joins them. This serves the checker alone.
 use Rattle.std.specs.Prelude.{◌≡◌, ℕ, zero, suc, ℤ, pos, Bool, true, false, List, [], ◌∷◌, ◌++◌, refl}
-use Rattle.std.proofs.Common.{◌⊎◌, inl, inr, ap, sym, ◌∙◌}
-use Rattle.std.proofs.lemmas.List.{append-nil}
+use Rattle.std.proofs.Common.{◌⊎◌, inl, inr, ap, ◌∙◌}
 use Rattle.std.specs.Coded.{Coded, code_by, coded×, coded⊎, coded_bool, coded_list, coded_ℕ, coded_ℤ}
 use Rattle.policy_tree.specs.declared.trees.Cmp.{Cmp}
 use Rattle.policy_tree.specs.declared.trees.Cmp.TheVariants as cmp

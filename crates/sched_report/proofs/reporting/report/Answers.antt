@@ -1,78 +1,29 @@
--- The walk tells the rows, and the rows the rest.
-use Rattle.std.proofs.Common.{◌≡◌, ◌<◌, ◌^◌, length, refl, sym, ap, subst, ◌∙◌, arith}
-use Rattle.std.specs.Prelude.{sum_by}
+-- What is told has a cause for each failed steal.
+use Rattle.std.proofs.Common.{All, subst, sym, ◌∙◌}
 use Rattle.policy_tree.specs.Meaning.{meaning_of}
-use Rattle.sched_report.specs.Reports.{totals_of}
-use Rattle.sched_report.specs.Code.Runs.{AreNumbered, AreRuns}
-use Rattle.sched_report.specs.Code.Walks.{IsTally}
-use Rattle.sched_report.specs.declared.rows.FullReport.{FullReport}
-use Rattle.sched_report.specs.declared.rows.RoundRow.{RoundRow}
-use Rattle.sched_report.proofs.PaidLemmas.{few_rows, small_sum}
-use Rattle.sched_report.proofs.ReportLemmas.{flags_counted, report_adds_up, report_is, report_paid, rounds_numbered}
+use Rattle.policy_eval.proofs.Statements.{handler_obligations}
+use Rattle.sched_report.specs.CauseRows.{HasCause}
+use Rattle.sched_report.proofs.CauseLemmas.{all_have_causes}
+use Rattle.sched_report.proofs.ReportLemmas.{report_adds_up, report_is, report_paid}
 use Rattle.sched_report.proofs.reporting.report.Goals as goal
 
-pub stretches_of-requires-clause-flags : goal.stretches_of-requires-clause-flags
-stretches_of-requires-clause-flags c =
-    let p = meaning_of c.args.policy.now in let plan = c.args.plan.now in let history = c.args.history.now in let tally = c.in_ok-tally.tally in
-    let told = subst (λ h. IsTally p plan h tally) c.as_slice-entries.ensures.items c.in_ok-tally.ensures in
-    ap length c.as_slice-2.ensures.items ∙ (flags_counted p plan history c.requires.whole tally told ∙ sym (ap length c.as_slice.ensures.items))
+pub tell-requires-clause-handlers : goal.tell-requires-clause-handlers
+tell-requires-clause-handlers c = handler_obligations (meaning_of c.args.policy.now) c.requires.meets
 
-pub stretches_of-requires-clause-numbered : goal.stretches_of-requires-clause-numbered
-stretches_of-requires-clause-numbered c =
-    let p = meaning_of c.args.policy.now in let plan = c.args.plan.now in let history = c.args.history.now in let tally = c.in_ok-tally.tally in
-    let told = subst (λ h. IsTally p plan h tally) c.as_slice-entries.ensures.items c.in_ok-tally.ensures in
-    subst AreNumbered (sym c.as_slice.ensures.items) (rounds_numbered p plan history c.requires.whole tally told)
-
-pub stretches_of-requires-clause-few : goal.stretches_of-requires-clause-few
-stretches_of-requires-clause-few c =
-    let p = meaning_of c.args.policy.now in let plan = c.args.plan.now in let history = c.args.history.now in let tally = c.in_ok-tally.tally in
-    let told = subst (λ h. IsTally p plan h tally) c.as_slice-entries.ensures.items c.in_ok-tally.ensures in
-    omega (arith, ap length c.as_slice.ensures.items, ap length told.rounds, few_rows p plan history c.requires.whole c.requires.few)
-
-pub totals_of-totals-requires-clause-few_rounds : goal.totals_of-totals-requires-clause-few_rounds
-totals_of-totals-requires-clause-few_rounds c =
-    let p = meaning_of c.args.policy.now in let plan = c.args.plan.now in let history = c.args.history.now in let tally = c.in_ok-tally.tally in
-    let told = subst (λ h. IsTally p plan h tally) c.as_slice-entries.ensures.items c.in_ok-tally.ensures in
-    omega (arith, ap length c.as_slice-3.ensures.items, ap length told.rounds, few_rows p plan history c.requires.whole c.requires.few)
-
-pub totals_of-totals-requires-clause-small : goal.totals_of-totals-requires-clause-small
-totals_of-totals-requires-clause-small c =
-    let p = meaning_of c.args.policy.now in let plan = c.args.plan.now in let history = c.args.history.now in let tally = c.in_ok-tally.tally in
-    let told = subst (λ h. IsTally p plan h tally) c.as_slice-entries.ensures.items c.in_ok-tally.ensures in
-    subst (λ rows. sum_by (λ (row : RoundRow). row.idle) rows < 2 ^ 32) (sym (c.as_slice-3.ensures.items ∙ told.rounds)) (small_sum p plan history c.requires.whole c.requires.fits c.requires.few)
+pub explained-requires-clause-each : goal.explained-requires-clause-each
+explained-requires-clause-each c =
+    let p = meaning_of c.args.policy.now in
+    subst (All HasCause) (sym c.as_slice.ensures.items)
+    (all_have_causes p c.args.plan.now c.args.history.now c.requires.fits c.requires.meets c.requires.whole.legal c.in_ok-told.told.causes c.in_ok-told.ensures.causes)
 
 pub returns-clause-is : goal.returns-clause-is
 returns-clause-is c =
-    let p = meaning_of c.args.policy.now in let plan = c.args.plan.now in let history = c.args.history.now in let tally = c.in_ok-tally.tally in
-    let told = subst (λ h. IsTally p plan h tally) c.as_slice-entries.ensures.items c.in_ok-tally.ensures in
-    let stills = c.in_ok-stills.stills in
-    let report : FullReport = record { rounds = tally.rounds; stills = stills; fails = tally.fails; totals = c.totals_of-totals.result } in
-    let runs : AreRuns tally.still tally.rounds stills =
-    subst (λ flags. AreRuns flags tally.rounds stills) c.as_slice-2.ensures.items (subst (λ rows. AreRuns c.as_slice-2.result.now rows stills) c.as_slice.ensures.items c.in_ok-stills.ensures) in
-    let totals : c.totals_of-totals.result ≡ totals_of history tally.rounds =
-    c.totals_of-totals.ensures ∙ (ap (λ h. totals_of h c.as_slice-3.result.now) c.as_slice-entries.ensures.items ∙ ap (totals_of history) c.as_slice-3.ensures.items) in
-    report_is p plan history c.requires.whole tally told report refl runs refl totals
+    report_is (meaning_of c.args.policy.now) c.args.plan.now c.args.history.now c.in_ok-told.told c.in_ok-told.ensures c.in_ok-fails.fails (c.in_ok-fails.ensures ∙ c.as_slice.ensures.items)
 
 pub returns-clause-paid : goal.returns-clause-paid
 returns-clause-paid c =
-    let p = meaning_of c.args.policy.now in let plan = c.args.plan.now in let history = c.args.history.now in let tally = c.in_ok-tally.tally in
-    let told = subst (λ h. IsTally p plan h tally) c.as_slice-entries.ensures.items c.in_ok-tally.ensures in
-    let stills = c.in_ok-stills.stills in
-    let report : FullReport = record { rounds = tally.rounds; stills = stills; fails = tally.fails; totals = c.totals_of-totals.result } in
-    let runs : AreRuns tally.still tally.rounds stills =
-    subst (λ flags. AreRuns flags tally.rounds stills) c.as_slice-2.ensures.items (subst (λ rows. AreRuns c.as_slice-2.result.now rows stills) c.as_slice.ensures.items c.in_ok-stills.ensures) in
-    let totals : c.totals_of-totals.result ≡ totals_of history tally.rounds =
-    c.totals_of-totals.ensures ∙ (ap (λ h. totals_of h c.as_slice-3.result.now) c.as_slice-entries.ensures.items ∙ ap (totals_of history) c.as_slice-3.ensures.items) in
-    report_paid p plan history c.requires.whole tally told report refl runs refl totals c.requires.fits c.requires.meets
+    report_paid (meaning_of c.args.policy.now) c.args.plan.now c.args.history.now c.in_ok-told.told c.in_ok-told.ensures c.in_ok-fails.fails (c.in_ok-fails.ensures ∙ c.as_slice.ensures.items) c.requires.whole c.requires.fits c.requires.meets
 
 pub returns-clause-adds_up : goal.returns-clause-adds_up
 returns-clause-adds_up c =
-    let p = meaning_of c.args.policy.now in let plan = c.args.plan.now in let history = c.args.history.now in let tally = c.in_ok-tally.tally in
-    let told = subst (λ h. IsTally p plan h tally) c.as_slice-entries.ensures.items c.in_ok-tally.ensures in
-    let stills = c.in_ok-stills.stills in
-    let report : FullReport = record { rounds = tally.rounds; stills = stills; fails = tally.fails; totals = c.totals_of-totals.result } in
-    let runs : AreRuns tally.still tally.rounds stills =
-    subst (λ flags. AreRuns flags tally.rounds stills) c.as_slice-2.ensures.items (subst (λ rows. AreRuns c.as_slice-2.result.now rows stills) c.as_slice.ensures.items c.in_ok-stills.ensures) in
-    let totals : c.totals_of-totals.result ≡ totals_of history tally.rounds =
-    c.totals_of-totals.ensures ∙ (ap (λ h. totals_of h c.as_slice-3.result.now) c.as_slice-entries.ensures.items ∙ ap (totals_of history) c.as_slice-3.ensures.items) in
-    report_adds_up p plan history c.requires.whole tally told report refl runs refl totals
+    report_adds_up (meaning_of c.args.policy.now) c.args.plan.now c.args.history.now c.in_ok-told.told c.in_ok-told.ensures c.in_ok-fails.fails (c.in_ok-fails.ensures ∙ c.as_slice.ensures.items)

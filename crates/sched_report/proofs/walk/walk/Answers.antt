@@ -3,7 +3,6 @@ use Rattle.std.proofs.Common.{sym, ap, subst, ◌∙◌, arith, add-one, take}
 use Rattle.std.proofs.lemmas.List.{length-take}
 use mathlib.Core.Option.{some}
 use Rattle.policy_tree.specs.Meaning.{meaning_of}
-use Rattle.policy_eval.proofs.Statements.{handler_obligations}
 use Rattle.round_model.specs.Code.Past.{StandsFor}
 use Rattle.round_laws.proofs.Positions.{entry_more}
 use Rattle.sched_report.specs.Code.Walks.{IsTallySoFar}
@@ -38,11 +37,8 @@ note_fail-requires-clause-room c =
 pub note_fail-requires-clause-told : goal.note_fail-requires-clause-told
 note_fail-requires-clause-told c =
     let p = meaning_of c.args.policy.now in let plan = c.args.plan.now in let history = c.args.history.now in let at = c.loop-entry.entry-index in
-    may_be_told p plan history at c.loop-entry-test.true c.requires.fits c.requires.meets c.requires.legal c.loop-entry.past c.loop-entry.invariant.belongs c.loop-entry.invariant.stands c.entry-item.result
+    may_be_told p plan history at c.loop-entry-test.true c.requires.fits c.requires.legal c.loop-entry.past c.loop-entry.invariant.belongs c.loop-entry.invariant.stands c.entry-item.result
     (elem_at history at c.entry-item.result c.loop-entry-test.true ∙ ap some (sym c.entry-item.is))
-
-pub step-requires-clause-handlers : goal.step-requires-clause-handlers
-step-requires-clause-handlers c = handler_obligations (meaning_of c.args.policy.now) c.requires.meets
 
 pub step-requires-clause-next : goal.step-requires-clause-next
 step-requires-clause-next c =
@@ -65,9 +61,9 @@ loop-entry-preserved c =
       stands = subst (λ n. StandsFor p plan c.step.new.past (take n history)) (sym (add-one at))
           (subst (StandsFor p plan c.step.new.past) (sym (entry_more history at c.entry-item.result is))
           (c.in_ok-step.ensures.stands (take at history) stands (c.requires.legal at c.entry-item.result is)));
-      tally = subst (λ n. IsTallySoFar p plan history n (record { rounds = c.note_round.new.rounds; still = c.note_still.new.still; fails = c.note_fail.new.fails })) (sym (add-one at))
-          (tally_more p plan history at c.loop-entry-test.true c.requires.fits c.requires.meets c.requires.legal c.loop-entry.past c.loop-entry.invariant.belongs stands c.entry-item.result
-          c.loop-entry.tally (record { rounds = c.note_round.new.rounds; still = c.note_still.new.still; fails = c.note_fail.new.fails }) c.state.result.now is c.loop-entry.invariant.tally
+      tally = subst (λ n. IsTallySoFar p plan history n (record { rounds = c.note_round.new.rounds; still = c.note_still.new.still; causes = c.note_fail.new.causes })) (sym (add-one at))
+          (tally_more p plan history at c.loop-entry-test.true c.requires.fits c.requires.legal c.loop-entry.past c.loop-entry.invariant.belongs stands c.entry-item.result
+          c.loop-entry.tally (record { rounds = c.note_round.new.rounds; still = c.note_still.new.still; causes = c.note_fail.new.causes }) c.state.result.now is c.loop-entry.invariant.tally
           (c.state.ensures p plan (take at history) stands) c.in_ok-note_round.ensures c.in_ok-note_still.ensures c.in_ok-note_fail.ensures);
     }
 

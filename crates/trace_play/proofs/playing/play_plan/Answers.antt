@@ -1,18 +1,19 @@
+-- The history that is merged is that of the cores.
 use Rattle.std.proofs.Common.{subst}
 use Rattle.policy_tree.specs.Meaning.{meaning_of}
-use Rattle.core_worker.specs.Played.{IsFaultOf}
-use Rattle.trace_play.proofs.Merged.{merged_full, merged_whole}
+use Rattle.round_model.specs.SerialEnds.{EndsWhole, IsPlayed, StopsFull}
+use Rattle.trace_play.specs.Plays.{played_by}
+use Rattle.trace_play.proofs.Merged.{merged_list}
 use Rattle.trace_play.proofs.playing.play_plan.Goals as goal
 
-pub merge-requires : goal.merge-requires
-merge-requires c = let played = c.in-Ok.ensures.whole in (played.history, played.logs)
+pub returns-in_ok-merge-in-Whole : goal.returns-in_ok-merge-in-Whole
+returns-in_ok-merge-in-Whole c =
+    let p = meaning_of c.args.policy.now in let plan = c.args.plan.now in let closed = c.in-Whole.closed in
+    let ends : EndsWhole p plan _ = subst (λ left. IsPlayed p plan (played_by left)) c.in-Whole.is c.in_ok-closed.ensures.play in
+    subst (EndsWhole p plan) (merged_list closed c.in_ok-merge-in-Whole.field-0 c.in_ok-merge-in-Whole.ensures) ends
 
-pub returns-in_ok-merge-in-Ok : goal.returns-in_ok-merge-in-Ok
-returns-in_ok-merge-in-Ok c =
-    merged_whole (meaning_of c.args.policy.now) c.args.plan.now c.in-Ok.closed c.in_ok-merge-in-Ok.field-0 c.in-Ok.ensures.whole c.in_ok-merge-in-Ok.ensures
-
-pub returns-in_ok-merge-in-Err-HistoryFull : goal.returns-in_ok-merge-in-Err-HistoryFull
-returns-in_ok-merge-in-Err-HistoryFull c =
-    let p = meaning_of c.args.policy.now in let plan = c.args.plan.now in
-    merged_full p plan c.in-Err-HistoryFull.closed c.in_ok-merge-in-Err-HistoryFull.field-0
-    (subst (IsFaultOf p plan) c.in-Err-HistoryFull.field-0-is c.in-Err-HistoryFull.ensures.fault) c.in_ok-merge-in-Err-HistoryFull.ensures
+pub returns-in_ok-merge-in-Full : goal.returns-in_ok-merge-in-Full
+returns-in_ok-merge-in-Full c =
+    let p = meaning_of c.args.policy.now in let plan = c.args.plan.now in let closed = c.in-Full.closed in
+    let stops : StopsFull p plan _ = subst (λ left. IsPlayed p plan (played_by left)) c.in-Full.is c.in_ok-closed.ensures.play in
+    subst (StopsFull p plan) (merged_list closed c.in_ok-merge-in-Full.field-0 c.in_ok-merge-in-Full.ensures) stops

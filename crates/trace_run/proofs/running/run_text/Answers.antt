@@ -3,7 +3,6 @@ use Rattle.policy_tree.specs.Meaning.{meaning_of}
 use Rattle.round_model.specs.Fits.{Fits}
 use Rattle.trace_play.specs.declared.planning.PlanStop.TheVariants as stop
 use Rattle.trace_play.specs.Plays.{HasFault, IsPlanStop, MeansPlan}
-use Rattle.trace_run.proofs.Merging.{shown}
 use Rattle.trace_run.proofs.running.run_text.Goals as goal
 
 pub run_plan-requires-clause-fits : goal.run_plan-requires-clause-fits
@@ -13,11 +12,6 @@ pub returns-in_ok-run_plan-in-Ok-clause-run : goal.returns-in_ok-run_plan-in-Ok-
 returns-in_ok-run_plan-in-Ok-clause-run g c =
     let means = subst (λ policy. MeansPlan (meaning_of policy) c.args.text.now c.in-Ok.plan) c.policy.ensures.policy c.in-Ok.ensures.plan in
     record { trace = means.trace; spells = means.spells; plan = c.in-Ok.plan; means = means.means; fits = means.fits; ran = c.in_ok-run_plan-in-Ok.ensures.run }
-
-pub returns-in_ok-run_plan-in-Ok-clause-shown : goal.returns-in_ok-run_plan-in-Ok-clause-shown
-returns-in_ok-run_plan-in-Ok-clause-shown g c =
-    shown (meaning_of c.args.policy.now) c.in-Ok.plan c.in_ok-run_plan-in-Ok.field-0
-    (subst (λ policy. Fits (meaning_of policy) c.in-Ok.plan) c.policy.ensures.policy c.in-Ok.ensures.plan.fits) c.in_ok-run_plan-in-Ok.ensures.run
 
 pub returns-in-Err-Broken-clause-run : goal.returns-in-Err-Broken-clause-run
 returns-in-Err-Broken-clause-run g c =

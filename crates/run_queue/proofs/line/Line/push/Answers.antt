@@ -1,8 +1,9 @@
 use Rattle.std.proofs.Common.{◌++◌, ◌∷◌, [], Some, sym, ap, subst, ◌∙◌}
-use Rattle.std.proofs.lemmas.List.{map_push}
 use Rattle.node_pool.specs.Nodes.{IsTaken}
-use Rattle.run_queue.specs.Code.Lines.{Cell, LineView, cells_from, relinked, tasks_of}
-use Rattle.run_queue.proofs.Pushed.{laid_pushed, last_taken}
+use Rattle.run_queue.specs.Code.Ahead.{HasNode}
+use Rattle.run_queue.specs.Code.Lines.{Cell, LineView, cells_from, relinked}
+use Rattle.run_queue.proofs.Pushed.{else_node, laid_pushed, last_taken}
+use Rattle.run_queue.proofs.Ranking.{cell_of}
 use Rattle.run_queue.proofs.line.Line.push.Goals as goal
 
 pub relink-self-inside-requires : goal.relink-self-inside-requires
@@ -20,11 +21,18 @@ invariant_of-self c =
     c.self.inside.len c.self.invariant.count c.self.invariant.free c.self.invariant.small c.relink-self-inside.new.pool c.relink-self-inside.result
     (c.relink-self-inside.ensures.pool ∙ ap (λ all. relinked all c.self.inside.last (Some c.in-Ok.node)) c.in-Ok.ensures.holds) c.relink-self-inside.ensures.first).0
 
-pub returns-clause-tasks : goal.returns-clause-tasks
-returns-clause-tasks c =
+pub returns-clause-cells : goal.returns-clause-cells
+returns-clause-cells c =
     let pool = c.self.inside.pool in let first = c.self.inside.first in let cells = cells_from pool first c.self.inside.len in
     let x : Cell = record { node = c.in-Ok.node; task = c.args.task } in
-    ap tasks_of (laid_pushed pool first c.self.inside.last cells c.self.invariant.linked x c.in-Ok.ensures.was_free
+    (laid_pushed pool first c.self.inside.last cells c.self.invariant.linked x c.in-Ok.ensures.was_free
     c.self.inside.len c.self.invariant.count c.self.invariant.free c.self.invariant.small c.relink-self-inside.new.pool c.relink-self-inside.result
     (c.relink-self-inside.ensures.pool ∙ ap (λ all. relinked all c.self.inside.last (Some c.in-Ok.node)) c.in-Ok.ensures.holds) c.relink-self-inside.ensures.first).1
-    ∙ (map_push (λ (cell : Cell). cell.task) cells x ∙ ap (λ (line : LineView). tasks_of line.cells ++ c.args.task ∷ []) c.self.view_is)
+    ∙ ap (λ (line : LineView). line.cells ++ x ∷ []) c.self.view_is
+
+pub returns-clause-fresh : goal.returns-clause-fresh
+returns-clause-fresh c has =
+    let pool = c.self.inside.pool in let first = c.self.inside.first in let cells = cells_from pool first c.self.inside.len in
+    let x : Cell = record { node = c.in-Ok.node; task = c.args.task } in
+    let of = cell_of cells c.in-Ok.node (subst (λ (line : LineView). HasNode line.cells c.in-Ok.node) (sym c.self.view_is) has) in
+    else_node pool first c.self.inside.last cells c.self.invariant.linked x c.in-Ok.ensures.was_free of.place of.cell of.at of.is

@@ -1,0 +1,14 @@
+pub mod Certificates
+pub mod CutLines
+pub mod Feeds
+pub mod Must
+pub mod OneFile
+pub mod Parts
+pub mod Paths
+pub mod Places
+pub mod Sizes
+pub mod TakenLines
+pub mod Whole
+pub mod Within
+pub mod Words
+pub mod Written
