@@ -4,6 +4,7 @@ import re
 from collections import namedtuple
 
 MOST_CORES = 64
+MOST_STOLEN = 8
 CORES = (0, MOST_CORES - 1)
 RANGES = {
     "round": (1, 4096), "last": (1, 4096), "thread": (1, 1023), "core": CORES, "target": CORES, "victim": CORES,
@@ -16,7 +17,7 @@ HISTORY_FORMS = {
     "wake": "wake <thread> <core> <target> :<reads>",
     "nothing": "work <core> -",
     "work": "work <core> <thread> <outcome>",
-    "steal": "steal <core> <victim> <thread> :<reads>",
+    "steal": "steal <core> <victim> <threads> :<reads>",
     "fail": "fail <core> <victim> :<reads>",
     "pass": "pass <core> :<reads>",
 }
@@ -46,7 +47,7 @@ class Refused(Exception):
 def pattern(form):
     """The regular expression of a form, with a group for each word in angle brackets."""
     number = r"0|[1-9][0-9]{0,18}"
-    words = {"outcome": "keep|queue|block|end", "reads": rf"(?: (?:{number}))*"}
+    words = {"outcome": "keep|queue|block|end", "reads": rf"(?: (?:{number}))*", "threads": rf"(?:{number})(?: (?:{number}))*"}
     return re.compile(re.sub(r"<(\w+)>", lambda name: f"(?P<{name[1]}>{words.get(name[1], number)})", form))
 
 
@@ -63,12 +64,14 @@ def read_line(text, patterns):
 def value_of(name, word):
     if name == "outcome":
         return word
-    return [int(read) for read in word.split()] if name == "reads" else int(word)
+    return [int(part) for part in word.split()] if name in ("reads", "threads") else int(word)
 
 
 def is_in_range(name, value):
     if name == "reads":
         return len(value) <= MOST_CORES and all(read <= 65536 for read in value)
+    if name == "threads":
+        return len(value) <= MOST_STOLEN and all(is_in_range("thread", thread) for thread in value)
     return name not in RANGES or RANGES[name][0] <= value <= RANGES[name][1]
 
 
@@ -109,6 +112,11 @@ def read_report(data):
     if any(not line.values["round"] <= line.values["last"] <= totals["rounds"] for line in stills):
         raise Refused("a stretch of still rounds goes from one of its rounds to the same or a later one")
     return Report(rounds, stills, [line for line in lines if line.kind == "fail"], totals)
+
+
+def threads_of(values):
+    """The threads that an entry with these values names, in its order."""
+    return values.get("threads", [values["thread"]] if "thread" in values else [])
 
 
 def cores_of(history):

@@ -52,8 +52,9 @@ def move(cores, line):
     if line.kind in ("enter", "wake"):
         cores[values["target"]].queue.append(values["thread"])
     if line.kind == "steal":
-        cores[values["victim"]].queue.remove(values["thread"])
-        cores[values["core"]].queue.append(values["thread"])
+        for thread in values["threads"]:
+            cores[values["victim"]].queue.remove(thread)
+            cores[values["core"]].queue.append(thread)
 
 
 def words_of(line):
@@ -65,13 +66,19 @@ def words_of(line):
     if line.kind == "work":
         return f"{core} runs a unit of thread {values['thread']}, {OUTCOMES[values['outcome']]}."
     if line.kind == "steal":
-        return f"{core} steals thread {values['thread']} from core {values['victim']}."
+        return f"{core} steals {named(values['threads'])} from core {values['victim']}."
     return {
         "round": f"Round {values.get('round')} begins.",
         "nothing": f"{core} has no thread to run.",
         "fail": f"{core} tries to steal from core {values.get('victim')} and fails.",
         "pass": f"{core} looks at the cores and finds none to steal from.",
     }[line.kind]
+
+
+def named(threads):
+    """The threads in words, as `thread 2` or `threads 2, 3 and 4`."""
+    *front, last = map(str, threads)
+    return f"threads {', '.join(front)} and {last}" if front else f"thread {last}"
 
 
 def coming_words(kind, core, values):

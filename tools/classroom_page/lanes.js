@@ -174,8 +174,13 @@ class Lanes {
 // ---- the marks: each draws an entry into a group, at its column's middle
 
 function named(lanes, group, x, y, thread) {
-  const kind = thread > 99 ? "thread long" : "thread";
+  const kind = String(thread).length > 2 ? "thread long" : "thread";
   shape(group, "text", { x, y: y + lanes.half * 0.45, class: kind }, thread);
+}
+
+// Of several threads the first one, and how many more there are.
+function numberOf(threads) {
+  return threads.length > 1 ? `${threads[0]}+${threads.length - 1}` : threads[0];
 }
 
 function drawRound(lanes, group, x, entry) {
@@ -208,7 +213,7 @@ function drawSteal(lanes, group, x, entry) {
   shape(group, "line", { x1: x, x2: x, y1: from, y2: to + back });
   shape(group, "path", { d: `M ${x - half} ${to + back} H ${x + half} L ${x} ${to + back / 4} Z` });
   shape(group, "circle", { cx: x, cy: from, r: half * 1.1 });
-  named(lanes, group, x, from, entry.thread);
+  named(lanes, group, x, from, numberOf(entry.threads));
 }
 
 function drawFail(lanes, group, x, entry) {

@@ -128,7 +128,7 @@ function drawThreads(card, kind, list, entry) {
 
 // A thread, and its weight unless that is 1.
 function drawThread(line, thread, entry) {
-  const chip = add(line, "b", thread === entry.thread ? "moved" : "", thread);
+  const chip = add(line, "b", (entry.threads || [entry.thread]).includes(thread) ? "moved" : "", thread);
   chip.dataset.thread = thread;
   const weight = facts.weights[thread];
   chip.title = `thread ${thread}, weight ${weight}`;
@@ -207,7 +207,7 @@ const LEGEND = [
   ["enter", "a thread enters"], ["wake", "a thread wakes"], ["work", "a unit of work"], ["nothing", "no thread to run"],
   ["steal", "steal, from victim to thief"], ["fail", "failed steal"], ["pass", "no victim found"],
 ];
-const SAMPLE = { core: 1, target: 1, victim: 0, thread: "", outcome: "keep" };
+const SAMPLE = { core: 1, target: 1, victim: 0, thread: "", threads: [""], outcome: "keep" };
 
 // Room for a mark of the legend. The two cores of a steal lie above each other, and the core of another mark in the middle.
 function sampleLanes(kind) {

@@ -150,10 +150,11 @@ def of_trace(text, number, word, ranges):
     return of_weight(words, ranges["weight"]) if word == "weight-range" else of_constant(words, ranges["core"], word)
 
 
-# Histories: each form as its words, where a letter stands for a number.
+# Histories: each form as its words, where a letter stands for a number. `T..` is one to eight threads.
 
 ENTRIES = ["round R", "enter T A C :", "wake T A C :", "work A -", "work A T keep", "work A T queue", "work A T block", "work A T end"]
-ENTRIES += ["steal A V T :", "fail A V :", "pass A :"]
+ENTRIES += ["steal A V T.. :", "fail A V :", "pass A :"]
+STOLEN = 8
 ENDS = {"R": ("a round", 1, 4096), "T": ("a thread", 1, 1023), **dict.fromkeys("ACV", ("a core", 0, CORES - 1))}
 READ = ("a position", 0, 65536)
 
@@ -176,13 +177,18 @@ def matched(form, words):
     return found
 
 
+def spelled(form):
+    """The form with each number of threads that it may have."""
+    return [form.replace("T..", " ".join("T" * count)) for count in range(1, STOLEN + 1)] if "T.." in form else [form]
+
+
 def of_history(text, number):
     """The column and a sentence for the first bad line of a history."""
     if number > 65536:
         return 1, "a history has at most 65536 lines"
     line = text.split(b"\n", number)[number - 1]
     words = [(it.group().decode("latin-1"), it.start() + 1) for it in re.finditer(rb"[^ ]+", line)]
-    fitting = [found for form in ENTRIES if (found := matched(form, words)) is not None]
+    fitting = [found for entry in ENTRIES for form in spelled(entry) if (found := matched(form, words)) is not None]
     if not fitting:
         first = words[0][0] if words else ""
         forms = [f"`{it}{' P P ..' if it[-1] == ':' else ''}`" for it in ENTRIES if it.split(" ")[0] == first]

@@ -1,7 +1,7 @@
 # What the front adds to the program's answers, on standard error alone: its status and its output stay as they are. To be read by a
 # script of bash that has set `front`, the folder of this file. Sentences on a fault need python3; without it they are left out.
 
-commands=(check explain play run replay report make bench)
+commands=(check explain prove verify play run replay report make bench)
 obligations=(B1 B2 B3 B4 {H1,H2}.{enqueue,tick,yield,block})
 
 say() {
@@ -13,6 +13,8 @@ usage_of() {
   case "$1" in
     check) say '  ipanema check POLICY                    is the policy accepted? a line for each obligation' ;;
     explain) say '  ipanema explain POLICY NAME             does that obligation hold? if not, numbers at which it fails' ;;
+    prove) say '  ipanema prove POLICY                    write the certificates of an accepted policy, which anyone can verify' ;;
+    verify) say '  ipanema verify POLICY CERTS             do these certificates prove the policy? no solver is asked' ;;
     play) say '  ipanema play POLICY TRACE               play the trace, core after core, and write the history' ;;
     run) say '  ipanema run POLICY TRACE                play it with all cores side by side' ;;
     replay) say '  ipanema replay POLICY TRACE HISTORY     is that history whole?' ;;
@@ -64,7 +66,7 @@ say_near() {
 # How many words a command takes behind it.
 words_of() {
   case "$1" in
-    check) echo 1 ;;
+    check | prove) echo 1 ;;
     replay | report) echo 3 ;;
     *) echo 2 ;;
   esac
@@ -110,7 +112,7 @@ say_words() {
 # The words of a command that are files.
 files_of() {
   case "$1" in
-    check | explain) files=("$2") ;;
+    check | explain | prove) files=("$2") ;;
     *) files=("${@:2}") ;;
   esac
 }
@@ -130,7 +132,10 @@ say_file() {
 say_not_accepted() {
   local what='played' verdict='refused'
   [ "$1" -eq 1 ] || verdict='undecided'
-  [ "$2" = play ] || [ "$2" = run ] || what='judged'
+  case "$2" in
+    prove) what='proved' ;;
+    replay | report) what='judged' ;;
+  esac
   say "ipanema: the policy is $verdict, so nothing was $what; \`ipanema explain ${3@Q} NAME\` says more of a line above"
 }
 
@@ -166,7 +171,7 @@ answer() {
       7,*) say_words "$@" ;;
       4,*) say_file "$@" ;;
       2,* | 10,*) say_fault "$status" "$program" "$@" ;;
-      [13],play | [13],run | [13],replay | [13],report) say_not_accepted "$status" "$@" ;;
+      [13],prove | [13],play | [13],run | [13],replay | [13],report) say_not_accepted "$status" "$@" ;;
     esac
   } >/dev/null
   exit "$status"

@@ -15,8 +15,9 @@ import policy_text as policies
 import line_text as lines
 
 FILES = {"check": ["policy"], "explain": ["policy"], "play": ["policy", "trace"], "run": ["policy", "trace"]}
+FILES.update({"prove": ["policy"], "verify": ["policy", "certs"]})
 FILES.update(dict.fromkeys(["replay", "report"], ["policy", "trace", "history"]))
-LONGEST = {"policy": 65536, "trace": 4194304, "history": 33554432}
+LONGEST = {"policy": 65536, "trace": 4194304, "history": 33554432, "certs": 33554432}
 SECONDS = 60
 
 
@@ -222,6 +223,13 @@ def of_lines(kind, file, text, number, word, policy):
     return f"{file}:{number}:{column}: {sentence}"
 
 
+def of_certs(file, text, number):
+    rows = text.split(b"\n")
+    if number == len(rows) and not rows[-1]:
+        return f"{file}:{number}: the text stops too soon: a part is missing"
+    return f"{file}:{number}: this line can't stand here; docs/FORMATS.md says what a file of certificates is"
+
+
 def weight_range(tokens):
     ends = re.match(r"weight(\d+)\.\.(\d+)", "".join(it.text for it in tokens[3:8]))
     return (int(ends[1]), int(ends[2])) if ends else None
@@ -231,7 +239,8 @@ def weight_range(tokens):
 
 
 def of_too_long(kind, file):
-    return f"{file}: it has {os.path.getsize(file):,} bytes, and a {kind} has at most {LONGEST[kind]:,}"
+    named = "text of certificates" if kind == "certs" else kind
+    return f"{file}: it has {os.path.getsize(file):,} bytes, and a {named} has at most {LONGEST[kind]:,}"
 
 
 def of_too_many(file, text, name):
@@ -273,6 +282,8 @@ def sentence(status, program, command, words):
         return of_policy(names["policy"], texts["policy"], int(rest[0]), rest[1])
     if kind in ("trace", "history"):
         return of_lines(kind, names[kind], texts[kind], int(rest[0]), rest[1], policies.tokens_of(texts["policy"]))
+    if kind == "certs":
+        return of_certs(names[kind], texts[kind], int(rest[0]))
     if kind == "too-long":
         return of_too_long(rest[0], names[rest[0]])
     return of_too_many(names["policy"], texts["policy"], rest[0]) if kind == "too-many-cases" else None

@@ -5,7 +5,7 @@ use Rattle.std.specs.List.{list_all}
 use Rattle.std.specs.Str.{bytes_eq}
 use Rattle.obligations.specs.declared.names.ObName.{ObName}
 use Rattle.command_words.specs.Command.{Asked, asked_by, asked_plainly, bench, check, explain, is_plain, make, name_of, play}
-use Rattle.command_words.specs.Command.{replay, report, run}
+use Rattle.command_words.specs.Command.{prove, replay, report, run, verify}
 use Rattle.command_words.specs.Numbers.{is_size, seed_in, size_in}
 
 -- if a trace is to be made, its size is one, and if one is to be played too
@@ -69,6 +69,13 @@ explained policy None = nothing
 explained policy (Some name) =
     record { made = λ s n e. absurd (let bad = e in cc); benched = λ s n e. absurd (let bad = e in cc) }
 
+proved : (policy : List ℕ) → IsSized (Some (prove policy))
+proved policy = record { made = λ s n e. absurd (let bad = e in cc); benched = λ s n e. absurd (let bad = e in cc) }
+
+verified : (policy certs : List ℕ) → IsSized (Some (verify policy certs))
+verified policy certs =
+    record { made = λ s n e. absurd (let bad = e in cc); benched = λ s n e. absurd (let bad = e in cc) }
+
 played : (policy trace : List ℕ) → IsSized (Some (play policy trace))
 played policy trace =
     record { made = λ s n e. absurd (let bad = e in cc); benched = λ s n e. absurd (let bad = e in cc) }
@@ -92,13 +99,16 @@ either false x y here else_here = else_here
 plainly : (words : List (List ℕ)) → IsSized (asked_plainly words)
 plainly [] = nothing
 plainly (verb ∷ []) = nothing
-plainly (verb ∷ a ∷ []) = either (bytes_eq (codes "check") verb) _ _ (checked a) nothing
+plainly (verb ∷ a ∷ []) =
+    either (bytes_eq (codes "check") verb) _ _ (checked a)
+    (either (bytes_eq (codes "prove") verb) _ _ (proved a) nothing)
 plainly (verb ∷ a ∷ b ∷ []) =
     either (bytes_eq (codes "explain") verb) _ _ (explained a (name_of b))
+    (either (bytes_eq (codes "verify") verb) _ _ (verified a b)
     (either (bytes_eq (codes "play") verb) _ _ (played a b)
     (either (bytes_eq (codes "run") verb) _ _ (ran a b)
     (either (bytes_eq (codes "make") verb) _ _ (made (seed_in a) b)
-    (either (bytes_eq (codes "bench") verb) _ _ (benched (seed_in a) b) nothing))))
+    (either (bytes_eq (codes "bench") verb) _ _ (benched (seed_in a) b) nothing)))))
 plainly (verb ∷ a ∷ b ∷ c ∷ []) =
     either (bytes_eq (codes "replay") verb) _ _ (replayed a b c)
     (either (bytes_eq (codes "report") verb) _ _ (reported a b c) nothing)

@@ -46,12 +46,26 @@ check (one a) = simp a.plain
 check (two a b) = simp (a.plain, b.plain)
 check (three a b c) = simp (a.plain, b.plain, c.plain)
 
+prove : (behind : Behind) → AgreesAt (codes "prove" ∷ texts behind)
+unfolding clap_on_literals
+prove none = refl
+prove (one a) = simp a.plain
+prove (two a b) = simp (a.plain, b.plain)
+prove (three a b c) = simp (a.plain, b.plain, c.plain)
+
 explain : (behind : Behind) → AgreesAt (codes "explain" ∷ texts behind)
 unfolding clap_on_literals
 explain none = refl
 explain (one a) = simp a.plain
 explain (two a b) = simp (a.plain, b.plain)
 explain (three a b c) = simp (a.plain, b.plain, c.plain)
+
+verify : (behind : Behind) → AgreesAt (codes "verify" ∷ texts behind)
+unfolding clap_on_literals
+verify none = refl
+verify (one a) = simp a.plain
+verify (two a b) = simp (a.plain, b.plain)
+verify (three a b c) = simp (a.plain, b.plain, c.plain)
 
 play : (behind : Behind) → AgreesAt (codes "play" ∷ texts behind)
 unfolding clap_on_literals
@@ -98,7 +112,9 @@ bench (three a b c) = simp (a.plain, b.plain, c.plain)
 -- a verb that is none of these
 other : (v : Word) (behind : Behind)
     → bytes_eq (codes "check") (text v) ≡ false
+    → bytes_eq (codes "prove") (text v) ≡ false
     → bytes_eq (codes "explain") (text v) ≡ false
+    → bytes_eq (codes "verify") (text v) ≡ false
     → bytes_eq (codes "play") (text v) ≡ false
     → bytes_eq (codes "run") (text v) ≡ false
     → bytes_eq (codes "replay") (text v) ≡ false
@@ -107,10 +123,10 @@ other : (v : Word) (behind : Behind)
     → bytes_eq (codes "bench") (text v) ≡ false
     → AgreesAt (text v ∷ texts behind)
 unfolding clap_on_literals
-other v none a b c d e f g h = simp (v.plain, a, b, c, d, e, f, g, h)
-other v (one w) a b c d e f g h = simp (v.plain, w.plain, a, b, c, d, e, f, g, h)
-other v (two w x) a b c d e f g h = simp (v.plain, w.plain, x.plain, a, b, c, d, e, f, g, h)
-other v (three w x y) a b c d e f g h = simp (v.plain, w.plain, x.plain, y.plain, a, b, c, d, e, f, g, h)
+other v none a b c d e f g h i j = simp (v.plain, a, b, c, d, e, f, g, h, i, j)
+other v (one w) a b c d e f g h i j = simp (v.plain, w.plain, a, b, c, d, e, f, g, h, i, j)
+other v (two w x) a b c d e f g h i j = simp (v.plain, w.plain, x.plain, a, b, c, d, e, f, g, h, i, j)
+other v (three w x y) a b c d e f g h i j = simp (v.plain, w.plain, x.plain, y.plain, a, b, c, d, e, f, g, h, i, j)
 
 -- the verb is this one, or it isn't
 at_verb : (verb word : Text) (P : Text → Type 0) → P verb → (bytes_eq verb word ≡ false → P word) → P word
@@ -124,14 +140,16 @@ with_verb : (v : Word) (behind : Behind) → AgreesAt (text v ∷ texts behind)
 with_verb v behind =
     let P : Text → Type 0 = λ verb. AgreesAt (verb ∷ texts behind) in
     at_verb (codes "check") (text v) P (check behind) (λ a.
-    at_verb (codes "explain") (text v) P (explain behind) (λ b.
-    at_verb (codes "play") (text v) P (play behind) (λ c.
-    at_verb (codes "run") (text v) P (run behind) (λ d.
-    at_verb (codes "replay") (text v) P (replay behind) (λ e.
-    at_verb (codes "report") (text v) P (report behind) (λ f.
-    at_verb (codes "make") (text v) P (make behind) (λ g.
-    at_verb (codes "bench") (text v) P (bench behind) (λ h.
-    other v behind a b c d e f g h))))))))
+    at_verb (codes "prove") (text v) P (prove behind) (λ b.
+    at_verb (codes "explain") (text v) P (explain behind) (λ c.
+    at_verb (codes "verify") (text v) P (verify behind) (λ d.
+    at_verb (codes "play") (text v) P (play behind) (λ e.
+    at_verb (codes "run") (text v) P (run behind) (λ f.
+    at_verb (codes "replay") (text v) P (replay behind) (λ g.
+    at_verb (codes "report") (text v) P (report behind) (λ h.
+    at_verb (codes "make") (text v) P (make behind) (λ i.
+    at_verb (codes "bench") (text v) P (bench behind) (λ j.
+    other v behind a b c d e f g h i j))))))))))
 
 no_words : AgreesAt []
 unfolding clap_on_literals

@@ -1,14 +1,15 @@
 -- What a request asks for.
 use Rattle.std.specs.Prelude.{Option, Some, None}
-use Rattle.command_words.specs.Command.{Asked, bench, check, explain, make, play, replay, report, run}
+use Rattle.command_words.specs.Command.{Asked, bench, check, explain, make, play, prove, replay, report, run, verify}
 use Rattle.command_words.specs.declared.request.Request.{Request}
 use Rattle.command_words.specs.declared.request.Request.TheVariants.{Bench, Check, Explain, Make, Play, Replay, Report}
-use Rattle.command_words.specs.declared.request.Request.TheVariants.{Run}
-use Rattle.command_words.specs.declared.request.Request.TheVariants.{Unknown}
+use Rattle.command_words.specs.declared.request.Request.TheVariants.{Prove, Run, Unknown, Verify}
 
 abbrev pub asked : Request → Option Asked
 asked (Check policy) = Some (check policy.now)
 asked (Explain policy name) = Some (explain policy.now name)
+asked (Prove policy) = Some (prove policy.now)
+asked (Verify policy certs) = Some (verify policy.now certs.now)
 asked (Play policy trace) = Some (play policy.now trace.now)
 asked (Run policy trace) = Some (run policy.now trace.now)
 asked (Replay policy trace history) = Some (replay policy.now trace.now history.now)

@@ -13,6 +13,10 @@ pub data Asked : Type 0 where
   check : (policy : List ℕ) → Asked
   -- to explain the obligation of that name of the policy in this file
   explain : (policy : List ℕ) (name : ObName) → Asked
+  -- to write the certificates of the policy in this file
+  prove : (policy : List ℕ) → Asked
+  -- to verify by the certificates in the second file that the policy in the first meets its obligations
+  verify : (policy certs : List ℕ) → Asked
   -- to play the trace in one file under the policy in the other
   play : (policy trace : List ℕ) → Asked
   -- to play it by all cores side by side
@@ -47,14 +51,18 @@ made_by seed size = sized_by make seed size
 abbrev pub benched_by : List ℕ → List ℕ → Option Asked
 benched_by seed size = sized_by bench seed size
 
--- the command of a verb and one word behind it
+-- the commands of a verb and one word behind it
 abbrev pub asked_by_one : List ℕ → List ℕ → Option Asked
-asked_by_one verb policy = if bytes_eq (codes "check") verb then Some (check policy) else None
+asked_by_one verb policy =
+    if bytes_eq (codes "check") verb then Some (check policy)
+    else if bytes_eq (codes "prove") verb then Some (prove policy)
+    else None
 
 -- those of a verb and two words
 abbrev pub asked_by_two : List ℕ → List ℕ → List ℕ → Option Asked
 asked_by_two verb first second =
     if bytes_eq (codes "explain") verb then option_map (explain first) (name_of second)
+    else if bytes_eq (codes "verify") verb then Some (verify first second)
     else if bytes_eq (codes "play") verb then Some (play first second)
     else if bytes_eq (codes "run") verb then Some (run first second)
     else if bytes_eq (codes "make") verb then made_by first second

@@ -5,7 +5,8 @@ use Rattle.std.specs.Str.{bytes_eq}
 use Rattle.clap.specs.Words.{App, Row, Rule, Shape, Text, first_of, new_rule}
 use Rattle.clap.specs.Simple.{new_shape}
 use Rattle.clap.specs.declared.builder.ArgAction.TheVariants.{Set}
-use Rattle.command_words.specs.Command.{Asked, benched_by, check, explain, made_by, name_of, play, replay, report, run}
+use Rattle.command_words.specs.Command.{Asked, benched_by, check, explain, made_by, name_of, play, prove, replay}
+use Rattle.command_words.specs.Command.{report, run, verify}
 
 -- a word that has to be there
 abbrev pub wanted : Text → Rule
@@ -31,7 +32,9 @@ no_commands = record {
 abbrev pub commands : List Shape
 commands =
     command_of (codes "check") (codes "POLICY" ∷ [])
+    ∷ command_of (codes "prove") (codes "POLICY" ∷ [])
     ∷ command_of (codes "explain") (codes "POLICY" ∷ codes "NAME" ∷ [])
+    ∷ command_of (codes "verify") (codes "POLICY" ∷ codes "CERTS" ∷ [])
     ∷ command_of (codes "play") (codes "POLICY" ∷ codes "TRACE" ∷ [])
     ∷ command_of (codes "run") (codes "POLICY" ∷ codes "TRACE" ∷ [])
     ∷ command_of (codes "replay") (codes "POLICY" ∷ codes "TRACE" ∷ codes "HISTORY" ∷ [])
@@ -52,8 +55,11 @@ word_in rows id = unwrap_or (first_of id rows) []
 abbrev pub asked_in : Text → List Row → Option Asked
 asked_in verb rows =
     if bytes_eq verb (codes "check") then Some (check (word_in rows (codes "POLICY")))
+    else if bytes_eq verb (codes "prove") then Some (prove (word_in rows (codes "POLICY")))
     else if bytes_eq verb (codes "explain") then
     option_map (explain (word_in rows (codes "POLICY"))) (name_of (word_in rows (codes "NAME")))
+    else if bytes_eq verb (codes "verify") then
+    Some (verify (word_in rows (codes "POLICY")) (word_in rows (codes "CERTS")))
     else if bytes_eq verb (codes "play") then Some (play (word_in rows (codes "POLICY")) (word_in rows (codes "TRACE")))
     else if bytes_eq verb (codes "run") then Some (run (word_in rows (codes "POLICY")) (word_in rows (codes "TRACE")))
     else if bytes_eq verb (codes "replay") then

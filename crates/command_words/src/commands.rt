@@ -16,8 +16,9 @@ pub(crate) fn program<'a>(alloc: Global) -> Result<Command<'a>, AllocError>
     ensures { IfOk result (λ made. app_of made ≡ program) }
 {
     let program = no_commands(alloc);
-    let program = with_command(program, alloc, "check", &["POLICY"])?;
+    let program = with_two(program, alloc, "check", "prove", &["POLICY"])?;
     let program = with_command(program, alloc, "explain", &["POLICY", "NAME"])?;
+    let program = with_command(program, alloc, "verify", &["POLICY", "CERTS"])?;
     let program = with_two(program, alloc, "play", "run", &["POLICY", "TRACE"])?;
     let program = with_two(
         program,

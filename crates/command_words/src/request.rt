@@ -26,6 +26,15 @@ pub enum Request<'a> {
         policy: &'a str,
         name: ObName,
     },
+    /// To write the certificates of the policy in this file.
+    Prove {
+        policy: &'a str,
+    },
+    /// To verify by the certificates in the second file that the policy in the first meets its obligations.
+    Verify {
+        policy: &'a str,
+        certs: &'a str,
+    },
     /// To play the trace in one file under the policy in the other.
     Play {
         policy: &'a str,
@@ -98,7 +107,14 @@ fn request_in<'a>(verb: &str, words: &ArgMatches<'a>) -> Request<'a>
         "check" => Request::Check {
             policy: word_in(words, "POLICY"),
         },
+        "prove" => Request::Prove {
+            policy: word_in(words, "POLICY"),
+        },
         "explain" => explanation_of(word_in(words, "POLICY"), word_in(words, "NAME")),
+        "verify" => Request::Verify {
+            policy: word_in(words, "POLICY"),
+            certs: word_in(words, "CERTS"),
+        },
         "play" => Request::Play {
             policy: word_in(words, "POLICY"),
             trace: word_in(words, "TRACE"),

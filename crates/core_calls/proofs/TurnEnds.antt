@@ -24,17 +24,17 @@ use Rattle.core_calls.proofs.Turning.{any_more, core_is, count_more, let_in_stil
 -- an attempt is no other kind of entry
 module _ (look : Look) where
   attempts : (o : Outcome) → is_attempt (entry_of look o) ≡ true
-  attempts (outcome.Stole at thread) = refl
+  attempts (outcome.Stole at threads) = refl
   attempts (outcome.Failed at) = refl
   attempts (outcome.Passed at) = refl
 
   ends_none : (o : Outcome) (id : ℕ) → ends id (entry_of look o) ≡ false
-  ends_none (outcome.Stole at thread) id = refl
+  ends_none (outcome.Stole at threads) id = refl
   ends_none (outcome.Failed at) id = refl
   ends_none (outcome.Passed at) id = refl
 
   lets_none_in : (o : Outcome) (id : ℕ) → lets_in id (entry_of look o) ≡ false
-  lets_none_in (outcome.Stole at thread) id = refl
+  lets_none_in (outcome.Stole at threads) id = refl
   lets_none_in (outcome.Failed at) id = refl
   lets_none_in (outcome.Passed at) id = refl
 

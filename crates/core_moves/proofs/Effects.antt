@@ -1,5 +1,5 @@
 -- What a wake and a steal make of the cores: a thread leaves one core and comes to another, which may be the same.
-use Rattle.std.proofs.Common.{◌≡◌, ℕ, eqb, Bool, cond, true, false, ◌||◌, List, Some, refl, sym, ap, ◌∙◌, arith}
+use Rattle.std.proofs.Common.{◌≡◌, ℕ, eqb, Bool, cond, true, false, ◌||◌, List, [], ◌∷◌, Some, refl, sym, ap, ◌∙◌, arith}
 use Rattle.std.proofs.lemmas.Bool.Decides.{nat_tests}
 use Rattle.sched_base.specs.declared.task.Task.{Task}
 use Rattle.policy_tree.specs.Meaning.{Meaning}
@@ -8,14 +8,15 @@ use Rattle.round_model.specs.declared.entry.Entry.TheVariants as entry
 use Rattle.round_model.specs.declared.plan.Plan.{Plan}
 use Rattle.round_model.specs.declared.state.Blocked.{Blocked}
 use Rattle.round_model.specs.declared.state.ModelCore.{ModelCore}
-use Rattle.round_model.specs.After.{effect, moved, stolen, woken}
+use Rattle.round_model.specs.After.{effect, moved, woken}
 use Rattle.round_model.specs.Code.Updates.{updated}
 use Rattle.round_model.specs.Cores.{Cores}
 use Rattle.round_model.specs.Entries.{touches}
 use Rattle.round_model.specs.Kinds.{is_attempt}
-use Rattle.round_model.specs.Moves.{admitted, blocked_of, handed, is_blocked_task, is_task, queued_of, received, released}
+use Rattle.round_model.specs.Moves.{admitted, blocked_of, handed, handed_all, is_blocked_task, queued_of, received, received_all, released}
 use Rattle.round_model.proofs.Finding.{find-passes}
 use Rattle.round_model.proofs.Moved.{unmoved_fail, unmoved_pass}
+use Rattle.round_model.proofs.Takings.{one_found}
 
 -- a change of one core and then of another
 two_changes : (m : Cores) (a b : ℕ) (f g : ModelCore → ModelCore) (c : ℕ)
@@ -62,21 +63,20 @@ module _ (p : Meaning) (plan : Plan) (round : ℕ) (m : Cores) where
   -- a thread is stolen
   pub steals : (by from thread : ℕ) (reads : List ℕ) (t : Task) → queued_of thread (m from) ≡ Some t → (c : ℕ)
       → updated (updated m from (handed thread (m from))) by (received t (updated m from (handed thread (m from)) by)) c
-      ≡ moved p plan round (entry.Steal by from thread reads) m c
-  unfolding touches effect
+      ≡ moved p plan round (entry.Steal by from (thread ∷ []) reads) m c
+  unfolding touches effect handed handed_all received received_all
   steals by from thread reads t is c =
-      let named : t.id ≡ thread = let test = find-passes (is_task thread) (m from).queue t is in grind (arith, nat_tests) in
       two_changes m from by (handed thread) (received t) c
       ∙ (where_second (eqb from c) (eqb by c) (handed thread) (received t) (m c)
-      ∙ (ap (λ id. let left : ModelCore = cond (eqb from c) (handed id (m c)) (m c) in cond (eqb by c || eqb from c) (cond (eqb by c) (received t left) left) (m c)) (sym named)
-      ∙ ap (λ o. cond (eqb by c || eqb from c) (stolen by from c o (m c)) (m c)) (sym is)))
+      ∙ ap (λ (found : List Task). let left : ModelCore = cond (eqb from c) (handed_all (thread ∷ []) (m c)) (m c) in
+      cond (eqb by c || eqb from c) (cond (eqb by c) (received_all found left) left) (m c)) (sym (one_found thread t (m from) is)))
 
   -- an attempt that takes nothing
-  pub takes_nothing : (e : Entry) → is_attempt e ≡ true → ((by from thread : ℕ) (reads : List ℕ) → e ≡ entry.Steal by from thread reads → ⊥) → (c : ℕ) → m c ≡ moved p plan round e m c
+  pub takes_nothing : (e : Entry) → is_attempt e ≡ true → ((by from : ℕ) (threads reads : List ℕ) → e ≡ entry.Steal by from threads reads → ⊥) → (c : ℕ) → m c ≡ moved p plan round e m c
   takes_nothing (entry.Round number) kind none c = absurd (cc)
   takes_nothing (entry.Enter thread by at reads) kind none c = absurd (cc)
   takes_nothing (entry.Wake thread by at reads) kind none c = absurd (cc)
   takes_nothing (entry.Work by what) kind none c = absurd (cc)
-  takes_nothing (entry.Steal by from thread reads) kind none c = absurd (none by from thread reads refl)
+  takes_nothing (entry.Steal by from threads reads) kind none c = absurd (none by from threads reads refl)
   takes_nothing (entry.Fail by from reads) kind none c = unmoved_fail p plan round m by from reads c
   takes_nothing (entry.Pass by reads) kind none c = unmoved_pass p plan round m by reads c

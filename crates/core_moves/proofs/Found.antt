@@ -5,8 +5,6 @@ use Rattle.std.proofs.lemmas.Bool.Decides.{nat_tests}
 use Rattle.sched_base.specs.declared.task.Task.{Task}
 use Rattle.policy_tree.specs.Meaning.{Meaning}
 use Rattle.policy_eval.specs.Orders.{best_and_rest, best_of}
-use Rattle.policy_eval.specs.Sights.{pair_values}
-use Rattle.policy_eval.specs.Values.{holds}
 use Rattle.round_model.specs.declared.entry.Entry.{Entry}
 use Rattle.round_model.specs.declared.entry.Entry.TheVariants as entry
 use Rattle.round_model.specs.declared.plan.Plan.{Plan}
@@ -14,8 +12,8 @@ use Rattle.round_model.specs.declared.plan.Planned.{Planned}
 use Rattle.round_model.specs.declared.state.Blocked.{Blocked}
 use Rattle.round_model.specs.declared.state.ModelCore.{ModelCore}
 use Rattle.round_model.specs.After.{after, round_of}
-use Rattle.round_model.specs.Attempts.{attempt_of, attempt_with, present_values, steal_or_fail}
-use Rattle.round_model.specs.Choices.{choice_of}
+use Rattle.round_model.specs.Attempts.{attempt_of, attempt_with, moves_with, present_values, steal_or_fail}
+use Rattle.round_model.specs.Choices.{choice_of, may_steal}
 use Rattle.round_model.specs.Cores.{Cores}
 use Rattle.round_model.specs.Legal.{LegalNext}
 use Rattle.round_model.specs.Moves.{blocked_of, is_blocked_task, is_task, queued_of}
@@ -73,27 +71,27 @@ pub wake_blocked : (p : Meaning) (plan : Plan) (h : List Entry) (thread by at : 
 unfolding LegalNext Row scene_of
 wake_blocked p plan h thread by at reads legal = wakes_blocked (round_of h) thread (after p plan h by) legal.row.next
 
--- the thread that an attempt takes is queued
-taken_queued : (p : Meaning) (plan : Plan) (m : Cores) (by from thread : ℕ) (reads : List ℕ) (chosen : Option ℕ)
-    → entry.Steal by from thread reads ≡ attempt_with p plan m by reads chosen → IsSome (queued_of thread (m from))
-taken_queued p plan m by from thread reads None is = absurd (cc)
-taken_queued p plan m by from thread reads (Some v) is =
-    by_filter (holds (pair_values (present_values plan m by) (present_values plan m v)) p.filter) (best_of (before p.steal) (m v).queue) refl is
+-- a steal takes one thread, which is queued
+taken_queued : (p : Meaning) (plan : Plan) (m : Cores) (by from : ℕ) (threads reads : List ℕ) (chosen : Option ℕ)
+    → entry.Steal by from threads reads ≡ attempt_with p plan m by reads chosen → (thread : ℕ) × (threads ≡ thread ∷ []) × IsSome (queued_of thread (m from))
+taken_queued p plan m by from threads reads None is = absurd (cc)
+taken_queued p plan m by from threads reads (Some v) is =
+    by_best (may_steal p (present_values plan m by) (present_values plan m v)) (best_of (before p.steal) (m v).queue) refl is
   where
-    by_filter : (b : Bool) (taken : Option Task) → best_of (before p.steal) (m v).queue ≡ taken
-        → entry.Steal by from thread reads ≡ cond b (steal_or_fail by v reads taken) (entry.Fail by v reads) → IsSome (queued_of thread (m from))
-    by_filter true None best is = absurd (cc)
-    by_filter true (Some t) best is =
-        let victim : from ≡ v = cc in let named : thread ≡ t.id = cc in
+    by_best : (b : Bool) (taken : Option Task) → best_of (before p.steal) (m v).queue ≡ taken
+        → entry.Steal by from threads reads ≡ steal_or_fail by v reads (moves_with (cond b taken None) (λ t. t.id ∷ []))
+        → (thread : ℕ) × (threads ≡ thread ∷ []) × IsSome (queued_of thread (m from))
+    by_best true None best is = absurd (cc)
+    by_best true (Some t) best is =
+        let victim : from ≡ v = cc in let alone : threads ≡ t.id ∷ [] = cc in
         let there = best_there (before p.steal) (m v).queue (t, others_of (best_and_rest (before p.steal) (m v).queue)) (best_pair (before p.steal) (m v).queue t best) in
         let passes : is_task t.id t ≡ true = grind (arith, nat_tests) in
-        subst (λ k. IsSome (queued_of thread (m k))) (sym victim) (subst (λ id. IsSome (queued_of id (m v))) (sym named)
-        (there_found (is_task t.id) (m v).queue t there.0 there.1 there.2 passes))
-    by_filter false taken best is = absurd (cc)
+        (t.id, alone, subst (λ k. IsSome (queued_of t.id (m k))) (sym victim) (there_found (is_task t.id) (m v).queue t there.0 there.1 there.2 passes))
+    by_best false taken best is = absurd (cc)
 
-pub steal_queued : (p : Meaning) (plan : Plan) (h : List Entry) (by from thread : ℕ) (reads : List ℕ) → LegalNext p plan h (entry.Steal by from thread reads)
-    → IsSome (queued_of thread (after p plan h from))
+pub steal_queued : (p : Meaning) (plan : Plan) (h : List Entry) (by from : ℕ) (threads reads : List ℕ) → LegalNext p plan h (entry.Steal by from threads reads)
+    → (thread : ℕ) × (threads ≡ thread ∷ []) × IsSome (queued_of thread (after p plan h from))
 unfolding LegalNext Row attempt_of scene_of
-steal_queued p plan h by from thread reads legal =
+steal_queued p plan h by from threads reads legal =
     let s = scene_of p plan h by in
-    taken_queued p plan s.cores by from thread reads (choice_of p plan.cores (read_values plan s.seen reads) by) legal.row.outcome
+    taken_queued p plan s.cores by from threads reads (choice_of p plan.cores (read_values plan s.seen reads) by) legal.row.outcome

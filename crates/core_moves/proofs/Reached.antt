@@ -129,7 +129,7 @@ module _ (p : Meaning) (plan : Plan) where
   begun_on h (entry.Enter thread by at reads) legal few = omega (arith, begun_more h (entry.Enter thread by at reads))
   begun_on h (entry.Wake thread by at reads) legal few = omega (arith, begun_more h (entry.Wake thread by at reads))
   begun_on h (entry.Work by what) legal few = omega (arith, begun_more h (entry.Work by what))
-  begun_on h (entry.Steal by from thread reads) legal few = omega (arith, begun_more h (entry.Steal by from thread reads))
+  begun_on h (entry.Steal by from threads reads) legal few = omega (arith, begun_more h (entry.Steal by from threads reads))
   begun_on h (entry.Fail by from reads) legal few = omega (arith, begun_more h (entry.Fail by from reads))
   begun_on h (entry.Pass by reads) legal few = omega (arith, begun_more h (entry.Pass by reads))
 

@@ -103,7 +103,7 @@ impl Cores {
         self.note(entry);
     }
 
-    /// The thread that the attempt takes, if it takes one, goes over to the core that makes it.
+    /// The thread that the attempt takes, if it takes one, goes over to the core that makes it. A steal moves one.
     fn take_stolen(&mut self, entry: &Entry)
         requires kind { IsTrue (is_attempt entry.now) }
         requires next { Admits entry.now self.old }
@@ -113,10 +113,10 @@ impl Cores {
             Entry::Steal {
                 by,
                 from,
-                thread,
+                threads,
                 ..
             } => {
-                let task = self.hand_over(*from, *thread);
+                let task = self.hand_over(*from, threads.get(0));
                 self.receive(*by, task);
             }
             _ => {}

@@ -32,7 +32,7 @@ some_begun p plan h (entry.Round number) next none = let more = begun_more h (en
 some_begun p plan h (entry.Enter thread by at reads) next none = let more = begun_more h (entry.Enter thread by at reads) in let one = next.begun in absurd (omega arith)
 some_begun p plan h (entry.Wake thread by at reads) next none = let more = begun_more h (entry.Wake thread by at reads) in let one = next.begun in absurd (omega arith)
 some_begun p plan h (entry.Work by what) next none = let more = begun_more h (entry.Work by what) in let one = next.begun in absurd (omega arith)
-some_begun p plan h (entry.Steal by from thread reads) next none = let more = begun_more h (entry.Steal by from thread reads) in let one = next.begun in absurd (omega arith)
+some_begun p plan h (entry.Steal by from threads reads) next none = let more = begun_more h (entry.Steal by from threads reads) in let one = next.begun in absurd (omega arith)
 some_begun p plan h (entry.Fail by from reads) next none = let more = begun_more h (entry.Fail by from reads) in let one = next.begun in absurd (omega arith)
 some_begun p plan h (entry.Pass by reads) next none = let more = begun_more h (entry.Pass by reads) in let one = next.begun in absurd (omega arith)
 

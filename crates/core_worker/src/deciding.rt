@@ -65,19 +65,10 @@ impl Run {
         let reads = look.reads;
         match look.choice {
             None => Entry::Pass { by: core, reads },
-            Some(from) => match self.cores.stealable(policy, plan, core, from) {
-                None => Entry::Fail {
-                    by: core,
-                    from,
-                    reads,
-                },
-                Some(thread) => Entry::Steal {
-                    by: core,
-                    from,
-                    thread,
-                    reads,
-                },
-            },
+            Some(from) => {
+                let threads = self.cores.stealable(policy, plan, core, from);
+                Entry::steal_or_fail(core, from, threads, reads)
+            }
         }
     }
 }

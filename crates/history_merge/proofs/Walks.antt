@@ -40,7 +40,7 @@ touched_by (entry.Round number) plain = absurd (cc)
 touched_by (entry.Enter thread by at reads) plain = (at, eq-eqb at at refl)
 touched_by (entry.Wake thread by at reads) plain = (by, ap (λ b. b || (at == by)) (eq-eqb by by refl))
 touched_by (entry.Work by what) plain = (by, eq-eqb by by refl)
-touched_by (entry.Steal by from thread reads) plain = (by, ap (λ b. b || (from == by)) (eq-eqb by by refl))
+touched_by (entry.Steal by from threads reads) plain = (by, ap (λ b. b || (from == by)) (eq-eqb by by refl))
 touched_by (entry.Fail by from reads) plain = (by, ap (λ b. b || (from == by)) (eq-eqb by by refl))
 touched_by (entry.Pass by reads) plain = (by, eq-eqb by by refl)
 

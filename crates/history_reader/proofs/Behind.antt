@@ -6,16 +6,17 @@ use Rattle.round_model.specs.declared.entry.Did.TheVariants as did
 use Rattle.round_model.specs.declared.entry.Entry.{Entry}
 use Rattle.round_model.specs.declared.entry.Entry.TheVariants as entry
 use Rattle.sched_history.specs.Ranges.{AreReads, IsCoreNumber, IsRoundNumber, IsThreadNumber}
-use Rattle.sched_history.specs.Spelling.{spaced_number, words_of_entry}
+use Rattle.sched_history.specs.Spelling.{spaced, spaced_number, words_of_entry}
 use Rattle.history_reader.specs.Code.Cuts.{IsCut, Lacks, StartsWith}
-use Rattle.history_reader.specs.Code.Kinds.{IsLineOf, IsLineOfNone, IsNoRestOf, IsRestOf, IsRestOfDid, kind_of, name_of, rest_of_reads}
-use Rattle.history_reader.specs.Code.Numbers.{BeginsWithNoNumber, BeginsWithNumber}
+use Rattle.history_reader.specs.Code.Kinds.{IsLineOf, IsLineOfNone, IsNoRestOf, IsRest, IsRestOf, IsRestOfDid, kind_of, name_of, rest_of_reads}
+use Rattle.history_reader.specs.Code.Numbers.{BeginsWithNoNumber, BeginsWithNumber, BeginsWithThreads}
 use Rattle.history_reader.specs.Reading.{BeginsWith}
 use Rattle.history_reader.specs.declared.line.Kind.{Kind}
 use Rattle.history_reader.specs.declared.line.Kind.TheVariants as kind
 use Rattle.history_reader.proofs.Cutting.{same_cut}
 use Rattle.history_reader.proofs.Entries.{line_parts, no_dash, same_kind, starts_did, words_lack_feed, words_parts}
 use Rattle.history_reader.proofs.Parts.{same_number}
+use Rattle.history_reader.proofs.Threads.{colon_no_thread, starts_behind}
 
 -- behind the number of a core, of a thread and of a round
 pub after_core : (text rest : List ℕ) (core : ℕ) (more : List ℕ) (other : ℕ) →
@@ -52,36 +53,40 @@ more_behind text rest found begins some e is = absurd (cc (is.same_kind))
 -- a steal
 pub no_from : (text rest : List ℕ) (by : ℕ) → BeginsWithNumber IsCoreNumber text by rest →
     BeginsWithNoNumber IsCoreNumber rest → IsNoRestOf kind.Steal text
-no_from text rest by begins none (entry.Steal core from thread reads) is =
+no_from text rest by begins none (entry.Steal core from threads reads) is =
     let (printable, whole) = is.is_rest in
-    none from (spaced_number thread ++ rest_of_reads reads) (record {
+    none from (spaced threads ++ rest_of_reads reads) (record {
       right = printable.1;
       text_is = after_core text rest by _ core begins printable.0 refl whole;
-      space = refl;
+      space = starts_behind threads (rest_of_reads reads) refl;
     })
 no_from text rest by begins none e is = absurd (cc (is.same_kind))
 
-pub no_thread : (text behind rest : List ℕ) (by from : ℕ) → BeginsWithNumber IsCoreNumber text by behind →
-    BeginsWithNumber IsCoreNumber behind from rest → BeginsWithNoNumber IsThreadNumber rest → IsNoRestOf kind.Steal text
-no_thread text behind rest by from begins then none (entry.Steal core other thread reads) is =
-    let (printable, whole) = is.is_rest in
+-- the threads behind the two cores of a steal, and its reads
+threads_behind : (text behind rest last : List ℕ) (by from core other : ℕ) (read threads reads : List ℕ) → BeginsWithNumber IsCoreNumber text by behind →
+    BeginsWithNumber IsCoreNumber behind from rest → BeginsWithThreads rest read last → IsRest text (entry.Steal core other threads reads)
+    → (threads ≡ read) × (last ≡ rest_of_reads reads)
+threads_behind text behind rest last by from core other read threads reads begins then found is =
+    let (printable, whole) = is in
     let second = after_core text behind by _ core begins printable.0 refl whole in
-    none thread (rest_of_reads reads) (record {
-      right = printable.2;
-      text_is = after_core behind rest from _ other then printable.1 refl second;
-      space = refl;
-    })
-no_thread text behind rest by from begins then none e is = absurd (cc (is.same_kind))
+    let after = after_core behind rest from _ other then printable.1 (starts_behind threads (rest_of_reads reads) refl) second in
+    found.only threads (rest_of_reads reads) printable.2 refl (colon_no_thread reads) after
 
-pub no_reads : (text behind rest last : List ℕ) (by from thread : ℕ) → BeginsWithNumber IsCoreNumber text by behind →
-    BeginsWithNumber IsCoreNumber behind from rest → BeginsWithNumber IsThreadNumber rest thread last
+pub no_threads : (text behind rest last : List ℕ) (by from : ℕ) (read : List ℕ) → BeginsWithNumber IsCoreNumber text by behind →
+    BeginsWithNumber IsCoreNumber behind from rest → BeginsWithThreads rest read last → read ≡ [] → IsNoRestOf kind.Steal text
+no_threads text behind rest last by from read begins then found nothing (entry.Steal core other threads reads) is =
+    let same = threads_behind text behind rest last by from core other read threads reads begins then found is.is_rest in
+    let some = is.is_rest.0.2.some in
+    absurd (omega (arith, some, ap length (same.0 ∙ nothing)))
+no_threads text behind rest last by from read begins then found nothing e is = absurd (cc (is.same_kind))
+
+pub no_reads : (text behind rest last : List ℕ) (by from : ℕ) (read : List ℕ) → BeginsWithNumber IsCoreNumber text by behind →
+    BeginsWithNumber IsCoreNumber behind from rest → BeginsWithThreads rest read last
     → ((reads : List ℕ) → AreReads reads → last ≢ rest_of_reads reads) → IsNoRestOf kind.Steal text
-no_reads text behind rest last by from thread begins then third none (entry.Steal core other named reads) is =
-    let (printable, whole) = is.is_rest in
-    let second = after_core text behind by _ core begins printable.0 refl whole in
-    let after = after_core behind rest from _ other then printable.1 refl second in
-    none reads printable.3 (after_thread rest last thread _ named third printable.2 refl after)
-no_reads text behind rest last by from thread begins then third none e is = absurd (cc (is.same_kind))
+no_reads text behind rest last by from read begins then found none (entry.Steal core other threads reads) is =
+    let same = threads_behind text behind rest last by from core other read threads reads begins then found is.is_rest in
+    none reads is.is_rest.0.3 same.1
+no_reads text behind rest last by from read begins then found none e is = absurd (cc (is.same_kind))
 
 -- a unit of work
 pub no_did : (text rest : List ℕ) (by : ℕ) → BeginsWithNumber IsCoreNumber text by rest →

@@ -2,12 +2,12 @@
 use Rattle.std.proofs.Common.{◌≡◌, ◌⊎◌, inl, inr, ℕ, zero, suc, ◌+◌, ◌-◌, ◌<◌, ◌≤◌, ◌==◌, Bool, true, false, List, [], ◌∷◌, ◌++◌, All, length, ap₂, subst, refl, arith}
 use Rattle.std.proofs.lemmas.Bool.{cases_lt, eqb-true, eqb-false}
 use Rattle.std.proofs.lemmas.List.Elements.{All-cons, All-head, All-nil, All-tail}
-use Rattle.sched_base.specs.declared.limits.TheConstants.{MAX_CORES, MAX_ENTRIES, MAX_ROUNDS, MAX_THREADS}
+use Rattle.sched_base.specs.declared.limits.TheConstants.{MAX_CORES, MAX_ENTRIES, MAX_ROUNDS, MAX_STOLEN, MAX_THREADS}
 use Rattle.round_model.specs.declared.entry.Did.{Did}
 use Rattle.round_model.specs.declared.entry.Did.TheVariants as did
 use Rattle.round_model.specs.declared.entry.Entry.{Entry}
 use Rattle.round_model.specs.declared.entry.Entry.TheVariants as entry
-use Rattle.sched_history.specs.Ranges.{AreReads, IsCoreNumber, IsPosition, IsPrintable, IsRoundNumber, IsThreadNumber, NamesThread}
+use Rattle.sched_history.specs.Ranges.{AreReads, AreStolen, IsCoreNumber, IsPosition, IsPrintable, IsRoundNumber, IsThreadNumber, NamesThread}
 use Rattle.sched_history.specs.Spelling.{line_of_entry}
 use Rattle.history_reader.specs.Code.Numbers.{IsWithin}
 use Rattle.history_reader.specs.Reading.{BeginsWith, BeginsWithNone}
@@ -119,6 +119,51 @@ reads_with P decide =
     back : (xs : List ℕ) × AreReads xs × P xs → Several P (MAX_ENTRIES + 1) MAX_CORES
     back (xs, are, is) = (xs, are.few, (λ k d lt. (let one = are.positions k d lt in omega (arith, one))), is)
 
+both : (P Q : Type 0) → Decided P → Decided Q → Decided (P × Q)
+both P Q (inl is) (inl other) = inl (is, other)
+both P Q (inl is) (inr none) = inr (λ x. none x.1)
+both P Q (inr none) other = inr (λ x. none x.0)
+
+is_thread_number : (n : ℕ) → Decided (IsThreadNumber n)
+is_thread_number zero = inr (λ x. let low = x.0 in omega (arith, low))
+is_thread_number (suc n) = by (cases_lt (suc n) (MAX_THREADS + 1))
+  where
+    by : (suc n < MAX_THREADS + 1) ⊎ (MAX_THREADS + 1 ≤ suc n) → Decided (IsThreadNumber (suc n))
+    by (inl small) = inl (omega arith, omega (arith, small))
+    by (inr great) = inr (λ x. let high = x.1 in omega (arith, high, great))
+
+are_thread_numbers : (xs : List ℕ) → Decided (All IsThreadNumber xs)
+are_thread_numbers [] = inl (All-nil IsThreadNumber)
+are_thread_numbers (x ∷ xs) =
+    same_decision (IsThreadNumber x × All IsThreadNumber xs) (All IsThreadNumber (x ∷ xs))
+    (λ each. All-cons IsThreadNumber x xs each.0 each.1) (λ all. (All-head IsThreadNumber x xs all, All-tail IsThreadNumber x xs all))
+    (both (IsThreadNumber x) (All IsThreadNumber xs) (is_thread_number x) (are_thread_numbers xs))
+
+some_item : (xs : List ℕ) → Decided (0 < length xs)
+some_item [] = inr (λ some. omega (arith, some))
+some_item (x ∷ xs) = inl (omega arith)
+
+-- threads that a steal may move
+stolen_with : (P : List ℕ → Type 0) → ((xs : List ℕ) → Decided (P xs)) → Decided ((xs : List ℕ) × AreStolen xs × P xs)
+stolen_with P decide =
+    same_decision (Several Some_P (MAX_THREADS + 1) MAX_STOLEN) ((xs : List ℕ) × AreStolen xs × P xs) there back
+    (several (MAX_THREADS + 1) MAX_STOLEN Some_P decided)
+  where
+    Fit : List ℕ → Type 0
+    Fit xs = (0 < length xs) × All IsThreadNumber xs
+
+    Some_P : List ℕ → Type 0
+    Some_P xs = Fit xs × P xs
+
+    decided : (xs : List ℕ) → Decided (Some_P xs)
+    decided xs = both (Fit xs) (P xs) (both (0 < length xs) (All IsThreadNumber xs) (some_item xs) (are_thread_numbers xs)) (decide xs)
+
+    there : Several Some_P (MAX_THREADS + 1) MAX_STOLEN → (xs : List ℕ) × AreStolen xs × P xs
+    there (xs, few, fit, is) = (xs, record { some = is.0.0; few = few; numbers = is.0.1 }, is.1)
+
+    back : (xs : List ℕ) × AreStolen xs × P xs → Several Some_P (MAX_THREADS + 1) MAX_STOLEN
+    back (xs, are, is) = (xs, are.few, (λ k d lt. (let one = are.numbers k d lt in omega (arith, one.1))), ((are.some, are.numbers), is))
+
 -- what became of a thread
 abbrev Words : (Did → Type 0) → ℕ → Type 0
 Words P n = P (did.Kept n) ⊎ (P (did.Queued n) ⊎ (P (did.Blocked n) ⊎ P (did.Ended n)))
@@ -170,10 +215,13 @@ twos P decide = core_with _ (λ b. core_with _ (λ f. reads_with _ (λ r. decide
 threes : (P : ℕ → ℕ → ℕ → List ℕ → Type 0) → ((t b a : ℕ) (r : List ℕ) → Decided (P t b a r)) → Decided (Threes P)
 threes P decide = thread_with _ (λ t. twos (P t) (decide t))
 
+abbrev Steals : (Entry → Type 0) → Type 0
+Steals P = (ts : List ℕ) × AreStolen ts × Twos (λ b f r. P (entry.Steal b f ts r))
+
 abbrev Kinds : (Entry → Type 0) → Type 0
 Kinds P =
     Rounds P ⊎ (Threes (λ t b a r. P (entry.Enter t b a r)) ⊎ (Threes (λ t b a r. P (entry.Wake t b a r)) ⊎ (Works P ⊎
-    (Threes (λ t b f r. P (entry.Steal b f t r)) ⊎ (Twos (λ b f r. P (entry.Fail b f r)) ⊎ Passes P)))))
+    (Steals P ⊎ (Twos (λ b f r. P (entry.Fail b f r)) ⊎ Passes P)))))
 
 entry_with : (P : Entry → Type 0) → ((e : Entry) → Decided (P e)) → Decided ((e : Entry) × IsPrintable e × P e)
 entry_with P decide =
@@ -182,7 +230,7 @@ entry_with P decide =
     (either _ _ (threes _ (λ t b a r. decide (entry.Enter t b a r)))
     (either _ _ (threes _ (λ t b a r. decide (entry.Wake t b a r)))
     (either _ _ (core_with _ (λ b. did_with _ (λ what. decide (entry.Work b what))))
-    (either _ _ (threes _ (λ t b f r. decide (entry.Steal b f t r)))
+    (either _ _ (stolen_with _ (λ ts. twos _ (λ b f r. decide (entry.Steal b f ts r))))
     (either _ _ (twos _ (λ b f r. decide (entry.Fail b f r)))
     (core_with _ (λ b. reads_with _ (λ r. decide (entry.Pass b r))))))))))
   where
@@ -192,8 +240,8 @@ entry_with P decide =
     there (inr (inr (inl (t, thread, (b, by, (a, at, (r, are, is))))))) =
         (entry.Wake t b a r, (thread, by, at, are), is)
     there (inr (inr (inr (inl (b, by, (what, named, is)))))) = (entry.Work b what, (by, named), is)
-    there (inr (inr (inr (inr (inl (t, thread, (b, by, (f, from, (r, are, is))))))))) =
-        (entry.Steal b f t r, (by, from, thread, are), is)
+    there (inr (inr (inr (inr (inl (ts, threads, (b, by, (f, from, (r, are, is))))))))) =
+        (entry.Steal b f ts r, (by, from, threads, are), is)
     there (inr (inr (inr (inr (inr (inl (b, by, (f, from, (r, are, is))))))))) = (entry.Fail b f r, (by, from, are), is)
     there (inr (inr (inr (inr (inr (inr (b, by, (r, are, is)))))))) = (entry.Pass b r, (by, are), is)
 
@@ -202,8 +250,8 @@ entry_with P decide =
     back (entry.Enter t b a r) (thread, by, at, are) is = inr (inl (t, thread, (b, by, (a, at, (r, are, is)))))
     back (entry.Wake t b a r) (thread, by, at, are) is = inr (inr (inl (t, thread, (b, by, (a, at, (r, are, is))))))
     back (entry.Work b what) (by, named) is = inr (inr (inr (inl (b, by, (what, named, is)))))
-    back (entry.Steal b f t r) (by, from, thread, are) is =
-        inr (inr (inr (inr (inl (t, thread, (b, by, (f, from, (r, are, is))))))))
+    back (entry.Steal b f ts r) (by, from, threads, are) is =
+        inr (inr (inr (inr (inl (ts, threads, (b, by, (f, from, (r, are, is))))))))
     back (entry.Fail b f r) (by, from, are) is = inr (inr (inr (inr (inr (inl (b, by, (f, from, (r, are, is))))))))
     back (entry.Pass b r) (by, are) is = inr (inr (inr (inr (inr (inr (b, by, (r, are, is)))))))
 

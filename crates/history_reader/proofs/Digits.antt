@@ -1,5 +1,5 @@
 -- The bytes of numbers are digits.
-use Rattle.std.proofs.Common.{◌≡◌, ◌≢◌, ℕ, ◌^◌, ◌<◌, ◌+◌, ◌*◌, ◌-◌, Bool, true, false, List, [], ◌∷◌, decimal, ◌≤◌, refl, arith, rules}
+use Rattle.std.proofs.Common.{◌≡◌, ◌≢◌, ℕ, ◌^◌, ◌<◌, ◌+◌, ◌*◌, ◌-◌, Bool, true, false, List, [], ◌∷◌, decimal, refl, sym, ap, ◌∙◌, arith, rules}
 use Rattle.std.specs.Char.{is_ascii_digit}
 use Rattle.std.specs.Str.{all_ascii_digits}
 use Rattle.std.proofs.lemmas.Bool.{false≢true}
@@ -16,21 +16,21 @@ read_on n (c ∷ cs) = read_on (10 * n + (c - 48)) cs
 own : IsNumeralModel (λ ds. all_ascii_digits ds ≡ true) (read_on 0)
 own = numerals_by_fold _ (search rules) read_on (search rules)
 
-is_digit : (d : ℕ) → is_ascii_digit d ≡ true → (48 ≤ d) × (d ≤ 57)
-is_digit d test = grind (arith, nat_tests)
-
-not_digit : (byte d : ℕ) → byte < 48 → is_ascii_digit d ≡ true → d ≢ byte
-not_digit byte d below test same = omega (arith, is_digit d test)
+not_digit : (byte d : ℕ) → is_ascii_digit byte ≡ false → is_ascii_digit d ≡ true → d ≢ byte
+not_digit byte d other test same = absurd (false≢true (sym other ∙ (ap is_ascii_digit (sym same) ∙ test)))
 
 -- digits lack each other byte
-digits_lack : (byte : ℕ) → byte < 48 → (digits : List ℕ) → all_ascii_digits digits ≡ true → Lacks byte digits
-digits_lack byte below [] digits = All-nil (λ other. other ≢ byte)
-digits_lack byte below (d ∷ rest) digits = by (is_ascii_digit d) refl (digits_lack byte below rest)
+digits_lack : (byte : ℕ) → is_ascii_digit byte ≡ false → (digits : List ℕ) → all_ascii_digits digits ≡ true → Lacks byte digits
+digits_lack byte other [] digits = All-nil (λ other. other ≢ byte)
+digits_lack byte other (d ∷ rest) digits = by (is_ascii_digit d) refl (digits_lack byte other rest)
   where
     by : (b : Bool) → is_ascii_digit d ≡ b → (all_ascii_digits rest ≡ true → Lacks byte rest) → Lacks byte (d ∷ rest)
-    by true test after = All-cons (λ other. other ≢ byte) d rest (not_digit byte d below test)
+    by true test after = All-cons (λ other. other ≢ byte) d rest (not_digit byte d other test)
         (after (rw test at digits))
     by false test after = absurd (false≢true (rw test at digits))
 
+pub decimal_lacks_other : (byte n : ℕ) → is_ascii_digit byte ≡ false → n < 2 ^ 64 → Lacks byte (decimal n)
+decimal_lacks_other byte n other lt = digits_lack byte other (decimal n) (digits_decimal own n lt)
+
 pub decimal_lacks : (byte n : ℕ) → byte < 48 → n < 2 ^ 64 → Lacks byte (decimal n)
-decimal_lacks byte n below lt = digits_lack byte below (decimal n) (digits_decimal own n lt)
+decimal_lacks byte n below lt = decimal_lacks_other byte n (grind (arith, nat_tests, below)) lt

@@ -16,6 +16,7 @@ use Rattle.history_reader.specs.declared.line.Kind.TheVariants as kind
 use Rattle.history_reader.proofs.Cutting.{same_cut}
 use Rattle.history_reader.proofs.Digits.{decimal_lacks}
 use Rattle.history_reader.proofs.Parts.{lacks_text}
+use Rattle.history_reader.proofs.Threads.{threads_lack}
 use Rattle.history_reader.proofs.Positions.{number_lacks, spaced_lacks}
 
 -- the parts of words, however they are put together
@@ -31,6 +32,10 @@ unit_of name a b fate = simp (append_assoc, append-nil) refl
 three : (name a b c colon reads : List ℕ) →
     ((name ++ (a ++ (b ++ (c ++ [])))) ++ colon) ++ reads ≡ name ++ (a ++ (b ++ (c ++ (colon ++ reads))))
 three name a b c colon reads = simp (append_assoc, append-nil) refl
+
+three_and : (name a b c colon reads : List ℕ) →
+    ((name ++ (a ++ (b ++ c))) ++ colon) ++ reads ≡ name ++ (a ++ (b ++ (c ++ (colon ++ reads))))
+three_and name a b c colon reads = simp (append_assoc) refl
 
 two : (name a b colon reads : List ℕ) → ((name ++ (a ++ (b ++ []))) ++ colon) ++ reads ≡ name ++
     (a ++ (b ++ (colon ++ reads)))
@@ -56,8 +61,8 @@ words_parts (entry.Work by (did.Blocked thread)) =
     unit_of (codes "work") (spaced_number by) (spaced_number thread) (codes " block")
 words_parts (entry.Work by (did.Ended thread)) =
     unit_of (codes "work") (spaced_number by) (spaced_number thread) (codes " end")
-words_parts (entry.Steal by from thread reads) =
-    three (codes "steal") (spaced_number by) (spaced_number from) (spaced_number thread) (codes " :") (spaced reads)
+words_parts (entry.Steal by from threads reads) =
+    three_and (codes "steal") (spaced_number by) (spaced_number from) (spaced threads) (codes " :") (spaced reads)
 words_parts (entry.Fail by from reads) = two (codes "fail") (spaced_number by) (spaced_number from) (codes " :")
     (spaced reads)
 words_parts (entry.Pass by reads) = one (codes "pass") (spaced_number by) (codes " :") (spaced reads)
@@ -163,8 +168,9 @@ rest_lacks (entry.Enter thread by at reads) is =
 rest_lacks (entry.Wake thread by at reads) is =
     thread_lacks thread _ is.0 (core_lacks by _ is.1 (core_lacks at _ is.2 (reads_lack reads is.3)))
 rest_lacks (entry.Work by what) is = core_lacks by _ is.0 (did_lacks what is.1)
-rest_lacks (entry.Steal by from thread reads) is =
-    core_lacks by _ is.0 (core_lacks from _ is.1 (thread_lacks thread _ is.2 (reads_lack reads is.3)))
+rest_lacks (entry.Steal by from threads reads) is =
+    core_lacks by _ is.0 (core_lacks from _ is.1
+    (and_then (spaced threads) (rest_of_reads reads) (threads_lack 10 threads (omega arith) is.2.numbers) (reads_lack reads is.3)))
 rest_lacks (entry.Fail by from reads) is = core_lacks by _ is.0 (core_lacks from _ is.1 (reads_lack reads is.2))
 rest_lacks (entry.Pass by reads) is = core_lacks by _ is.0 (reads_lack reads is.1)
 

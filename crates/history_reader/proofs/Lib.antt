@@ -7,3 +7,4 @@ pub mod Entries
 pub mod OneReading
 pub mod Parts
 pub mod Positions
+pub mod Threads

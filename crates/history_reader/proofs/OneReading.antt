@@ -19,6 +19,7 @@ use Rattle.history_reader.proofs.Cutting.{same_cut}
 use Rattle.history_reader.proofs.Entries.{fate_of, no_dash, space_lacks, starts_did, starts_rest, thread_of, words_lack_feed, words_parts}
 use Rattle.history_reader.proofs.Parts.{same_number}
 use Rattle.history_reader.proofs.Positions.{same_spaced}
+use Rattle.history_reader.proofs.Threads.{colon_no_thread, same_threads, starts_behind}
 
 -- a number, and what stands behind it
 same_core : (one two : ℕ) (more others : List ℕ) → IsCoreNumber one → IsCoreNumber two → StartsWith 32 more →
@@ -76,8 +77,8 @@ same_rest (entry.Work b what) (entry.Work c then) is_one is_two name same =
     cc (first.0, last)
 same_rest (entry.Steal b f t r) (entry.Steal c g u s) is_one is_two name same =
     let first = same_core b c _ _ is_one.0 is_two.0 refl refl same in
-    let second = same_core f g _ _ is_one.1 is_two.1 refl refl first.1 in
-    let third = same_thread t u _ _ is_one.2 is_two.2 refl refl second.1 in
+    let second = same_core f g _ _ is_one.1 is_two.1 (starts_behind t (rest_of_reads r) refl) (starts_behind u (rest_of_reads s) refl) first.1 in
+    let third = same_threads t u (rest_of_reads r) (rest_of_reads s) is_one.2.numbers is_two.2.numbers refl refl (colon_no_thread r) (colon_no_thread s) second.1 in
     let last = same_reads r s is_one.3 is_two.3 third.1 in
     cc (first.0, second.0, third.0, last)
 same_rest (entry.Fail b f r) (entry.Fail c g s) is_one is_two name same =

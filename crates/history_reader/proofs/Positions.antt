@@ -19,11 +19,11 @@ unfolding spaced
 starts_spaced [] = tt
 starts_spaced (number ∷ rest) = refl
 
-spaced-nil : spaced [] ≡ []
+pub spaced-nil : spaced [] ≡ []
 unfolding spaced
 spaced-nil = refl
 
-spaced-cons : (number : ℕ) (rest : List ℕ) → spaced (number ∷ rest) ≡ spaced_number number ++ spaced rest
+pub spaced-cons : (number : ℕ) (rest : List ℕ) → spaced (number ∷ rest) ≡ spaced_number number ++ spaced rest
 unfolding spaced
 spaced-cons number rest = refl
 

@@ -4,10 +4,13 @@ ghost use Rattle.std.specs.Prelude.{◌≡◌, ◌≢◌, List, MatchOption, ℕ
 ghost use Rattle.sched_history.specs.Ranges.{AreReads, IsCoreNumber, IsPosition, IsRoundNumber, IsThreadNumber};
 ghost use Rattle.sched_history.specs.Spelling.{spaced};
 ghost use Rattle.history_reader.specs.Code.Kinds.{rest_of_reads};
-ghost use Rattle.history_reader.specs.Code.Numbers.{BeginsWithNoNumber, BeginsWithNumber, IsWithin};
+ghost use Rattle.history_reader.specs.Code.Numbers.{BeginsWithNoNumber, BeginsWithNumber, BeginsWithThreads, IsWithin};
 
 use crate::cuts::front;
-use sched_base::{CoreId, MAX_CORES, MAX_ENTRIES, MAX_ROUNDS, MAX_THREADS, Pos, Reads, ThreadId};
+use sched_base::{
+    CoreId, MAX_CORES, MAX_ENTRIES, MAX_ROUNDS, MAX_STOLEN, MAX_THREADS, Pos, Reads, Stolen,
+    ThreadId,
+};
 use text_forms::exact_number_in;
 
 /// The number of a round that the text begins with, and what stands behind it.
@@ -26,6 +29,22 @@ pub fn thread_at(text: &[u8]) -> Option<(ThreadId, &[u8])>
         (λ found. BeginsWithNumber IsThreadNumber text.now found.0 found.1.now) }
 {
     number_at(text, 1, MAX_THREADS)
+}
+
+/// The threads that the text begins with, as many as there are and one steal may move, and what stands behind them.
+pub fn threads_at(text: &[u8]) -> (Stolen, &[u8])
+    ensures { BeginsWithThreads text.now result.0 result.1.now }
+{
+    let mut threads = Stolen::empty();
+    let mut rest = text;
+    for _thread in 0..MAX_STOLEN {
+        let Some((thread, behind)) = thread_at(rest) else {
+            return (threads, rest);
+        };
+        threads.push(thread);
+        rest = behind;
+    }
+    (threads, rest)
 }
 
 /// The number of a core that the text begins with, and what stands behind it.

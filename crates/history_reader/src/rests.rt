@@ -5,7 +5,7 @@ ghost use Rattle.round_model.specs.declared.entry.Entry.TheVariants as entries;
 ghost use Rattle.history_reader.specs.Code.Kinds.{IsNoRestOf, IsRest, IsRestOf};
 ghost use Rattle.history_reader.specs.declared.line.Kind.TheVariants as kinds;
 
-use crate::numbers::{core_at, reads_in, round_at, thread_at};
+use crate::numbers::{core_at, reads_in, round_at, thread_at, threads_at};
 use round_model::Entry;
 use sched_base::{CoreId, Reads, ThreadId};
 
@@ -61,12 +61,15 @@ pub fn steal_in(text: &[u8]) -> Option<Entry>
 {
     let (by, rest) = core_at(text)?;
     let (from, rest) = core_at(rest)?;
-    let (thread, rest) = thread_at(rest)?;
+    let (threads, rest) = threads_at(rest);
+    if threads.is_empty() {
+        return None;
+    }
     let reads = reads_in(rest)?;
     Some(Entry::Steal {
         by,
         from,
-        thread,
+        threads,
         reads,
     })
 }

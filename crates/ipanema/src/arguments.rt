@@ -35,7 +35,7 @@ pub fn exit_code<R: Threads + Wait + Sync, F: Files, S: Sink>(
         (Rose (F.faults files.old) (F.faults files.new)) (S.shown out.old) (S.shown out.new) (exit_status result) }
     ensures loads { FirstAreLoaded (asked_by (words_given args)) (F.told files.old)
         (F.requested files.old) (F.requested files.new) }
-    ensures loaded { OneOf (0 ∷ 1 ∷ 2 ∷ 3 ∷ 7 ∷ 8 ∷ 9 ∷ []) (exit_status result) →
+    ensures loaded { OneOf (0 ∷ 1 ∷ 2 ∷ 3 ∷ 7 ∷ 8 ∷ 9 ∷ 11 ∷ []) (exit_status result) →
         AreRequested (files_of (asked_by (words_given args))) (F.requested files.old) (F.requested files.new) }
     ensures calm { (exit_status result ≡ 4) ⊎ (F.faults files.new ≡ F.faults files.old) }
     ensures quiet { (exit_status result ≡ 5) ⊎ ((S.shown out.new).faults ≡ (S.shown out.old).faults) }

@@ -15,6 +15,8 @@ use Rattle.policy_check.specs.declared.answer.CheckAnswer.TheVariants as checked
 use Rattle.policy_check.specs.declared.explaining.ExplainAnswer.TheVariants as explained
 use Rattle.policy_check.specs.declared.reading.Refusal.{Refusal}
 use Rattle.policy_check.specs.declared.reading.Refusal.TheVariants as refusal
+use Rattle.policy_check.specs.declared.verifying.VerifyAnswer.{VerifyAnswer}
+use Rattle.policy_check.specs.declared.verifying.VerifyAnswer.TheVariants as verified
 use Rattle.trace_play.specs.declared.answer.PlayAnswer.{PlayAnswer}
 use Rattle.trace_play.specs.declared.answer.PlayAnswer.TheVariants as play_answer
 use Rattle.trace_play.specs.declared.cores.PlayedCores.TheVariants as cores
@@ -24,11 +26,11 @@ use Rattle.history_replay.specs.declared.refusal.HistoryRefusal.TheVariants as n
 use Rattle.history_replay.specs.Judges.{IsReplayOf, IsReportOf}
 use Rattle.trace_play.specs.Plays as plays
 use Rattle.trace_run.specs.Runs.{IsRunOf}
-use Rattle.ipanema_cli.specs.Answers.{AnswersCheck, AnswersExplain, AnswersJudging, AnswersPlay, IsAnswer, Judging, Playing, output_of, status_of}
-use Rattle.command_words.specs.Command.{Asked, bench, check, explain, make, play, replay, report, run}
+use Rattle.ipanema_cli.specs.Answers.{AnswersCheck, AnswersExplain, AnswersJudging, AnswersPlay, AnswersProve, AnswersVerify, IsAnswer, Judging, Playing, output_of, status_of}
+use Rattle.command_words.specs.Command.{Asked, bench, check, explain, make, play, prove, replay, report, run, verify}
 use Rattle.ipanema_cli.specs.Ends.{Ends, answered, unread, no_memory}
-use Rattle.ipanema_cli.specs.Causes.{HasCause, Judges, OneOf, Plays, SaysCrowded, SaysTooLong}
-use Rattle.ipanema_cli.specs.Status.{check_status, code_of, outcome_status, refusal_status}
+use Rattle.ipanema_cli.specs.Causes.{HasCause, Judges, OneOf, Plays, SaysCrowded, SaysTooLong, Verifies}
+use Rattle.ipanema_cli.specs.Status.{check_status, code_of, outcome_status, refusal_status, verify_status}
 use Rattle.ipanema_cli.specs.Loads.{IsFileOf, IsOneOfThree}
 use Rattle.ipanema_cli.specs.Stops.{IsUnread}
 use Rattle.ipanema_cli.specs.Texts.{MayRead, room_of, too_long_line}
@@ -36,16 +38,24 @@ use Rattle.ipanema_cli.specs.declared.answers.Answer.{Answer}
 use Rattle.ipanema_cli.specs.declared.answers.Answer.TheVariants as answer
 use Rattle.ipanema_cli.specs.declared.texts.TextKind.{TextKind}
 use Rattle.ipanema_cli.specs.declared.texts.TextKind.TheVariants as kind
-use Rattle.ipanema_cli.proofs.WritesLemmas.{is_0, is_1, is_2, is_3, is_7, is_8, is_9, is_10, answer_code, code_among, cut, no_stop, one_line, whole}
+use Rattle.ipanema_cli.proofs.WritesLemmas.{is_0, is_1, is_2, is_3, is_7, is_8, is_9, is_10, is_11, answer_code, code_among, cut, no_stop, one_line, whole}
 
-known_code : (a : Answer) → OneOf (0 ∷ 1 ∷ 2 ∷ 3 ∷ 4 ∷ 5 ∷ 6 ∷ 7 ∷ 8 ∷ 9 ∷ 10 ∷ []) (code_of (status_of a))
-known_code a = elim (answer_code a) [ is_0 h ↦ rw h refl | is_1 h ↦ rw h refl | is_2 h ↦ rw h refl | is_3 h ↦ rw h refl | is_7 h ↦ rw h refl | is_8 h ↦ rw h refl | is_9 h ↦ rw h refl | is_10 h ↦ rw h refl ]
+known_code : (a : Answer) → OneOf (0 ∷ 1 ∷ 2 ∷ 3 ∷ 4 ∷ 5 ∷ 6 ∷ 7 ∷ 8 ∷ 9 ∷ 10 ∷ 11 ∷ []) (code_of (status_of a))
+known_code a = elim (answer_code a) [ is_0 h ↦ rw h refl | is_1 h ↦ rw h refl | is_2 h ↦ rw h refl | is_3 h ↦ rw h refl | is_7 h ↦ rw h refl | is_8 h ↦ rw h refl | is_9 h ↦ rw h refl | is_10 h ↦ rw h refl | is_11 h ↦ rw h refl ]
 
 -- an answer to an obligation has none but the numbers 0, 1 and 3
 outcome_low : (told : Outcome) (n : ℕ) → n ≢ 0 → n ≢ 1 → n ≢ 3 → code_of (outcome_status told) ≡ n → ⊥
 outcome_low outcome.Holds n a b c e = a (sym e)
 outcome_low outcome.Fails n a b c e = b (sym e)
 outcome_low outcome.Undecided n a b c e = c (sym e)
+
+-- an answer of `verify` has none but the numbers 0, 2, 10 and 11
+verify_low : (v : VerifyAnswer) (n : ℕ) → n ≢ 0 → n ≢ 2 → n ≢ 10 → n ≢ 11 → code_of (verify_status v) ≡ n → ⊥
+verify_low (verified.Verified told) n a b c d e = a (sym e)
+verify_low (verified.BadLine line) n a b c d e = b (sym e)
+verify_low (verified.Wrong name place) n a b c d e = d (sym e)
+verify_low (verified.Unjudged (refusal.Faulty fault)) n a b c d e = b (sym e)
+verify_low (verified.Unjudged (refusal.Crowded name)) n a b c d e = c (sym e)
 
 -- the number 7 is that of one answer
 seven : (a : Answer) → code_of (status_of a) ≡ 7 → a ≡ answer.BadWords
@@ -57,6 +67,8 @@ seven (answer.Checked (checked.Unjudged (refusal.Crowded name))) e = absurd (ome
 seven (answer.Explained (explained.Explained told)) e = absurd (outcome_low told.outcome 7 (λ h. omega arith) (λ h. omega arith) (λ h. omega arith) e)
 seven (answer.Explained (explained.Unjudged (refusal.Faulty fault))) e = absurd (omega arith)
 seven (answer.Explained (explained.Unjudged (refusal.Crowded name))) e = absurd (omega arith)
+seven (answer.Proved certs) e = absurd (omega arith)
+seven (answer.Verified v) e = absurd (verify_low v 7 (λ h. omega arith) (λ h. omega arith) (λ h. omega arith) (λ h. omega arith) e)
 seven (answer.Played (play_answer.Broken fault)) e = absurd (omega arith)
 seven (answer.Played (play_answer.Played (cores.Whole closed))) e = absurd (omega arith)
 seven (answer.Played (play_answer.Played (cores.Full closed))) e = absurd (omega arith)
@@ -71,7 +83,7 @@ seven (answer.Benched told) e = absurd (omega arith)
 seven (answer.TooLong which) e = absurd (omega arith)
 seven answer.BadWords e = refl
 
--- the number 8 is that of a trace that was played, and 9 that of a history that was judged
+-- the number 8 is that of a trace that was played, 9 that of a history that was judged, and 11 that of certificates
 eight : (a : Answer) → code_of (status_of a) ≡ 8 → (outcome : PlayAnswer) × (a ≡ answer.Played outcome)
 eight (answer.Checked (checked.Judged (verdict.Accepted policy))) e = absurd (omega arith)
 eight (answer.Checked (checked.Judged (verdict.Refused answers policy))) e = absurd (omega arith)
@@ -81,6 +93,8 @@ eight (answer.Checked (checked.Unjudged (refusal.Crowded name))) e = absurd (ome
 eight (answer.Explained (explained.Explained told)) e = absurd (outcome_low told.outcome 8 (λ h. omega arith) (λ h. omega arith) (λ h. omega arith) e)
 eight (answer.Explained (explained.Unjudged (refusal.Faulty fault))) e = absurd (omega arith)
 eight (answer.Explained (explained.Unjudged (refusal.Crowded name))) e = absurd (omega arith)
+eight (answer.Proved certs) e = absurd (omega arith)
+eight (answer.Verified v) e = absurd (verify_low v 8 (λ h. omega arith) (λ h. omega arith) (λ h. omega arith) (λ h. omega arith) e)
 eight (answer.Played outcome) e = (outcome, refl)
 eight (answer.Judged (judged.Whole count)) e = absurd (omega arith)
 eight (answer.Judged (judged.Reported told)) e = absurd (omega arith)
@@ -102,6 +116,8 @@ nine (answer.Checked (checked.Unjudged (refusal.Crowded name))) e = absurd (omeg
 nine (answer.Explained (explained.Explained told)) e = absurd (outcome_low told.outcome 9 (λ h. omega arith) (λ h. omega arith) (λ h. omega arith) e)
 nine (answer.Explained (explained.Unjudged (refusal.Faulty fault))) e = absurd (omega arith)
 nine (answer.Explained (explained.Unjudged (refusal.Crowded name))) e = absurd (omega arith)
+nine (answer.Proved certs) e = absurd (omega arith)
+nine (answer.Verified v) e = absurd (verify_low v 9 (λ h. omega arith) (λ h. omega arith) (λ h. omega arith) (λ h. omega arith) e)
 nine (answer.Played (play_answer.Broken fault)) e = absurd (omega arith)
 nine (answer.Played (play_answer.Played (cores.Whole closed))) e = absurd (omega arith)
 nine (answer.Played (play_answer.Played (cores.Full closed))) e = absurd (omega arith)
@@ -111,10 +127,37 @@ nine (answer.Benched told) e = absurd (omega arith)
 nine (answer.TooLong which) e = absurd (omega arith)
 nine answer.BadWords e = absurd (omega arith)
 
+eleven : (a : Answer) → code_of (status_of a) ≡ 11 → (v : VerifyAnswer) × (a ≡ answer.Verified v)
+eleven (answer.Checked (checked.Judged (verdict.Accepted policy))) e = absurd (omega arith)
+eleven (answer.Checked (checked.Judged (verdict.Refused answers policy))) e = absurd (omega arith)
+eleven (answer.Checked (checked.Judged (verdict.Undecided answers policy))) e = absurd (omega arith)
+eleven (answer.Checked (checked.Unjudged (refusal.Faulty fault))) e = absurd (omega arith)
+eleven (answer.Checked (checked.Unjudged (refusal.Crowded name))) e = absurd (omega arith)
+eleven (answer.Explained (explained.Explained told)) e = absurd (outcome_low told.outcome 11 (λ h. omega arith) (λ h. omega arith) (λ h. omega arith) e)
+eleven (answer.Explained (explained.Unjudged (refusal.Faulty fault))) e = absurd (omega arith)
+eleven (answer.Explained (explained.Unjudged (refusal.Crowded name))) e = absurd (omega arith)
+eleven (answer.Proved certs) e = absurd (omega arith)
+eleven (answer.Verified v) e = (v, refl)
+eleven (answer.Played (play_answer.Broken fault)) e = absurd (omega arith)
+eleven (answer.Played (play_answer.Played (cores.Whole closed))) e = absurd (omega arith)
+eleven (answer.Played (play_answer.Played (cores.Full closed))) e = absurd (omega arith)
+eleven (answer.Judged (judged.Whole count)) e = absurd (omega arith)
+eleven (answer.Judged (judged.Reported told)) e = absurd (omega arith)
+eleven (answer.Judged (judged.Refused (no_history.Trace fault))) e = absurd (omega arith)
+eleven (answer.Judged (judged.Refused (no_history.BadLine line))) e = absurd (omega arith)
+eleven (answer.Judged (judged.Refused (no_history.Illegal position))) e = absurd (omega arith)
+eleven (answer.Judged (judged.Refused (no_history.Short count))) e = absurd (omega arith)
+eleven (answer.Made text) e = absurd (omega arith)
+eleven (answer.Benched told) e = absurd (omega arith)
+eleven (answer.TooLong which) e = absurd (omega arith)
+eleven answer.BadWords e = absurd (omega arith)
+
 played_for : (asked : Option Asked) (told : List ℕ → Told) (outcome : PlayAnswer) → IsAnswer asked told (answer.Played outcome) → Plays asked
 played_for None told outcome is = absurd is
 played_for (Some (check policy)) told outcome is = absurd is
 played_for (Some (explain policy name)) told outcome is = absurd is
+played_for (Some (prove policy)) told outcome is = absurd is
+played_for (Some (verify policy certs)) told outcome is = absurd is
 played_for (Some (play policy trace)) told outcome is = (policy, trace, inl refl)
 played_for (Some (run policy trace)) told outcome is = (policy, trace, inr refl)
 played_for (Some (replay policy trace history)) told outcome is = absurd is
@@ -126,6 +169,8 @@ judged_for : (asked : Option Asked) (told : List ℕ → Told) (h : HistoryAnswe
 judged_for None told h is = absurd is
 judged_for (Some (check policy)) told h is = absurd is
 judged_for (Some (explain policy name)) told h is = absurd is
+judged_for (Some (prove policy)) told h is = absurd is
+judged_for (Some (verify policy certs)) told h is = absurd is
 judged_for (Some (play policy trace)) told h is = absurd is
 judged_for (Some (run policy trace)) told h is = absurd is
 judged_for (Some (replay policy trace history)) told h is = (policy, trace, history, inl refl)
@@ -133,11 +178,26 @@ judged_for (Some (report policy trace history)) told h is = (policy, trace, hist
 judged_for (Some (make seed size)) told h is = absurd is
 judged_for (Some (bench seed size)) told h is = absurd is
 
+verified_for : (asked : Option Asked) (told : List ℕ → Told) (v : VerifyAnswer) → IsAnswer asked told (answer.Verified v) → Verifies asked
+verified_for None told v is = absurd is
+verified_for (Some (check policy)) told v is = absurd is
+verified_for (Some (explain policy name)) told v is = absurd is
+verified_for (Some (prove policy)) told v is = absurd is
+verified_for (Some (verify policy certs)) told v is = (policy, certs, refl)
+verified_for (Some (play policy trace)) told v is = absurd is
+verified_for (Some (run policy trace)) told v is = absurd is
+verified_for (Some (replay policy trace history)) told v is = absurd is
+verified_for (Some (report policy trace history)) told v is = absurd is
+verified_for (Some (make seed size)) told v is = absurd is
+verified_for (Some (bench seed size)) told v is = absurd is
+
 -- no command has that answer
 for_no_command : (asked : Option Asked) (told : List ℕ → Told) → IsAnswer asked told answer.BadWords → asked ≡ None
 for_no_command None told is = refl
 for_no_command (Some (check policy)) told is = absurd is
 for_no_command (Some (explain policy name)) told is = absurd is
+for_no_command (Some (prove policy)) told is = absurd is
+for_no_command (Some (verify policy certs)) told is = absurd is
 for_no_command (Some (play policy trace)) told is = absurd is
 for_no_command (Some (run policy trace)) told is = absurd is
 for_no_command (Some (replay policy trace history)) told is = absurd is
@@ -149,6 +209,8 @@ for_no_command (Some (bench seed size)) told is = absurd is
 no_command_code : (told : List ℕ → Told) (a : Answer) → IsAnswer None told a → code_of (status_of a) ≡ 7
 no_command_code told (answer.Checked c) is = absurd is
 no_command_code told (answer.Explained e) is = absurd is
+no_command_code told (answer.Proved certs) is = absurd is
+no_command_code told (answer.Verified v) is = absurd is
 no_command_code told (answer.Played outcome) is = absurd is
 no_command_code told (answer.Judged h) is = absurd is
 no_command_code told (answer.Made text) is = absurd is
@@ -165,6 +227,8 @@ not_read which told text held read tells long =
 long_for_check : (policy : Told) (a : Answer) (held : List ℕ) → AnswersCheck policy a → policy ≡ holds held → room_of kind.Policy < length held → code_of (status_of a) ≡ 10
 long_for_check policy (answer.Checked c) held (text, read, is) tells long = absurd (not_read kind.Policy policy text held read tells long)
 long_for_check policy (answer.Explained e) held is tells long = absurd is
+long_for_check policy (answer.Proved certs) held is tells long = absurd is
+long_for_check policy (answer.Verified v) held is tells long = absurd is
 long_for_check policy (answer.Played outcome) held is tells long = absurd is
 long_for_check policy (answer.Judged h) held is tells long = absurd is
 long_for_check policy (answer.Made text) held is tells long = absurd is
@@ -175,6 +239,8 @@ long_for_check policy answer.BadWords held is tells long = absurd is
 long_for_explain : (policy : Told) (name : ObName) (a : Answer) (held : List ℕ) → AnswersExplain policy name a → policy ≡ holds held → room_of kind.Policy < length held → code_of (status_of a) ≡ 10
 long_for_explain policy name (answer.Checked c) held is tells long = absurd is
 long_for_explain policy name (answer.Explained e) held (text, read, is) tells long = absurd (not_read kind.Policy policy text held read tells long)
+long_for_explain policy name (answer.Proved certs) held is tells long = absurd is
+long_for_explain policy name (answer.Verified v) held is tells long = absurd is
 long_for_explain policy name (answer.Played outcome) held is tells long = absurd is
 long_for_explain policy name (answer.Judged h) held is tells long = absurd is
 long_for_explain policy name (answer.Made text) held is tells long = absurd is
@@ -182,9 +248,47 @@ long_for_explain policy name (answer.Benched told) held is tells long = absurd i
 long_for_explain policy name (answer.TooLong which) held is tells long = refl
 long_for_explain policy name answer.BadWords held is tells long = absurd is
 
+long_for_prove : (policy : Told) (a : Answer) (held : List ℕ) → AnswersProve policy a → policy ≡ holds held → room_of kind.Policy < length held → code_of (status_of a) ≡ 10
+long_for_prove policy (answer.Checked c) held is tells long = absurd (not_read kind.Policy policy is.text held is.read tells long)
+long_for_prove policy (answer.Explained e) held is tells long = absurd is
+long_for_prove policy (answer.Proved certs) held is tells long = absurd (not_read kind.Policy policy is.text held is.read tells long)
+long_for_prove policy (answer.Verified v) held is tells long = absurd is
+long_for_prove policy (answer.Played outcome) held is tells long = absurd is
+long_for_prove policy (answer.Judged h) held is tells long = absurd is
+long_for_prove policy (answer.Made text) held is tells long = absurd is
+long_for_prove policy (answer.Benched told) held is tells long = absurd is
+long_for_prove policy (answer.TooLong which) held is tells long = refl
+long_for_prove policy answer.BadWords held is tells long = absurd is
+
+long_policy_for_verify : (policy certs : Told) (a : Answer) (held : List ℕ) → AnswersVerify policy certs a → policy ≡ holds held → room_of kind.Policy < length held → code_of (status_of a) ≡ 10
+long_policy_for_verify policy certs (answer.Checked c) held is tells long = absurd is
+long_policy_for_verify policy certs (answer.Explained e) held is tells long = absurd is
+long_policy_for_verify policy certs (answer.Proved text) held is tells long = absurd is
+long_policy_for_verify policy certs (answer.Verified v) held is tells long = absurd (not_read kind.Policy policy is.text held is.policy_read tells long)
+long_policy_for_verify policy certs (answer.Played outcome) held is tells long = absurd is
+long_policy_for_verify policy certs (answer.Judged h) held is tells long = absurd is
+long_policy_for_verify policy certs (answer.Made text) held is tells long = absurd is
+long_policy_for_verify policy certs (answer.Benched told) held is tells long = absurd is
+long_policy_for_verify policy certs (answer.TooLong which) held is tells long = refl
+long_policy_for_verify policy certs answer.BadWords held is tells long = absurd is
+
+long_certs_for_verify : (policy certs : Told) (a : Answer) (held : List ℕ) → AnswersVerify policy certs a → certs ≡ holds held → room_of kind.Certificates < length held → code_of (status_of a) ≡ 10
+long_certs_for_verify policy certs (answer.Checked c) held is tells long = absurd is
+long_certs_for_verify policy certs (answer.Explained e) held is tells long = absurd is
+long_certs_for_verify policy certs (answer.Proved text) held is tells long = absurd is
+long_certs_for_verify policy certs (answer.Verified v) held is tells long = absurd (not_read kind.Certificates certs is.file held is.certs_read tells long)
+long_certs_for_verify policy certs (answer.Played outcome) held is tells long = absurd is
+long_certs_for_verify policy certs (answer.Judged h) held is tells long = absurd is
+long_certs_for_verify policy certs (answer.Made text) held is tells long = absurd is
+long_certs_for_verify policy certs (answer.Benched told) held is tells long = absurd is
+long_certs_for_verify policy certs (answer.TooLong which) held is tells long = refl
+long_certs_for_verify policy certs answer.BadWords held is tells long = absurd is
+
 long_for_play : (Is : Playing) (policy trace : Told) (a : Answer) (held : List ℕ) → AnswersPlay Is policy trace a → policy ≡ holds held → room_of kind.Policy < length held → code_of (status_of a) ≡ 10
 long_for_play Is policy trace (answer.Checked c) held is tells long = absurd (not_read kind.Policy policy is.text held is.policy_read tells long)
 long_for_play Is policy trace (answer.Explained e) held is tells long = absurd is
+long_for_play Is policy trace (answer.Proved certs) held is tells long = absurd is
+long_for_play Is policy trace (answer.Verified v) held is tells long = absurd is
 long_for_play Is policy trace (answer.Played outcome) held is tells long = absurd (not_read kind.Policy policy is.text held is.policy_read tells long)
 long_for_play Is policy trace (answer.Judged h) held is tells long = absurd is
 long_for_play Is policy trace (answer.Made text) held is tells long = absurd is
@@ -195,6 +299,8 @@ long_for_play Is policy trace answer.BadWords held is tells long = absurd is
 long_trace_for_play : (Is : Playing) (policy trace : Told) (a : Answer) (held : List ℕ) → AnswersPlay Is policy trace a → trace ≡ holds held → room_of kind.Trace < length held → code_of (status_of a) ≡ 10
 long_trace_for_play Is policy trace (answer.Checked c) held is tells long = absurd (not_read kind.Trace trace is.jobs held is.trace_read tells long)
 long_trace_for_play Is policy trace (answer.Explained e) held is tells long = absurd is
+long_trace_for_play Is policy trace (answer.Proved certs) held is tells long = absurd is
+long_trace_for_play Is policy trace (answer.Verified v) held is tells long = absurd is
 long_trace_for_play Is policy trace (answer.Played outcome) held is tells long = absurd (not_read kind.Trace trace is.jobs held is.trace_read tells long)
 long_trace_for_play Is policy trace (answer.Judged h) held is tells long = absurd is
 long_trace_for_play Is policy trace (answer.Made text) held is tells long = absurd is
@@ -205,6 +311,8 @@ long_trace_for_play Is policy trace answer.BadWords held is tells long = absurd 
 long_policy_of_three : (Is : Judging) (policy trace history : Told) (a : Answer) (held : List ℕ) → AnswersJudging Is policy trace history a → policy ≡ holds held → room_of kind.Policy < length held → code_of (status_of a) ≡ 10
 long_policy_of_three Is policy trace history (answer.Checked c) held is tells long = absurd (not_read kind.Policy policy is.text held is.policy_read tells long)
 long_policy_of_three Is policy trace history (answer.Explained e) held is tells long = absurd is
+long_policy_of_three Is policy trace history (answer.Proved certs) held is tells long = absurd is
+long_policy_of_three Is policy trace history (answer.Verified v) held is tells long = absurd is
 long_policy_of_three Is policy trace history (answer.Played outcome) held is tells long = absurd is
 long_policy_of_three Is policy trace history (answer.Judged h) held is tells long = absurd (not_read kind.Policy policy is.text held is.policy_read tells long)
 long_policy_of_three Is policy trace history (answer.Made text) held is tells long = absurd is
@@ -215,6 +323,8 @@ long_policy_of_three Is policy trace history answer.BadWords held is tells long 
 long_trace_of_three : (Is : Judging) (policy trace history : Told) (a : Answer) (held : List ℕ) → AnswersJudging Is policy trace history a → trace ≡ holds held → room_of kind.Trace < length held → code_of (status_of a) ≡ 10
 long_trace_of_three Is policy trace history (answer.Checked c) held is tells long = absurd (not_read kind.Trace trace is.jobs held is.trace_read tells long)
 long_trace_of_three Is policy trace history (answer.Explained e) held is tells long = absurd is
+long_trace_of_three Is policy trace history (answer.Proved certs) held is tells long = absurd is
+long_trace_of_three Is policy trace history (answer.Verified v) held is tells long = absurd is
 long_trace_of_three Is policy trace history (answer.Played outcome) held is tells long = absurd is
 long_trace_of_three Is policy trace history (answer.Judged h) held is tells long = absurd (not_read kind.Trace trace is.jobs held is.trace_read tells long)
 long_trace_of_three Is policy trace history (answer.Made text) held is tells long = absurd is
@@ -225,6 +335,8 @@ long_trace_of_three Is policy trace history answer.BadWords held is tells long =
 long_history_of_three : (Is : Judging) (policy trace history : Told) (a : Answer) (held : List ℕ) → AnswersJudging Is policy trace history a → history ≡ holds held → room_of kind.History < length held → code_of (status_of a) ≡ 10
 long_history_of_three Is policy trace history (answer.Checked c) held is tells long = absurd (not_read kind.History history is.entries held is.history_read tells long)
 long_history_of_three Is policy trace history (answer.Explained e) held is tells long = absurd is
+long_history_of_three Is policy trace history (answer.Proved certs) held is tells long = absurd is
+long_history_of_three Is policy trace history (answer.Verified v) held is tells long = absurd is
 long_history_of_three Is policy trace history (answer.Played outcome) held is tells long = absurd is
 long_history_of_three Is policy trace history (answer.Judged h) held is tells long = absurd (not_read kind.History history is.entries held is.history_read tells long)
 long_history_of_three Is policy trace history (answer.Made text) held is tells long = absurd is
@@ -240,21 +352,34 @@ long_of_three Is policy trace history told a kind.Trace name held is file tells 
     long_trace_of_three Is (told policy) (told trace) (told history) a held is (sym (ap told file) ∙ tells) long
 long_of_three Is policy trace history told a kind.History name held is file tells long =
     long_history_of_three Is (told policy) (told trace) (told history) a held is (sym (ap told file) ∙ tells) long
+long_of_three Is policy trace history told a kind.Certificates name held is file tells long = absurd file
 
 long_file : (asked : Option Asked) (told : List ℕ → Told) (a : Answer) (which : TextKind) (name held : List ℕ) → IsAnswer asked told a → IsFileOf asked which name → told name ≡ holds held → room_of which < length held → code_of (status_of a) ≡ 10
 long_file None told a which name held is file tells long = absurd file
 long_file (Some (check policy)) told a kind.Policy name held is file tells long = long_for_check (told policy) a held is (sym (ap told file) ∙ tells) long
 long_file (Some (check policy)) told a kind.Trace name held is file tells long = absurd file
 long_file (Some (check policy)) told a kind.History name held is file tells long = absurd file
+long_file (Some (check policy)) told a kind.Certificates name held is file tells long = absurd file
 long_file (Some (explain policy ob)) told a kind.Policy name held is file tells long = long_for_explain (told policy) ob a held is (sym (ap told file) ∙ tells) long
 long_file (Some (explain policy ob)) told a kind.Trace name held is file tells long = absurd file
 long_file (Some (explain policy ob)) told a kind.History name held is file tells long = absurd file
+long_file (Some (explain policy ob)) told a kind.Certificates name held is file tells long = absurd file
+long_file (Some (prove policy)) told a kind.Policy name held is file tells long = long_for_prove (told policy) a held is (sym (ap told file) ∙ tells) long
+long_file (Some (prove policy)) told a kind.Trace name held is file tells long = absurd file
+long_file (Some (prove policy)) told a kind.History name held is file tells long = absurd file
+long_file (Some (prove policy)) told a kind.Certificates name held is file tells long = absurd file
+long_file (Some (verify policy certs)) told a kind.Policy name held is file tells long = long_policy_for_verify (told policy) (told certs) a held is (sym (ap told file) ∙ tells) long
+long_file (Some (verify policy certs)) told a kind.Trace name held is file tells long = absurd file
+long_file (Some (verify policy certs)) told a kind.History name held is file tells long = absurd file
+long_file (Some (verify policy certs)) told a kind.Certificates name held is file tells long = long_certs_for_verify (told policy) (told certs) a held is (sym (ap told file) ∙ tells) long
 long_file (Some (play policy trace)) told a kind.Policy name held is file tells long = long_for_play plays.IsPlayOf (told policy) (told trace) a held is (sym (ap told file) ∙ tells) long
 long_file (Some (play policy trace)) told a kind.Trace name held is file tells long = long_trace_for_play plays.IsPlayOf (told policy) (told trace) a held is (sym (ap told file) ∙ tells) long
 long_file (Some (play policy trace)) told a kind.History name held is file tells long = absurd file
+long_file (Some (play policy trace)) told a kind.Certificates name held is file tells long = absurd file
 long_file (Some (run policy trace)) told a kind.Policy name held is file tells long = long_for_play IsRunOf (told policy) (told trace) a held is (sym (ap told file) ∙ tells) long
 long_file (Some (run policy trace)) told a kind.Trace name held is file tells long = long_trace_for_play IsRunOf (told policy) (told trace) a held is (sym (ap told file) ∙ tells) long
 long_file (Some (run policy trace)) told a kind.History name held is file tells long = absurd file
+long_file (Some (run policy trace)) told a kind.Certificates name held is file tells long = absurd file
 long_file (Some (replay policy trace history)) told a which name held is file tells long = long_of_three IsReplayOf policy trace history told a which name held is file tells long
 long_file (Some (report policy trace history)) told a which name held is file tells long = long_of_three IsReportOf policy trace history told a which name held is file tells long
 long_file (Some (make seed size)) told a which name held is file tells long = absurd file
@@ -286,6 +411,12 @@ module _ (told : List ℕ → Told) (before after : Option (List ℕ)) where
   ten (Some (check policy)) (answer.Checked (checked.Unjudged why)) (text, read, is) e added =
       inr (crowded_by (Some (check policy)) policy text why refl read is e added)
   ten (Some (explain policy ob)) (answer.Checked c) is e added = absurd is
+  ten (Some (prove policy)) (answer.Checked (checked.Judged (verdict.Accepted kept))) is e added = absurd (omega arith)
+  ten (Some (prove policy)) (answer.Checked (checked.Judged (verdict.Refused answers kept))) is e added = absurd (omega arith)
+  ten (Some (prove policy)) (answer.Checked (checked.Judged (verdict.Undecided answers kept))) is e added = absurd (omega arith)
+  ten (Some (prove policy)) (answer.Checked (checked.Unjudged why)) is e added =
+      inr (crowded_by (Some (prove policy)) policy is.text why refl is.read is.answers.0 e added)
+  ten (Some (verify policy certs)) (answer.Checked c) is e added = absurd is
   ten (Some (play policy trace)) (answer.Checked (checked.Judged (verdict.Accepted kept))) is e added = absurd (omega arith)
   ten (Some (play policy trace)) (answer.Checked (checked.Judged (verdict.Refused answers kept))) is e added = absurd (omega arith)
   ten (Some (play policy trace)) (answer.Checked (checked.Judged (verdict.Undecided answers kept))) is e added = absurd (omega arith)
@@ -311,12 +442,30 @@ module _ (told : List ℕ → Told) (before after : Option (List ℕ)) where
       absurd (outcome_low told.outcome 10 (λ h. omega arith) (λ h. omega arith) (λ h. omega arith) e)
   ten (Some (explain policy ob)) (answer.Explained (explained.Unjudged why)) (text, read, is) e added =
       inr (crowded_by (Some (explain policy ob)) policy text why refl read is e added)
+  ten (Some (prove policy)) (answer.Explained told) is e added = absurd is
+  ten (Some (verify policy certs)) (answer.Explained told) is e added = absurd is
   ten (Some (play policy trace)) (answer.Explained told) is e added = absurd is
   ten (Some (run policy trace)) (answer.Explained told) is e added = absurd is
   ten (Some (replay policy trace history)) (answer.Explained told) is e added = absurd is
   ten (Some (report policy trace history)) (answer.Explained told) is e added = absurd is
   ten (Some (make seed size)) (answer.Explained told) is e added = absurd is
   ten (Some (bench seed size)) (answer.Explained told) is e added = absurd is
+  ten asked (answer.Proved certs) is e added = absurd (omega arith)
+  ten asked (answer.Verified (verified.Verified told_it)) is e added = absurd (omega arith)
+  ten asked (answer.Verified (verified.BadLine line)) is e added = absurd (omega arith)
+  ten asked (answer.Verified (verified.Wrong name place)) is e added = absurd (omega arith)
+  ten None (answer.Verified (verified.Unjudged why)) is e added = absurd is
+  ten (Some (check policy)) (answer.Verified (verified.Unjudged why)) is e added = absurd is
+  ten (Some (explain policy ob)) (answer.Verified (verified.Unjudged why)) is e added = absurd is
+  ten (Some (prove policy)) (answer.Verified (verified.Unjudged why)) is e added = absurd is
+  ten (Some (play policy trace)) (answer.Verified (verified.Unjudged why)) is e added = absurd is
+  ten (Some (run policy trace)) (answer.Verified (verified.Unjudged why)) is e added = absurd is
+  ten (Some (replay policy trace history)) (answer.Verified (verified.Unjudged why)) is e added = absurd is
+  ten (Some (report policy trace history)) (answer.Verified (verified.Unjudged why)) is e added = absurd is
+  ten (Some (make seed size)) (answer.Verified (verified.Unjudged why)) is e added = absurd is
+  ten (Some (bench seed size)) (answer.Verified (verified.Unjudged why)) is e added = absurd is
+  ten (Some (verify policy certs)) (answer.Verified (verified.Unjudged why)) is e added =
+      inr (crowded_by (Some (verify policy certs)) policy is.text why refl is.policy_read is.answers e added)
   ten asked (answer.Judged (judged.Whole count)) is e added = absurd (omega arith)
   ten asked (answer.Judged (judged.Reported told)) is e added = absurd (omega arith)
   ten asked (answer.Judged (judged.Refused (no_history.Trace fault))) is e added = absurd (omega arith)
@@ -354,6 +503,9 @@ causes asked told read_fault before after code (answered a is writes) =
       full = λ h.
           let found = eight a (own 8 (λ e. omega arith) h) in
           played_for asked told found.0 (subst (IsAnswer asked told) found.1 is);
+      wrong = λ h.
+          let found = eleven a (own 11 (λ e. omega arith) h) in
+          verified_for asked told found.0 (subst (IsAnswer asked told) found.1 is);
       too_much = λ h. ten told before.written after.written asked a is (own 10 (λ e. omega arith) h) (whole a before after code writes (λ e. omega arith));
       past_limit = λ which name held file tells long. elim among [
         | inl f ↦ rw (f, long_file asked told a which name held is file tells long) refl
@@ -369,6 +521,7 @@ causes asked told read_fault before after code (unread e cause added) = record {
   no_command = λ none. absurd (subst (λ (x : Option Asked). IsUnread x told read_fault) none cause);
   not_whole = λ h. absurd (omega arith);
   full = λ h. absurd (omega arith);
+  wrong = λ h. absurd (omega arith);
   too_much = λ h. absurd (omega arith);
   past_limit = λ which name held file tells long. rw e refl;
 }
@@ -381,6 +534,7 @@ causes asked told read_fault before after code (no_memory e added) = record {
   no_command = λ none. rw e refl;
   not_whole = λ h. absurd (omega arith);
   full = λ h. absurd (omega arith);
+  wrong = λ h. absurd (omega arith);
   too_much = λ h. absurd (omega arith);
   past_limit = λ which name held file tells long. rw e refl;
 }

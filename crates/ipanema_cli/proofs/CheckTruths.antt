@@ -166,6 +166,8 @@ checks policy before after code (answer.Checked c) (text, read, is) writes = eli
   | inl e ↦ read_check policy text c before.written after.written code read is e (whole _ _ _ _ writes (λ five. (no_stop (answer.Checked c)).1 (sym e ∙ five)))
 ]
 checks policy before after code (answer.Explained told) is writes = absurd is
+checks policy before after code (answer.Proved certs) is writes = absurd is
+checks policy before after code (answer.Verified v) is writes = absurd is
 checks policy before after code (answer.Judged outcome) is writes = absurd is
 checks policy before after code (answer.Made text) is writes = absurd is
 checks policy before after code (answer.Benched told) is writes = absurd is
@@ -176,4 +178,5 @@ checks policy before after code (answer.TooLong kind.Policy) long writes = elim 
 ]
 checks policy before after code (answer.TooLong kind.Trace) is writes = absurd is
 checks policy before after code (answer.TooLong kind.History) is writes = absurd is
+checks policy before after code (answer.TooLong kind.Certificates) is writes = absurd is
 checks policy before after code answer.BadWords is writes = absurd is

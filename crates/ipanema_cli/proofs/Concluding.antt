@@ -16,7 +16,7 @@ use Rattle.ipanema_cli.proofs.GatedAnswers.{plain}
 
 -- the statuses with which a text was answered, or no command was
 abbrev answering : List ℕ
-answering = 0 ∷ 1 ∷ 2 ∷ 3 ∷ 7 ∷ 8 ∷ 9 ∷ []
+answering = 0 ∷ 1 ∷ 2 ∷ 3 ∷ 7 ∷ 8 ∷ 9 ∷ 11 ∷ []
 
 module _ (before after : Shown) (code : ℕ) where
   -- the call ends with its answer, or with what stops it

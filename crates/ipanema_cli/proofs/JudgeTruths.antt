@@ -374,6 +374,8 @@ judges Is Says worth policy trace history before after code (answer.Checked c) t
   | inl e ↦ unaccepted Is Says policy trace history c before.written after.written code texts e (whole _ _ _ _ writes (λ five. (no_stop (answer.Checked c)).1 (sym e ∙ five)))
 ]
 judges Is Says worth policy trace history before after code (answer.Explained told) is writes = absurd is
+judges Is Says worth policy trace history before after code (answer.Proved certs) is writes = absurd is
+judges Is Says worth policy trace history before after code (answer.Verified v) is writes = absurd is
 judges Is Says worth policy trace history before after code (answer.Played outcome) is writes = absurd is
 judges Is Says worth policy trace history before after code (answer.Judged h) texts writes = elim (code_among _ _ _ _ writes) [
   | inr e ↦ stopped_judge Says policy trace history before.written after.written code (at_5 e)
@@ -395,6 +397,7 @@ judges Is Says worth policy trace history before after code (answer.TooLong kind
   | inr e ↦ stopped_judge Says policy trace history before.written after.written code (at_5 e)
   | inl e ↦ long_judge Says policy trace history before.written after.written code (λ text jobs lines held also too. not_long kind.History history lines long.2 too) e
 ]
+judges Is Says worth policy trace history before after code (answer.TooLong kind.Certificates) is writes = absurd is
 judges Is Says worth policy trace history before after code answer.BadWords is writes = absurd is
 
 pub replays : (policy trace history : Told) (before after : Shown) (code : ℕ) (a : Answer) → AnswersJudging IsReplayOf policy trace history a

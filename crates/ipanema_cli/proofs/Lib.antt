@@ -14,5 +14,7 @@ pub mod RunTruths
 pub mod RunWords
 pub mod TraceTruths
 pub mod PolicyFacts
+pub mod ProveTruths
 pub mod TruthLemmas
+pub mod VerifyTruths
 pub mod WritesLemmas

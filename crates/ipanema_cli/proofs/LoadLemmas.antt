@@ -3,7 +3,7 @@ use Rattle.std.proofs.Common.{◌≡◌, ℕ, List, Option, Some, None, subst, s
 use Rattle.sched_io.specs.Loads.{AreRequested, LoadRequest}
 use Rattle.sched_io.specs.Told.{Told}
 use Rattle.sched_io.proofs.WrittenLemmas.{Grows-nil}
-use Rattle.command_words.specs.Command.{Asked, bench, check, explain, make, play, replay, report, run}
+use Rattle.command_words.specs.Command.{Asked, bench, check, explain, make, play, prove, replay, report, run, verify}
 use Rattle.ipanema_cli.specs.Loads.{FirstAreLoaded, MayGoOn, files_of}
 
 -- none of them is behind one that isn't read
@@ -11,6 +11,8 @@ goes_nowhere : (asked : Option Asked) (told : List ℕ → Told) → MayGoOn ask
 goes_nowhere None told = tt
 goes_nowhere (Some (check policy)) told = tt
 goes_nowhere (Some (explain policy name)) told = tt
+goes_nowhere (Some (prove policy)) told = tt
+goes_nowhere (Some (verify policy certs)) told = λ more. absurd (omega arith)
 goes_nowhere (Some (play policy trace)) told = λ more. absurd (omega arith)
 goes_nowhere (Some (run policy trace)) told = λ more. absurd (omega arith)
 goes_nowhere (Some (replay policy trace history)) told = record { policy_read = λ more. absurd (omega arith); trace_read = λ more. absurd (omega arith) }

@@ -5,15 +5,17 @@ use Rattle.std.specs.Str.{bytes_eq}
 use Rattle.std.proofs.lemmas.Slice.Eq.{bytes_eq-Decides}
 use Rattle.std.specs.Borrow.{Bor}
 use Rattle.command_words.specs.Asks.{asked}
-use Rattle.command_words.specs.Command.{Asked, asked_by, asked_by_two, asked_plainly, bench, benched_by, check, explain, is_plain, made_by, make, name_of, play, replay, report, run, sized_by}
+use Rattle.command_words.specs.Command.{Asked, asked_by, asked_by_two, asked_plainly, bench, benched_by, check, explain, is_plain, made_by, make, name_of, play, prove, replay, report, run, sized_by, verify}
 use Rattle.command_words.specs.Numbers.{seed_in, size_in}
 use Rattle.obligations.specs.declared.names.ObName.{ObName}
 use Rattle.command_words.specs.declared.request.Request.{Request}
-use Rattle.command_words.specs.declared.request.Request.TheVariants.{Bench, Check, Explain, Make, Play, Replay, Report, Run, Unknown}
+use Rattle.command_words.specs.declared.request.Request.TheVariants.{Bench, Check, Explain, Make, Play, Prove, Replay, Report, Run, Unknown, Verify}
 
 pub no_run : (request : Request) → ((policy trace : Bor (List ℕ)) → request ≡ Run policy trace → ⊥) → (r : Request) → request ≡ r → (policy trace : List ℕ) → asked r ≡ Some (run policy trace) → ⊥
 no_run request never (Check p) same policy trace is = cc
 no_run request never (Explain p name) same policy trace is = cc
+no_run request never (Prove p) same policy trace is = cc
+no_run request never (Verify p c) same policy trace is = cc
 no_run request never (Play p t) same policy trace is = cc
 no_run request never (Run p t) same policy trace is = never p t same
 no_run request never (Replay p t h) same policy trace is = cc
@@ -61,14 +63,21 @@ two verb first second policy trace other = explained (bytes_eq (codes "explain")
     played true e = cc
     played false e = ran (bytes_eq (codes "run") verb) refl e
 
-    explained : (b : Bool) → (if b then option_map (explain first) (name_of second) else if bytes_eq (codes "play") verb then Some (play first second)
+    verified : (b : Bool) → (if b then Some (verify first second) else if bytes_eq (codes "play") verb then Some (play first second)
+        else if bytes_eq (codes "run") verb then Some (run first second) else rest verb) ≡ Some (run policy trace) → ⊥
+    verified true e = cc
+    verified false e = played (bytes_eq (codes "play") verb) e
+
+    explained : (b : Bool) → (if b then option_map (explain first) (name_of second) else if bytes_eq (codes "verify") verb then Some (verify first second)
+        else if bytes_eq (codes "play") verb then Some (play first second)
         else if bytes_eq (codes "run") verb then Some (run first second) else rest verb) ≡ Some (run policy trace) → ⊥
     explained true e = no_explained first (name_of second) policy trace e
-    explained false e = played (bytes_eq (codes "play") verb) e
+    explained false e = verified (bytes_eq (codes "verify") verb) e
 
-one : (b : Bool) (file policy trace : List ℕ) → (if b then Some (check file) else None) ≡ Some (run policy trace) → ⊥
-one true file policy trace e = cc
-one false file policy trace e = cc
+one : (a b : Bool) (file policy trace : List ℕ) → (if a then Some (check file) else if b then Some (prove file) else None) ≡ Some (run policy trace) → ⊥
+one true b file policy trace e = cc
+one false true file policy trace e = cc
+one false false file policy trace e = cc
 
 three : (a b : Bool) (p t h policy trace : List ℕ) → (if a then Some (replay p t h) else if b then Some (report p t h) else None) ≡ Some (run policy trace) → ⊥
 three true b p t h policy trace e = cc
@@ -78,7 +87,7 @@ three false false p t h policy trace e = cc
 plainly : (words : List (List ℕ)) → (slice_get words 0 ≢ Some (codes "run")) → (policy trace : List ℕ) → asked_plainly words ≡ Some (run policy trace) → ⊥
 plainly [] other policy trace e = cc
 plainly (verb ∷ []) other policy trace e = cc
-plainly (verb ∷ first ∷ []) other policy trace e = one (bytes_eq (codes "check") verb) first policy trace e
+plainly (verb ∷ first ∷ []) other policy trace e = one (bytes_eq (codes "check") verb) (bytes_eq (codes "prove") verb) first policy trace e
 plainly (verb ∷ first ∷ second ∷ []) other policy trace e = two verb first second policy trace (λ same. other (ap Some same)) e
 plainly (verb ∷ first ∷ second ∷ third ∷ []) other policy trace e = three (bytes_eq (codes "replay") verb) (bytes_eq (codes "report") verb) first second third policy trace e
 plainly (verb ∷ first ∷ second ∷ third ∷ more ∷ words) other policy trace e = cc

@@ -284,6 +284,8 @@ module _ (Ends Stops : Meaning → Plan → List Entry → Type 0) (Must : Told 
       | inl e ↦ unaccepted policy trace c texts.text before.written after.written code texts.policy_read texts.answers.0 texts.answers.1 e (whole _ _ _ _ writes (λ five. (no_stop (answer.Checked c)).1 (sym e ∙ five)))
     ]
     traces_truly policy trace before after code (answer.Explained told) is writes = absurd is
+    traces_truly policy trace before after code (answer.Proved certs) is writes = absurd is
+    traces_truly policy trace before after code (answer.Verified v) is writes = absurd is
     traces_truly policy trace before after code (answer.Judged outcome) is writes = absurd is
     traces_truly policy trace before after code (answer.Made text) is writes = absurd is
     traces_truly policy trace before after code (answer.Benched told) is writes = absurd is
@@ -302,4 +304,5 @@ module _ (Ends Stops : Meaning → Plan → List Entry → Type 0) (Must : Told 
       | inl e ↦ long_trace policy trace before.written after.written code (λ text jobs held also. not_long kind.Trace trace jobs long.1 also) e
     ]
     traces_truly policy trace before after code (answer.TooLong kind.History) is writes = absurd is
+    traces_truly policy trace before after code (answer.TooLong kind.Certificates) is writes = absurd is
     traces_truly policy trace before after code answer.BadWords is writes = absurd is

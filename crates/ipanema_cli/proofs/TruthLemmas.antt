@@ -2,7 +2,7 @@
 use Rattle.std.proofs.Common.{◌≡◌, ◌≢◌, ℕ, List, Option, Result, Ok, Err, IfErr, IfOk, Some, None, arith, refl}
 use Rattle.sched_io.specs.Shown.{Shown}
 use Rattle.sched_io.specs.Told.{Told}
-use Rattle.command_words.specs.Command.{Asked, bench, check, explain, make, play, replay, report, run}
+use Rattle.command_words.specs.Command.{Asked, bench, check, explain, make, play, prove, replay, report, run, verify}
 use Rattle.ipanema_cli.specs.Answers.{IsGatedAnswer}
 use Rattle.ipanema_cli.specs.Ends.{Concludes, Writes}
 use Rattle.ipanema_cli.specs.Stops.{IsStop, IsUnread}
@@ -19,7 +19,9 @@ use Rattle.ipanema_cli.proofs.GatedAnswers.{gated_length}
 use Rattle.ipanema_cli.proofs.JudgeTruths.{replays, reports, stopped_judge}
 use Rattle.ipanema_cli.proofs.MakeTruths.{makes, stopped_make}
 use Rattle.ipanema_cli.proofs.PlayTruths.{plays_truly, stopped_play}
+use Rattle.ipanema_cli.proofs.ProveTruths.{proves, stopped_prove}
 use Rattle.ipanema_cli.proofs.RunTruths.{runs_truly, stopped_run}
+use Rattle.ipanema_cli.proofs.VerifyTruths.{stopped_verify, verifies}
 
 -- what is no run says nothing of a gate
 pub passed_by_any : (Passed : ℕ → ℕ → Type 0) (asked : Option Asked) (told : List ℕ → Told) (before after : Option (List ℕ)) (code : ℕ) → ((policy trace : List ℕ) → asked ≢ Some (run policy trace))
@@ -27,6 +29,8 @@ pub passed_by_any : (Passed : ℕ → ℕ → Type 0) (asked : Option Asked) (to
 passed_by_any Passed None told before after code other is = is
 passed_by_any Passed (Some (check policy)) told before after code other is = is
 passed_by_any Passed (Some (explain policy name)) told before after code other is = is
+passed_by_any Passed (Some (prove policy)) told before after code other is = is
+passed_by_any Passed (Some (verify policy certs)) told before after code other is = is
 passed_by_any Passed (Some (play policy trace)) told before after code other is = is
 passed_by_any Passed (Some (run policy trace)) told before after code other is = absurd (other policy trace refl)
 passed_by_any Passed (Some (replay policy trace history)) told before after code other is = is
@@ -41,6 +45,8 @@ module _ (Passed : ℕ → ℕ → Type 0) where
   stopped None told read_fault before after code stop cause = tt
   stopped (Some (check policy)) told read_fault before after code stop cause = stopped_check (told policy) before after code stop
   stopped (Some (explain policy name)) told read_fault before after code stop cause = stopped_explain (told policy) name before after code stop
+  stopped (Some (prove policy)) told read_fault before after code stop cause = stopped_prove (told policy) before after code stop
+  stopped (Some (verify policy certs)) told read_fault before after code stop cause = stopped_verify (told policy) (told certs) before after code stop
   stopped (Some (play policy trace)) told read_fault before after code stop cause = stopped_play (told policy) (told trace) before after code stop
   stopped (Some (run policy trace)) told read_fault before after code stop cause = stopped_run Passed (told policy) (told trace) before after code stop
   stopped (Some (replay policy trace history)) told read_fault before after code stop cause = stopped_judge SaysWhole (told policy) (told trace) (told history) before after code stop
@@ -54,6 +60,8 @@ module _ (Passed : ℕ → ℕ → Type 0) where
   answers None told before after code a is writes = tt
   answers (Some (check policy)) told before after code a is writes = checks (told policy) before after code a is writes
   answers (Some (explain policy name)) told before after code a is writes = explains (told policy) name before after code a is writes
+  answers (Some (prove policy)) told before after code a is writes = proves (told policy) before after code a is writes
+  answers (Some (verify policy certs)) told before after code a is writes = verifies (told policy) (told certs) before after code a is writes
   answers (Some (play policy trace)) told before after code a is writes = plays_truly (told policy) (told trace) before after code a is writes
   answers (Some (run policy trace)) told before after code a is writes = runs_truly Passed (told policy) (told trace) before after code a is writes
   answers (Some (replay policy trace history)) told before after code a is writes = replays (told policy) (told trace) (told history) before after code a is writes

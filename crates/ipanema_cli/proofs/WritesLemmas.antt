@@ -13,6 +13,8 @@ use Rattle.policy_check.specs.declared.explaining.ExplainAnswer.{ExplainAnswer}
 use Rattle.policy_check.specs.declared.explaining.ExplainAnswer.TheVariants as explained
 use Rattle.policy_check.specs.declared.reading.Refusal.{Refusal}
 use Rattle.policy_check.specs.declared.reading.Refusal.TheVariants as refusal
+use Rattle.policy_check.specs.declared.verifying.VerifyAnswer.{VerifyAnswer}
+use Rattle.policy_check.specs.declared.verifying.VerifyAnswer.TheVariants as verify
 use Rattle.trace_play.specs.declared.answer.PlayAnswer.{PlayAnswer}
 use Rattle.trace_play.specs.declared.answer.PlayAnswer.TheVariants as play_answer
 use Rattle.trace_play.specs.declared.cores.PlayedCores.TheVariants as cores
@@ -22,7 +24,7 @@ use Rattle.history_replay.specs.declared.answer.HistoryAnswer.TheVariants as jud
 use Rattle.history_replay.specs.declared.refusal.HistoryRefusal.TheVariants as no_history
 use Rattle.command_words.specs.Command.{Asked}
 use Rattle.ipanema_cli.specs.Ends.{Ends, Writes, answered, written, cut_off}
-use Rattle.ipanema_cli.specs.Status.{check_status, code_of, explain_status, history_status, outcome_status, refusal_status}
+use Rattle.ipanema_cli.specs.Status.{check_status, code_of, explain_status, history_status, outcome_status, refusal_status, verify_status}
 use Rattle.ipanema_cli.specs.declared.answers.Answer.{Answer}
 use Rattle.ipanema_cli.specs.declared.answers.Answer.TheVariants as answer
 
@@ -36,6 +38,7 @@ pub data AnswerCode (code : ℕ) : Type 0 where
   is_8 : code ≡ 8 → AnswerCode code
   is_9 : code ≡ 9 → AnswerCode code
   is_10 : code ≡ 10 → AnswerCode code
+  is_11 : code ≡ 11 → AnswerCode code
 
 refusal_code : (why : Refusal) → AnswerCode (code_of (refusal_status why))
 refusal_code (refusal.Faulty fault) = is_2 refl
@@ -56,6 +59,12 @@ explain_code : (e : ExplainAnswer) → AnswerCode (code_of (explain_status e))
 explain_code (explained.Explained told) = outcome_code told.outcome
 explain_code (explained.Unjudged why) = refusal_code why
 
+verify_code : (v : VerifyAnswer) → AnswerCode (code_of (verify_status v))
+verify_code (verify.Verified verified) = is_0 refl
+verify_code (verify.BadLine line) = is_2 refl
+verify_code (verify.Wrong name place) = is_11 refl
+verify_code (verify.Unjudged why) = refusal_code why
+
 play_code : (p : PlayAnswer) → AnswerCode (code_of (play_status p))
 play_code (play_answer.Broken fault) = is_2 refl
 play_code (play_answer.Played (cores.Whole closed)) = is_0 refl
@@ -72,6 +81,8 @@ history_code (judged.Refused (no_history.Short count)) = is_9 refl
 pub answer_code : (a : Answer) → AnswerCode (code_of (status_of a))
 answer_code (answer.Checked c) = check_code c
 answer_code (answer.Explained e) = explain_code e
+answer_code (answer.Proved certs) = is_0 refl
+answer_code (answer.Verified v) = verify_code v
 answer_code (answer.Played p) = play_code p
 answer_code (answer.Judged h) = history_code h
 answer_code (answer.Made text) = is_0 refl
@@ -90,6 +101,7 @@ no_stop a = elim (answer_code a) [
   | is_8 h ↦ ((λ e. omega arith), (λ e. omega arith), (λ e. omega arith))
   | is_9 h ↦ ((λ e. omega arith), (λ e. omega arith), (λ e. omega arith))
   | is_10 h ↦ ((λ e. omega arith), (λ e. omega arith), (λ e. omega arith))
+  | is_11 h ↦ ((λ e. omega arith), (λ e. omega arith), (λ e. omega arith))
 ]
 
 -- one line is its bytes

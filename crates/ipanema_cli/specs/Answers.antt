@@ -14,6 +14,10 @@ use Rattle.policy_check.specs.declared.answer.CheckAnswer.{CheckAnswer}
 use Rattle.policy_check.specs.declared.answer.CheckAnswer.TheVariants as checked
 use Rattle.policy_check.specs.Checks.{IsCheckOf, IsExplainOf}
 use Rattle.policy_check.specs.Lines.{check_lines, explain_lines}
+use Rattle.policy_check.specs.TextLines.{lines_in}
+use Rattle.policy_check.specs.Verifying.{IsVerifyOf, verify_line}
+use Rattle.policy_check.specs.declared.verifying.VerifyAnswer.{VerifyAnswer}
+use Rattle.cert_file.specs.Wrong.{Proves}
 use Rattle.sched_io.specs.Puts.{joined}
 use Rattle.sched_io.specs.Told.{Told}
 use Rattle.trace_maker.specs.Made.{made}
@@ -29,8 +33,8 @@ use Rattle.history_replay.specs.Lines as histories
 use Rattle.fair_policy.specs.Fair.{fair_meaning}
 use Rattle.bench_play.specs.Bench.{IsBench}
 use Rattle.bench_play.specs.Lines.{bench_lines}
-use Rattle.command_words.specs.Command.{Asked, bench, check, explain, make, play, replay, report, run}
-use Rattle.ipanema_cli.specs.Status.{check_status, explain_status, history_status}
+use Rattle.command_words.specs.Command.{Asked, bench, check, explain, make, play, prove, replay, report, run, verify}
+use Rattle.ipanema_cli.specs.Status.{check_status, explain_status, history_status, verify_status}
 use Rattle.ipanema_cli.specs.Texts.{MayBeLong, MayRead, too_long_line}
 use Rattle.ipanema_cli.specs.declared.answers.Answer.{Answer}
 use Rattle.ipanema_cli.specs.declared.answers.Answer.TheVariants as answer
@@ -45,6 +49,8 @@ use Rattle.ipanema_cli.specs.declared.texts.TextKind.TheVariants as kind
 abbrev pub lines_of : Answer → List (List ℕ)
 lines_of (answer.Checked c) = check_lines c
 lines_of (answer.Explained e) = explain_lines e
+lines_of (answer.Proved certs) = lines_in certs.items
+lines_of (answer.Verified v) = verify_line v ∷ []
 lines_of (answer.Played outcome) = plays.lines_of outcome
 lines_of (answer.Judged outcome) = histories.lines_of outcome
 lines_of (answer.Made text) = text.items ∷ []
@@ -66,6 +72,8 @@ play_status (play_answer.Played (cores.Full closed)) = status.HistoryFull
 abbrev pub status_of : Answer → Status
 status_of (answer.Checked c) = check_status c
 status_of (answer.Explained e) = explain_status e
+status_of (answer.Proved certs) = status.Done
+status_of (answer.Verified v) = verify_status v
 status_of (answer.Played outcome) = play_status outcome
 status_of (answer.Judged outcome) = history_status outcome
 status_of (answer.Made text) = status.Done
@@ -77,6 +85,8 @@ status_of answer.BadWords = status.BadWords
 abbrev pub CanBePut : Answer → Type 0
 CanBePut (answer.Checked c) = Unit {0}
 CanBePut (answer.Explained e) = Unit {0}
+CanBePut (answer.Proved certs) = Unit {0}
+CanBePut (answer.Verified v) = Unit {0}
 CanBePut (answer.Played outcome) = plays.IsShown outcome
 CanBePut (answer.Judged outcome) = Unit {0}
 CanBePut (answer.Made text) = Unit {0}
@@ -101,6 +111,8 @@ accepts (checked.Unjudged why) = false
 abbrev pub AnswersWords : Answer → Type 0
 AnswersWords (answer.Checked c) = ⊥
 AnswersWords (answer.Explained e) = ⊥
+AnswersWords (answer.Proved certs) = ⊥
+AnswersWords (answer.Verified v) = ⊥
 AnswersWords (answer.Played outcome) = ⊥
 AnswersWords (answer.Judged outcome) = ⊥
 AnswersWords (answer.Made text) = ⊥
@@ -113,6 +125,8 @@ abbrev pub AnswersCheck : Told → Answer → Type 0
 AnswersCheck policy (answer.Checked c) = (text : List ℕ) × MayRead kind.Policy policy text
     × IsCheckOf text c
 AnswersCheck policy (answer.Explained e) = ⊥
+AnswersCheck policy (answer.Proved certs) = ⊥
+AnswersCheck policy (answer.Verified v) = ⊥
 AnswersCheck policy (answer.Played outcome) = ⊥
 AnswersCheck policy (answer.Judged outcome) = ⊥
 AnswersCheck policy (answer.Made text) = ⊥
@@ -120,6 +134,7 @@ AnswersCheck policy (answer.Benched told) = ⊥
 AnswersCheck policy (answer.TooLong kind.Policy) = MayBeLong kind.Policy policy
 AnswersCheck policy (answer.TooLong kind.Trace) = ⊥
 AnswersCheck policy (answer.TooLong kind.History) = ⊥
+AnswersCheck policy (answer.TooLong kind.Certificates) = ⊥
 AnswersCheck policy answer.BadWords = ⊥
 
 -- the answer of `explain` to a file of which this is told, for the obligation of that name
@@ -127,6 +142,8 @@ abbrev pub AnswersExplain : Told → ObName → Answer → Type 0
 AnswersExplain policy name (answer.Checked c) = ⊥
 AnswersExplain policy name (answer.Explained e) = (text : List ℕ) × MayRead kind.Policy policy text
     × IsExplainOf text name e
+AnswersExplain policy name (answer.Proved certs) = ⊥
+AnswersExplain policy name (answer.Verified v) = ⊥
 AnswersExplain policy name (answer.Played outcome) = ⊥
 AnswersExplain policy name (answer.Judged outcome) = ⊥
 AnswersExplain policy name (answer.Made text) = ⊥
@@ -134,7 +151,68 @@ AnswersExplain policy name (answer.Benched told) = ⊥
 AnswersExplain policy name (answer.TooLong kind.Policy) = MayBeLong kind.Policy policy
 AnswersExplain policy name (answer.TooLong kind.Trace) = ⊥
 AnswersExplain policy name (answer.TooLong kind.History) = ⊥
+AnswersExplain policy name (answer.TooLong kind.Certificates) = ⊥
 AnswersExplain policy name answer.BadWords = ⊥
+
+-- the answer of `prove` to a policy's text: where the policy isn't accepted, that of `check`
+abbrev pub IsProvingOfText : List ℕ → Answer → Type 0
+IsProvingOfText policy (answer.Checked c) = IsCheckOf policy c × IsFalse (accepts c)
+IsProvingOfText policy (answer.Explained e) = ⊥
+IsProvingOfText policy (answer.Proved certs) = (p : Meaning) × IsAccepted policy p × Proves p certs.items
+IsProvingOfText policy (answer.Verified v) = ⊥
+IsProvingOfText policy (answer.Played outcome) = ⊥
+IsProvingOfText policy (answer.Judged outcome) = ⊥
+IsProvingOfText policy (answer.Made text) = ⊥
+IsProvingOfText policy (answer.Benched told) = ⊥
+IsProvingOfText policy (answer.TooLong which) = ⊥
+IsProvingOfText policy answer.BadWords = ⊥
+
+-- The policy's file is read, and may hold this text, to which that is the answer of `prove`.
+pub record ProvesText (policy : Told) (a : Answer) : Type 0 where
+  pub text : List ℕ
+  pub read : MayRead kind.Policy policy text
+  pub answers : IsProvingOfText text a
+
+-- the answer of `prove` to a file of which this is told
+abbrev pub AnswersProve : Told → Answer → Type 0
+AnswersProve policy (answer.Checked c) = ProvesText policy (answer.Checked c)
+AnswersProve policy (answer.Explained e) = ⊥
+AnswersProve policy (answer.Proved certs) = ProvesText policy (answer.Proved certs)
+AnswersProve policy (answer.Verified v) = ⊥
+AnswersProve policy (answer.Played outcome) = ⊥
+AnswersProve policy (answer.Judged outcome) = ⊥
+AnswersProve policy (answer.Made text) = ⊥
+AnswersProve policy (answer.Benched told) = ⊥
+AnswersProve policy (answer.TooLong kind.Policy) = MayBeLong kind.Policy policy
+AnswersProve policy (answer.TooLong kind.Trace) = ⊥
+AnswersProve policy (answer.TooLong kind.History) = ⊥
+AnswersProve policy (answer.TooLong kind.Certificates) = ⊥
+AnswersProve policy answer.BadWords = ⊥
+
+-- Both files are read, and may hold these texts, to which that is the answer of `verify`.
+pub record VerifiesTexts (policy certs : Told) (v : VerifyAnswer) : Type 0 where
+  pub text : List ℕ
+  pub file : List ℕ
+  pub policy_read : MayRead kind.Policy policy text
+  pub certs_read : MayRead kind.Certificates certs file
+  pub answers : IsVerifyOf text file v
+
+-- the answer of `verify` to files of which this is told
+abbrev pub AnswersVerify : (policy certs : Told) → Answer → Type 0
+AnswersVerify policy certs (answer.Checked c) = ⊥
+AnswersVerify policy certs (answer.Explained e) = ⊥
+AnswersVerify policy certs (answer.Proved text) = ⊥
+AnswersVerify policy certs (answer.Verified v) = VerifiesTexts policy certs v
+AnswersVerify policy certs (answer.Played outcome) = ⊥
+AnswersVerify policy certs (answer.Judged outcome) = ⊥
+AnswersVerify policy certs (answer.Made text) = ⊥
+AnswersVerify policy certs (answer.Benched told) = ⊥
+AnswersVerify policy certs (answer.TooLong kind.Policy) = MayBeLong kind.Policy policy
+AnswersVerify policy certs (answer.TooLong kind.Trace) = ⊥
+AnswersVerify policy certs (answer.TooLong kind.History) = ⊥
+AnswersVerify policy certs (answer.TooLong kind.Certificates) =
+    ((text : List ℕ) × MayRead kind.Policy policy text) × MayBeLong kind.Certificates certs
+AnswersVerify policy certs answer.BadWords = ⊥
 
 -- a command that plays a trace: what it may answer under an accepted policy to the text of a trace
 abbrev pub Playing : Type 1
@@ -145,6 +223,8 @@ module _ (Is : Playing) where
   abbrev pub IsPlayOfTexts : (policy trace : List ℕ) → Answer → Type 0
   IsPlayOfTexts policy trace (answer.Checked c) = IsCheckOf policy c × IsFalse (accepts c)
   IsPlayOfTexts policy trace (answer.Explained e) = ⊥
+  IsPlayOfTexts policy trace (answer.Proved certs) = ⊥
+  IsPlayOfTexts policy trace (answer.Verified v) = ⊥
   IsPlayOfTexts policy trace (answer.Played outcome) = (p : Meaning) × IsAccepted policy p × Is p trace outcome
   IsPlayOfTexts policy trace (answer.Judged outcome) = ⊥
   IsPlayOfTexts policy trace (answer.Made text) = ⊥
@@ -164,6 +244,8 @@ module _ (Is : Playing) where
   abbrev pub AnswersPlay : (policy trace : Told) → Answer → Type 0
   AnswersPlay policy trace (answer.Checked c) = PlaysTexts policy trace (answer.Checked c)
   AnswersPlay policy trace (answer.Explained e) = ⊥
+  AnswersPlay policy trace (answer.Proved certs) = ⊥
+  AnswersPlay policy trace (answer.Verified v) = ⊥
   AnswersPlay policy trace (answer.Played outcome) = PlaysTexts policy trace (answer.Played outcome)
   AnswersPlay policy trace (answer.Judged outcome) = ⊥
   AnswersPlay policy trace (answer.Made text) = ⊥
@@ -172,6 +254,7 @@ module _ (Is : Playing) where
   AnswersPlay policy trace (answer.TooLong kind.Trace) =
       ((text : List ℕ) × MayRead kind.Policy policy text) × MayBeLong kind.Trace trace
   AnswersPlay policy trace (answer.TooLong kind.History) = ⊥
+  AnswersPlay policy trace (answer.TooLong kind.Certificates) = ⊥
   AnswersPlay policy trace answer.BadWords = ⊥
 
 -- Of the three files of a command that judges a history that one may be too long, and those before it are read.
@@ -181,6 +264,7 @@ IsTooLongOfThree policy trace history kind.Trace =
     ((text : List ℕ) × MayRead kind.Policy policy text) × MayBeLong kind.Trace trace
 IsTooLongOfThree policy trace history kind.History = ((text : List ℕ) × MayRead kind.Policy policy text)
     × ((jobs : List ℕ) × MayRead kind.Trace trace jobs) × MayBeLong kind.History history
+IsTooLongOfThree policy trace history kind.Certificates = ⊥
 
 -- a command that judges histories: what it may answer under an accepted policy to the texts of a trace and a history
 abbrev pub Judging : Type 1
@@ -196,6 +280,8 @@ module _ (Is : Judging) where
   abbrev pub IsJudgingOfTexts : (policy trace history : List ℕ) → Answer → Type 0
   IsJudgingOfTexts policy trace history (answer.Checked c) = IsCheckOf policy c × IsFalse (accepts c)
   IsJudgingOfTexts policy trace history (answer.Explained e) = ⊥
+  IsJudgingOfTexts policy trace history (answer.Proved certs) = ⊥
+  IsJudgingOfTexts policy trace history (answer.Verified v) = ⊥
   IsJudgingOfTexts policy trace history (answer.Played outcome) = ⊥
   IsJudgingOfTexts policy trace history (answer.Judged outcome) = (p : Meaning) × IsAccepted policy p
       × Is p trace history outcome
@@ -218,6 +304,8 @@ module _ (Is : Judging) where
   abbrev pub AnswersJudging : (policy trace history : Told) → Answer → Type 0
   AnswersJudging policy trace history (answer.Checked c) = JudgesTexts policy trace history (answer.Checked c)
   AnswersJudging policy trace history (answer.Explained e) = ⊥
+  AnswersJudging policy trace history (answer.Proved certs) = ⊥
+  AnswersJudging policy trace history (answer.Verified v) = ⊥
   AnswersJudging policy trace history (answer.Played outcome) = ⊥
   AnswersJudging policy trace history (answer.Judged outcome) = JudgesTexts policy trace history (answer.Judged outcome)
   AnswersJudging policy trace history (answer.Made text) = ⊥
@@ -229,6 +317,8 @@ module _ (Is : Judging) where
 abbrev pub AnswersMake : (seed size : ℕ) → Answer → Type 0
 AnswersMake seed size (answer.Checked c) = ⊥
 AnswersMake seed size (answer.Explained e) = ⊥
+AnswersMake seed size (answer.Proved certs) = ⊥
+AnswersMake seed size (answer.Verified v) = ⊥
 AnswersMake seed size (answer.Played outcome) = ⊥
 AnswersMake seed size (answer.Judged outcome) = ⊥
 AnswersMake seed size (answer.Made text) = (trace : List Numbered) × (made seed size ≡ Ok trace)
@@ -247,6 +337,8 @@ IsFairVerdict (checked.Unjudged why) = ⊥
 abbrev pub AnswersBench : (seed size : ℕ) → Answer → Type 0
 AnswersBench seed size (answer.Checked c) = IsFairVerdict c
 AnswersBench seed size (answer.Explained e) = ⊥
+AnswersBench seed size (answer.Proved certs) = ⊥
+AnswersBench seed size (answer.Verified v) = ⊥
 AnswersBench seed size (answer.Played outcome) = ⊥
 AnswersBench seed size (answer.Judged outcome) = ⊥
 AnswersBench seed size (answer.Made text) = ⊥
@@ -259,6 +351,8 @@ abbrev pub IsAnswer : Option Asked → (List ℕ → Told) → Answer → Type 0
 IsAnswer None told a = AnswersWords a
 IsAnswer (Some (check policy)) told a = AnswersCheck (told policy) a
 IsAnswer (Some (explain policy name)) told a = AnswersExplain (told policy) name a
+IsAnswer (Some (prove policy)) told a = AnswersProve (told policy) a
+IsAnswer (Some (verify policy certs)) told a = AnswersVerify (told policy) (told certs) a
 IsAnswer (Some (play policy trace)) told a = AnswersPlay plays.IsPlayOf (told policy) (told trace) a
 IsAnswer (Some (run policy trace)) told a = AnswersPlay IsRunOf (told policy) (told trace) a
 IsAnswer (Some (replay policy trace history)) told a =

@@ -10,7 +10,7 @@ use Rattle.policy_check.specs.Checks.{IsCrowded}
 use Rattle.policy_check.specs.Lines.{refusal_line}
 use Rattle.policy_check.specs.declared.reading.Refusal.TheVariants.{Crowded}
 use Rattle.ipanema_cli.specs.Answers.{IsAnswer, lines_of}
-use Rattle.command_words.specs.Command.{Asked, play, replay, report, run}
+use Rattle.command_words.specs.Command.{Asked, play, replay, report, run, verify}
 use Rattle.ipanema_cli.specs.Loads.{IsFileOf}
 use Rattle.ipanema_cli.specs.Stops.{IsUnread}
 use Rattle.ipanema_cli.specs.Texts.{MayRead, room_of, too_long_line}
@@ -48,10 +48,14 @@ Judges asked = (policy trace history : List ℕ) × ((asked ≡ Some (replay pol
 abbrev pub Plays : Option Asked → Type 0
 Plays asked = (policy trace : List ℕ) × ((asked ≡ Some (play policy trace)) ⊎ (asked ≡ Some (run policy trace)))
 
+-- the command verifies certificates
+abbrev pub Verifies : Option Asked → Type 0
+Verifies asked = (policy certs : List ℕ) × (asked ≡ Some (verify policy certs))
+
 -- Each status has its cause.
 pub record HasCause (asked : Option Asked) (told : List ℕ → Told) (read_fault : Type 0) (before after : Shown)
     (code : ℕ) : Type 0 where
-  pub known : OneOf (0 ∷ 1 ∷ 2 ∷ 3 ∷ 4 ∷ 5 ∷ 6 ∷ 7 ∷ 8 ∷ 9 ∷ 10 ∷ []) code
+  pub known : OneOf (0 ∷ 1 ∷ 2 ∷ 3 ∷ 4 ∷ 5 ∷ 6 ∷ 7 ∷ 8 ∷ 9 ∷ 10 ∷ 11 ∷ []) code
   -- the outside failed in this call, or a file of the command is told to be missing; and nothing is written
   pub unread : code ≡ 4 → IsUnread asked told read_fault × Adds [] before.written after.written
   -- the outside failed in this call, before all of an output was written
@@ -64,6 +68,8 @@ pub record HasCause (asked : Option Asked) (told : List ℕ → Told) (read_faul
   -- only a command that judges a history says that one isn't whole, and only one that plays a trace that one is full
   pub not_whole : code ≡ 9 → Judges asked
   pub full : code ≡ 8 → Plays asked
+  -- only `verify` says that certificates are wrong
+  pub wrong : code ≡ 11 → Verifies asked
   -- a file of the command may be longer than its limit, and one that is told to be gets no other answer; or an
   -- obligation has too many cases
   pub too_much : code ≡ 10 →

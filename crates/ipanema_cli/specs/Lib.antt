@@ -7,8 +7,10 @@ pub mod ExplainTruths
 pub mod JudgeTruths
 pub mod Loads
 pub mod MakeTruths
+pub mod ProveTruths
 pub mod Status
 pub mod Stops
 pub mod Texts
 pub mod TraceTruths
 pub mod Truths
+pub mod VerifyTruths

@@ -2,7 +2,7 @@
 use Rattle.std.specs.Prelude.{◌≡◌, ℕ, ◌<◌, List, [], ◌∷◌, Option, Some, None, take}
 use Rattle.sched_io.specs.Loads.{AreRequested, LoadRequest, load_request}
 use Rattle.sched_io.specs.Told.{Told}
-use Rattle.command_words.specs.Command.{Asked, bench, check, explain, make, play, replay, report, run}
+use Rattle.command_words.specs.Command.{Asked, bench, check, explain, make, play, prove, replay, report, run, verify}
 use Rattle.ipanema_cli.specs.Texts.{MayRead, room_of}
 use Rattle.ipanema_cli.specs.declared.texts.TextKind.{TextKind}
 use Rattle.ipanema_cli.specs.declared.texts.TextKind.TheVariants as kind
@@ -12,6 +12,7 @@ abbrev pub IsOneOfThree : (policy trace history : List ℕ) → TextKind → Lis
 IsOneOfThree policy trace history kind.Policy name = name ≡ policy
 IsOneOfThree policy trace history kind.Trace name = name ≡ trace
 IsOneOfThree policy trace history kind.History name = name ≡ history
+IsOneOfThree policy trace history kind.Certificates name = ⊥
 
 -- the command loads such a text from the file of that name
 abbrev pub IsFileOf : Option Asked → TextKind → List ℕ → Type 0
@@ -19,15 +20,27 @@ IsFileOf None which name = ⊥
 IsFileOf (Some (check policy)) kind.Policy name = name ≡ policy
 IsFileOf (Some (check policy)) kind.Trace name = ⊥
 IsFileOf (Some (check policy)) kind.History name = ⊥
+IsFileOf (Some (check policy)) kind.Certificates name = ⊥
 IsFileOf (Some (explain policy ob)) kind.Policy name = name ≡ policy
 IsFileOf (Some (explain policy ob)) kind.Trace name = ⊥
 IsFileOf (Some (explain policy ob)) kind.History name = ⊥
+IsFileOf (Some (explain policy ob)) kind.Certificates name = ⊥
+IsFileOf (Some (prove policy)) kind.Policy name = name ≡ policy
+IsFileOf (Some (prove policy)) kind.Trace name = ⊥
+IsFileOf (Some (prove policy)) kind.History name = ⊥
+IsFileOf (Some (prove policy)) kind.Certificates name = ⊥
+IsFileOf (Some (verify policy certs)) kind.Policy name = name ≡ policy
+IsFileOf (Some (verify policy certs)) kind.Trace name = ⊥
+IsFileOf (Some (verify policy certs)) kind.History name = ⊥
+IsFileOf (Some (verify policy certs)) kind.Certificates name = name ≡ certs
 IsFileOf (Some (play policy trace)) kind.Policy name = name ≡ policy
 IsFileOf (Some (play policy trace)) kind.Trace name = name ≡ trace
 IsFileOf (Some (play policy trace)) kind.History name = ⊥
+IsFileOf (Some (play policy trace)) kind.Certificates name = ⊥
 IsFileOf (Some (run policy trace)) kind.Policy name = name ≡ policy
 IsFileOf (Some (run policy trace)) kind.Trace name = name ≡ trace
 IsFileOf (Some (run policy trace)) kind.History name = ⊥
+IsFileOf (Some (run policy trace)) kind.Certificates name = ⊥
 IsFileOf (Some (replay policy trace history)) which name = IsOneOfThree policy trace history which name
 IsFileOf (Some (report policy trace history)) which name = IsOneOfThree policy trace history which name
 IsFileOf (Some (make seed size)) which name = ⊥
@@ -42,11 +55,18 @@ three_files policy trace history = load_request policy (room_of kind.Policy) ∷
 abbrev pub two_files : (policy trace : List ℕ) → List LoadRequest
 two_files policy trace = load_request policy (room_of kind.Policy) ∷ load_request trace (room_of kind.Trace) ∷ []
 
+-- those of `verify`
+abbrev pub certified_files : (policy certs : List ℕ) → List LoadRequest
+certified_files policy certs =
+    load_request policy (room_of kind.Policy) ∷ load_request certs (room_of kind.Certificates) ∷ []
+
 -- the files of a command, each with the most bytes that it may have
 abbrev pub files_of : Option Asked → List LoadRequest
 files_of None = []
 files_of (Some (check policy)) = load_request policy (room_of kind.Policy) ∷ []
 files_of (Some (explain policy name)) = load_request policy (room_of kind.Policy) ∷ []
+files_of (Some (prove policy)) = load_request policy (room_of kind.Policy) ∷ []
+files_of (Some (verify policy certs)) = certified_files policy certs
 files_of (Some (play policy trace)) = two_files policy trace
 files_of (Some (run policy trace)) = two_files policy trace
 files_of (Some (replay policy trace history)) = three_files policy trace history
@@ -76,6 +96,8 @@ abbrev pub MayGoOn : Option Asked → (List ℕ → Told) → ℕ → Type 0
 MayGoOn None told count = Unit {0}
 MayGoOn (Some (check policy)) told count = Unit {0}
 MayGoOn (Some (explain policy name)) told count = Unit {0}
+MayGoOn (Some (prove policy)) told count = Unit {0}
+MayGoOn (Some (verify policy certs)) told count = GoesOnOfTwo (told policy) count
 MayGoOn (Some (replay policy trace history)) told count =
     GoesOnOfThree (told policy) (told trace) (told history) count
 MayGoOn (Some (report policy trace history)) told count =

@@ -10,6 +10,8 @@ use Rattle.policy_check.specs.declared.explaining.ExplainAnswer.{ExplainAnswer}
 use Rattle.policy_check.specs.declared.explaining.ExplainAnswer.TheVariants as explain
 use Rattle.policy_check.specs.declared.reading.Refusal.{Refusal}
 use Rattle.policy_check.specs.declared.reading.Refusal.TheVariants as refusal
+use Rattle.policy_check.specs.declared.verifying.VerifyAnswer.{VerifyAnswer}
+use Rattle.policy_check.specs.declared.verifying.VerifyAnswer.TheVariants as verify
 use Rattle.history_replay.specs.declared.answer.HistoryAnswer.{HistoryAnswer}
 use Rattle.history_replay.specs.declared.answer.HistoryAnswer.TheVariants as history
 use Rattle.history_replay.specs.declared.refusal.HistoryRefusal.{HistoryRefusal}
@@ -29,6 +31,7 @@ code_of status.BadWords = 7
 code_of status.HistoryFull = 8
 code_of status.NotWhole = 9
 code_of status.TooMuch = 10
+code_of status.WrongCertificates = 11
 
 -- the status of an answer to an obligation
 abbrev pub outcome_status : Outcome → Status
@@ -56,6 +59,13 @@ check_status (check.Unjudged why) = refusal_status why
 abbrev pub explain_status : ExplainAnswer → Status
 explain_status (explain.Explained told) = outcome_status told.outcome
 explain_status (explain.Unjudged why) = refusal_status why
+
+-- the status of an answer of `verify`
+abbrev pub verify_status : VerifyAnswer → Status
+verify_status (verify.Verified verified) = status.Done
+verify_status (verify.BadLine line) = status.BadText
+verify_status (verify.Wrong name place) = status.WrongCertificates
+verify_status (verify.Unjudged why) = refusal_status why
 
 -- the status of texts that give no whole history
 abbrev pub history_refusal_status : HistoryRefusal → Status

@@ -2,7 +2,7 @@
 use Rattle.std.specs.Prelude.{◌≡◌, ◌⊎◌, ℕ, List, Option, Some, None}
 use Rattle.sched_io.specs.Told.{Told, missing}
 use Rattle.ipanema_cli.specs.Answers.{IsAnswer, IsTooLongOfThree}
-use Rattle.command_words.specs.Command.{Asked, bench, check, explain, make, play, replay, report, run}
+use Rattle.command_words.specs.Command.{Asked, bench, check, explain, make, play, prove, replay, report, run, verify}
 use Rattle.ipanema_cli.specs.Texts.{MayBeLong, MayRead}
 use Rattle.ipanema_cli.specs.declared.answers.Answer.TheVariants as answer
 use Rattle.ipanema_cli.specs.declared.stop.Stop.{Stop}
@@ -18,9 +18,9 @@ IsUnloaded which told fault (stop.TooLong other) = (other ≡ which) × MayBeLon
 IsUnloaded which told fault stop.Memory = Unit {0}
 
 -- One of two files wasn't read: the outside failed, or that file is told to be missing and the one before it is read.
-abbrev pub IsUnreadOfTwo : (policy trace : Told) → Type 0 → Type 0
-IsUnreadOfTwo policy trace fault =
-    fault ⊎ ((policy ≡ missing) ⊎ (((text : List ℕ) × MayRead kind.Policy policy text) × (trace ≡ missing)))
+abbrev pub IsUnreadOfTwo : (policy other : Told) → Type 0 → Type 0
+IsUnreadOfTwo policy other fault =
+    fault ⊎ ((policy ≡ missing) ⊎ (((text : List ℕ) × MayRead kind.Policy policy text) × (other ≡ missing)))
 
 -- One of three files wasn't read: the outside failed, or that file is told to be missing and those before it are read.
 abbrev pub IsUnreadOfThree : (policy trace history : Told) → Type 0 → Type 0
@@ -35,6 +35,8 @@ abbrev pub IsUnread : Option Asked → (List ℕ → Told) → Type 0 → Type 0
 IsUnread None told fault = ⊥
 IsUnread (Some (check policy)) told fault = fault ⊎ (told policy ≡ missing)
 IsUnread (Some (explain policy name)) told fault = fault ⊎ (told policy ≡ missing)
+IsUnread (Some (prove policy)) told fault = fault ⊎ (told policy ≡ missing)
+IsUnread (Some (verify policy certs)) told fault = IsUnreadOfTwo (told policy) (told certs) fault
 IsUnread (Some (play policy trace)) told fault = IsUnreadOfTwo (told policy) (told trace) fault
 IsUnread (Some (run policy trace)) told fault = IsUnreadOfTwo (told policy) (told trace) fault
 IsUnread (Some (replay policy trace history)) told fault =

@@ -1,6 +1,7 @@
 -- The texts that commands load.
 use Rattle.std.specs.Prelude.{ℕ, ◌<◌, ◌≤◌, List, codes, length}
-use Rattle.sched_base.specs.declared.limits.TheConstants.{MAX_HISTORY_BYTES, MAX_POLICY_BYTES, MAX_TRACE_BYTES}
+use Rattle.sched_base.specs.declared.limits.TheConstants.{MAX_CERTIFICATE_BYTES, MAX_HISTORY_BYTES, MAX_POLICY_BYTES}
+use Rattle.sched_base.specs.declared.limits.TheConstants.{MAX_TRACE_BYTES}
 use Rattle.sched_io.specs.Told.{Told, MayHold}
 use Rattle.ipanema_cli.specs.declared.texts.TextKind.{TextKind}
 use Rattle.ipanema_cli.specs.declared.texts.TextKind.TheVariants as kind
@@ -10,12 +11,14 @@ abbrev pub room_of : TextKind → ℕ
 room_of kind.Policy = MAX_POLICY_BYTES
 room_of kind.Trace = MAX_TRACE_BYTES
 room_of kind.History = MAX_HISTORY_BYTES
+room_of kind.Certificates = MAX_CERTIFICATE_BYTES
 
 -- the line that says that a text is longer
 abbrev pub too_long_line : TextKind → List ℕ
 too_long_line kind.Policy = codes "too-long policy\n"
 too_long_line kind.Trace = codes "too-long trace\n"
 too_long_line kind.History = codes "too-long history\n"
+too_long_line kind.Certificates = codes "too-long certs\n"
 
 -- The file of which this is told may hold this text, which isn't longer than such a text may be.
 pub record MayRead (which : TextKind) (told : Told) (text : List ℕ) : Type 0 where

@@ -1,10 +1,12 @@
 -- What each command says is true.
 use Rattle.std.specs.Prelude.{ℕ, List, Option, Some, None}
 use Rattle.sched_io.specs.Told.{Told}
-use Rattle.command_words.specs.Command.{Asked, bench, check, explain, make, play, replay, report, run}
+use Rattle.command_words.specs.Command.{Asked, bench, check, explain, make, play, prove, replay, report, run, verify}
 use Rattle.ipanema_cli.specs.CheckTruths.{ChecksTruly}
 use Rattle.ipanema_cli.specs.ExplainTruths.{ExplainsTruly}
+use Rattle.ipanema_cli.specs.ProveTruths.{ProvesTruly}
 use Rattle.ipanema_cli.specs.TraceTruths.{PlaysTruly, RunsTruly}
+use Rattle.ipanema_cli.specs.VerifyTruths.{VerifiesTruly}
 use Rattle.ipanema_cli.specs.JudgeTruths.{JudgesTruly, SaysReport, SaysWhole}
 use Rattle.ipanema_cli.specs.MakeTruths.{MakesTruly}
 use Rattle.ipanema_cli.specs.BenchTruths.{BenchesTruly}
@@ -20,6 +22,9 @@ IsTruthful Passed None told before after code = Unit {0}
 IsTruthful Passed (Some (check policy)) told before after code = ChecksTruly (told policy) before after code
 IsTruthful Passed (Some (explain policy name)) told before after code =
     ExplainsTruly (told policy) name before after code
+IsTruthful Passed (Some (prove policy)) told before after code = ProvesTruly (told policy) before after code
+IsTruthful Passed (Some (verify policy certs)) told before after code =
+    VerifiesTruly (told policy) (told certs) before after code
 IsTruthful Passed (Some (play policy trace)) told before after code =
     PlaysTruly (told policy) (told trace) before after code
 IsTruthful Passed (Some (run policy trace)) told before after code =

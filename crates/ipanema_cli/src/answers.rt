@@ -4,20 +4,21 @@ ghost use Rattle.std.specs.Prelude.{◌≡◌, ◌≤◌, ℕ, IfErr, IfOk, IsTr
 ghost use Rattle.sched_base.specs.declared.limits.TheConstants.{MAX_POLICY_BYTES, MAX_TRACE_BYTES};
 ghost use Rattle.sched_io.specs.Puts.{Puts};
 ghost use Rattle.ipanema_cli.specs.Answers.{AnswersBench, AnswersMake, CanBePut, IsJudgingOfTexts, IsPlayOfTexts};
-ghost use Rattle.ipanema_cli.specs.Answers.{judging_of, lines_of, status_of};
+ghost use Rattle.ipanema_cli.specs.Answers.{IsProvingOfText, judging_of, lines_of, status_of};
 ghost use Rattle.policy_tree.specs.Meaning.{meaning_of};
 ghost use Rattle.command_words.specs.Numbers.{is_size};
 ghost use Rattle.trace_play.specs.Plays.{IsPlayOf};
 ghost use Rattle.trace_run.specs.Runs.{IsGatedRunOf};
 ghost use Rattle.ipanema_cli.specs.declared.stop.Stop.TheVariants as stop;
 
-use crate::status::{Status, check_status, explain_status, history_status};
+use crate::status::{Status, check_status, explain_status, history_status, verify_status};
 use crate::stop::Stop;
 use crate::texts::{TextKind, Texts};
 use bench_play::{BenchTotals, play_bench, print_bench};
+use cert_file::write_certs;
 use fair_policy::fair_policy;
 use history_replay::{HistoryAnswer, replay_texts, report_texts};
-use policy_check::{CheckAnswer, ExplainAnswer, check_text};
+use policy_check::{CheckAnswer, ExplainAnswer, VerifyAnswer, check_text, put_text};
 use policy_checker::{AcceptedPolicy, CheckFault, Verdict, check_policy};
 use sched_base::CHECK_BUDGET;
 use sched_io::{Gate, PutFault, Sink, put_all};
@@ -36,6 +37,10 @@ pub enum Answer {
     Checked(CheckAnswer),
     /// What `explain` answers of an obligation of the policy.
     Explained(ExplainAnswer),
+    /// The text of the certificates of a policy that is accepted.
+    Proved(Vec<u8>),
+    /// What `verify` answers to a policy and certificates.
+    Verified(VerifyAnswer),
     /// What the trace comes to that is played under an accepted policy.
     Played(PlayAnswer),
     /// What a history's text comes to, under an accepted policy and a trace.
@@ -57,6 +62,21 @@ pub enum HistoryCommand {
     Replay,
     /// To say what it wasted and why its steals failed.
     Report,
+}
+
+/// The answer of `prove` to a policy's text within its limit.
+pub fn prove_text(alloc: Global, policy: &[u8]) -> Result<Answer, Stop>
+    requires { length policy.now ≤ MAX_POLICY_BYTES }
+    ensures answer { IfOk result (IsProvingOfText policy.now) }
+    ensures shown { IfOk result CanBePut }
+    ensures memory { IfErr result (λ why. why ≡ stop.Memory) }
+{
+    match check_text(alloc, policy)? {
+        CheckAnswer::Judged(Verdict::Accepted(accepted)) => {
+            Ok(Answer::Proved(write_certs(alloc, &accepted)?))
+        }
+        refusal => Ok(Answer::Checked(refusal)),
+    }
 }
 
 /// The answer of `play` to texts within their limits.
@@ -176,6 +196,8 @@ impl Answer {
         match self {
             Answer::Checked(answer) => check_status(answer),
             Answer::Explained(answer) => explain_status(answer),
+            Answer::Proved(_) => Status::Done,
+            Answer::Verified(answer) => verify_status(answer),
             Answer::Played(PlayAnswer::Broken(_)) => Status::BadText,
             Answer::Played(PlayAnswer::Played(PlayedCores::Whole(_))) => Status::Done,
             Answer::Played(PlayAnswer::Played(PlayedCores::Full(_))) => Status::HistoryFull,
@@ -195,6 +217,8 @@ impl Answer {
         match self {
             Answer::Checked(answer) => answer.put(out),
             Answer::Explained(answer) => answer.put(out),
+            Answer::Proved(certs) => put_text(out, certs.as_slice()),
+            Answer::Verified(answer) => answer.put(out),
             Answer::Played(answer) => answer.put(out),
             Answer::Judged(answer) => answer.put(out),
             Answer::Made(text) => put_all(out, text.as_slice()),

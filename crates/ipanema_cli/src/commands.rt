@@ -3,23 +3,25 @@
 ghost use Rattle.std.specs.Prelude.{◌≡◌, ◌≢◌, ◌⊎◌, ℕ, List, Some, IfErr, IfOk, IsErrOf, IsTrue, OnOk};
 ghost use Rattle.sched_io.specs.Faults.{Rose};
 ghost use Rattle.sched_io.specs.Loads.{AreRequested};
-ghost use Rattle.ipanema_cli.specs.Answers.{AnswersCheck, AnswersExplain, AnswersJudging, AnswersPlay, CanBePut};
-ghost use Rattle.ipanema_cli.specs.Answers.{IsAnswer, judging_of};
+ghost use Rattle.ipanema_cli.specs.Answers.{AnswersCheck, AnswersExplain, AnswersJudging, AnswersPlay, AnswersProve};
+ghost use Rattle.ipanema_cli.specs.Answers.{AnswersVerify, CanBePut, IsAnswer, judging_of};
 ghost use Rattle.command_words.specs.Asks.{asked};
 ghost use Rattle.command_words.specs.Numbers.{is_size};
 ghost use Rattle.command_words.specs.Command.{bench as asks_bench, check, explain, make as asks_make, play};
-ghost use Rattle.command_words.specs.Command.{run};
+ghost use Rattle.command_words.specs.Command.{prove as asks_prove, run, verify as asks_verify};
 ghost use Rattle.ipanema_cli.specs.Loads.{FirstAreLoaded, LoadsOfThree, files_of, three_files};
 ghost use Rattle.ipanema_cli.specs.Stops.{IsStop, IsStopOfThree};
 ghost use Rattle.trace_play.specs.Plays.{IsPlayOf};
 ghost use Rattle.trace_run.specs.Runs.{IsGatedRunOf};
 
-use crate::answers::{Answer, HistoryCommand, bench, judge, make, play_texts, run_texts};
+use crate::answers::{
+    Answer, HistoryCommand, bench, judge, make, play_texts, prove_text, run_texts,
+};
 use crate::stop::Stop;
 use crate::texts::{TextKind, load, load_three};
 use command_words::Request;
 use obligations::ObName;
-use policy_check::{check_text, explain_text};
+use policy_check::{check_text, explain_text, verify_text};
 use sched_io::{Files, Gate};
 use std::alloc::Global;
 use std::sync::Wait;
@@ -43,6 +45,8 @@ pub fn answer_of<F: Files>(alloc: Global, request: Request, files: &mut F) -> Re
     match request {
         Request::Check { policy } => check(alloc, policy, files),
         Request::Explain { policy, name } => explain(alloc, policy, name, files),
+        Request::Prove { policy } => prove_policy(alloc, policy, files),
+        Request::Verify { policy, certs } => verify(alloc, policy, certs, files),
         Request::Play { policy, trace } => play(alloc, policy, trace, files),
         // That takes more than one thread.
         Request::Run { .. } => unreachable!(),
@@ -93,6 +97,37 @@ fn explain<F: Files>(
 {
     let policy_text = load(alloc, files, policy, TextKind::Policy)?;
     Ok(Answer::Explained(explain_text(alloc, policy_text.as_slice(), name)?))
+}
+
+/// The answer of `prove` to the policy in that file.
+fn prove_policy<F: Files>(alloc: Global, policy: &str, files: &mut F) -> Result<Answer, Stop>
+    ensures answer { IfOk result (AnswersProve (F.told files.old policy.now)) }
+    ensures shown { IfOk result CanBePut }
+    ensures stop { IfErr result (IsStop (Some (asks_prove policy.now)) (F.told files.old)
+        (Rose (F.faults files.old) (F.faults files.new))) }
+    ensures loads { AreRequested (files_of (Some (asks_prove policy.now)))
+        (F.requested files.old) (F.requested files.new) }
+    ensures calm { IsErrOf result Stop.Unread ⊎ (F.faults files.new ≡ F.faults files.old) }
+{
+    let policy_text = load(alloc, files, policy, TextKind::Policy)?;
+    prove_text(alloc, policy_text.as_slice())
+}
+
+/// The answer of `verify` to the policy in one file and the certificates in the other.
+fn verify<F: Files>(alloc: Global, policy: &str, certs: &str, files: &mut F) -> Result<Answer, Stop>
+    ensures answer { IfOk result (AnswersVerify (F.told files.old policy.now) (F.told files.old certs.now)) }
+    ensures shown { IfOk result CanBePut }
+    ensures stop { IfErr result (IsStop (Some (asks_verify policy.now certs.now)) (F.told files.old)
+        (Rose (F.faults files.old) (F.faults files.new))) }
+    ensures loads { FirstAreLoaded (Some (asks_verify policy.now certs.now)) (F.told files.old)
+        (F.requested files.old) (F.requested files.new) }
+    ensures loaded { OnOk result (AreRequested (files_of (Some (asks_verify policy.now certs.now)))
+        (F.requested files.old) (F.requested files.new)) }
+    ensures calm { IsErrOf result Stop.Unread ⊎ (F.faults files.new ≡ F.faults files.old) }
+{
+    let policy_text = load(alloc, files, policy, TextKind::Policy)?;
+    let certs_text = load(alloc, files, certs, TextKind::Certificates)?;
+    Ok(Answer::Verified(verify_text(alloc, policy_text.as_slice(), certs_text.as_slice())?))
 }
 
 /// The answer of `play` to the trace in one file under the policy in the other.

@@ -3,9 +3,10 @@
 ghost use Rattle.std.specs.Prelude.{◌≡◌};
 ghost use Rattle.ipanema_cli.specs.Status.{check_status, code_of, explain_status, history_refusal_status};
 ghost use Rattle.ipanema_cli.specs.Status.{history_status, outcome_status, refusal_status, verdict_status};
+ghost use Rattle.ipanema_cli.specs.Status.{verify_status};
 
 use history_replay::{HistoryAnswer, HistoryRefusal};
-use policy_check::{CheckAnswer, ExplainAnswer, Refusal};
+use policy_check::{CheckAnswer, ExplainAnswer, Refusal, VerifyAnswer};
 use policy_checker::{Outcome, Verdict};
 
 /// How the program ends, for the shell a number.
@@ -33,6 +34,8 @@ pub enum Status {
     NotWhole,
     /// A file is longer than its limit, or an obligation has too many cases.
     TooMuch,
+    /// The certificates aren't those that the policy needs.
+    WrongCertificates,
 }
 
 impl Status {
@@ -52,6 +55,7 @@ impl Status {
             Status::HistoryFull => 8,
             Status::NotWhole => 9,
             Status::TooMuch => 10,
+            Status::WrongCertificates => 11,
         }
     }
 }
@@ -73,6 +77,18 @@ pub fn explain_status(answer: &ExplainAnswer) -> Status
     match answer {
         ExplainAnswer::Explained(told) => outcome_status(told.outcome),
         ExplainAnswer::Unjudged(refusal) => refusal_status(refusal),
+    }
+}
+
+/// The status of an answer of `verify`.
+pub fn verify_status(answer: &VerifyAnswer) -> Status
+    ensures { result ≡ verify_status answer.now }
+{
+    match answer {
+        VerifyAnswer::Verified(_) => Status::Done,
+        VerifyAnswer::BadLine(_) => Status::BadText,
+        VerifyAnswer::Wrong(_, _) => Status::WrongCertificates,
+        VerifyAnswer::Unjudged(refusal) => refusal_status(refusal),
     }
 }
 

@@ -5,6 +5,7 @@ ghost use Rattle.ipanema_cli.specs.declared.stop.Stop.TheVariants as stop;
 
 use crate::texts::TextKind;
 use bench_play::BenchMemory;
+use cert_file::CertFileMemory;
 use command_words::WordsMemory;
 use policy_check::CheckMemory;
 use std::alloc::AllocError;
@@ -33,6 +34,14 @@ impl From<CheckMemory> for Stop {
     ghost from_gives = { λ _ why. why ≡ stop.Memory };
 
     fn from(_fault: CheckMemory) -> Stop {
+        Stop::Memory
+    }
+}
+
+impl From<CertFileMemory> for Stop {
+    ghost from_gives = { λ _ why. why ≡ stop.Memory };
+
+    fn from(_fault: CertFileMemory) -> Stop {
         Stop::Memory
     }
 }

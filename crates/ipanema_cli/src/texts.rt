@@ -8,7 +8,7 @@ ghost use Rattle.ipanema_cli.specs.Loads.{LoadsOfThree, three_files};
 ghost use Rattle.ipanema_cli.specs.Stops.{AreRead, IsStopOfThree, IsUnloaded};
 
 use crate::stop::Stop;
-use sched_base::{MAX_HISTORY_BYTES, MAX_POLICY_BYTES, MAX_TRACE_BYTES};
+use sched_base::{MAX_CERTIFICATE_BYTES, MAX_HISTORY_BYTES, MAX_POLICY_BYTES, MAX_TRACE_BYTES};
 use sched_io::{Files, LoadFault};
 use std::alloc::Global;
 
@@ -21,6 +21,8 @@ pub enum TextKind {
     Trace,
     /// A history.
     History,
+    /// Certificates of a policy.
+    Certificates,
 }
 
 /// The texts of a policy, a trace and a history.
@@ -40,6 +42,7 @@ impl TextKind {
             TextKind::Policy => MAX_POLICY_BYTES,
             TextKind::Trace => MAX_TRACE_BYTES,
             TextKind::History => MAX_HISTORY_BYTES,
+            TextKind::Certificates => MAX_CERTIFICATE_BYTES,
         }
     }
 
@@ -51,6 +54,7 @@ impl TextKind {
             TextKind::Policy => b"too-long policy\n",
             TextKind::Trace => b"too-long trace\n",
             TextKind::History => b"too-long history\n",
+            TextKind::Certificates => b"too-long certs\n",
         }
     }
 }

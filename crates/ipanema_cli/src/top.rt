@@ -42,7 +42,7 @@ pub fn ipanema<R: Threads + Wait + Sync, F: Files, S: Sink, G: Gate + Sync>(
     // Each status has its cause.
     ensures causes { HasCause (asked_by (words_of words.now.items)) (F.told files.old)
         (Rose (F.faults files.old) (F.faults files.new)) (S.shown out.old) (S.shown out.new) result }
-    // What is said of a policy and of a trace is true, and the cores of a run passed the gate.
+    // What is said of a policy, of a trace and of certificates is true, and the cores of a run passed the gate.
     ensures truthful { IsTruthful (G.passed gate.now) (asked_by (words_of words.now.items)) (F.told files.old)
         (S.shown out.old).written (S.shown out.new).written result }
     // Just the first of the command's files are loaded, each once and with its limit, and none
@@ -50,7 +50,7 @@ pub fn ipanema<R: Threads + Wait + Sync, F: Files, S: Sink, G: Gate + Sync>(
     ensures loads { FirstAreLoaded (asked_by (words_of words.now.items)) (F.told files.old)
         (F.requested files.old) (F.requested files.new) }
     // And where a text was answered, or no command was, all of them are.
-    ensures loaded { OneOf (0 ∷ 1 ∷ 2 ∷ 3 ∷ 7 ∷ 8 ∷ 9 ∷ []) result →
+    ensures loaded { OneOf (0 ∷ 1 ∷ 2 ∷ 3 ∷ 7 ∷ 8 ∷ 9 ∷ 11 ∷ []) result →
         AreRequested (files_of (asked_by (words_of words.now.items))) (F.requested files.old) (F.requested files.new) }
     // Where the files' count of faults moves, the call ends with 4, and where the sink's does, with 5.
     ensures calm { (result ≡ 4) ⊎ (F.faults files.new ≡ F.faults files.old) }
@@ -82,7 +82,7 @@ pub fn serial_command<F: Files, S: Sink>(
         (S.shown out.old).written (S.shown out.new).written result }
     ensures loads { FirstAreLoaded (asked_by (words_of words.now.items)) (F.told files.old)
         (F.requested files.old) (F.requested files.new) }
-    ensures loaded { OneOf (0 ∷ 1 ∷ 2 ∷ 3 ∷ 7 ∷ 8 ∷ 9 ∷ []) result →
+    ensures loaded { OneOf (0 ∷ 1 ∷ 2 ∷ 3 ∷ 7 ∷ 8 ∷ 9 ∷ 11 ∷ []) result →
         AreRequested (files_of (asked_by (words_of words.now.items))) (F.requested files.old) (F.requested files.new) }
     ensures calm { (result ≡ 4) ⊎ (F.faults files.new ≡ F.faults files.old) }
     ensures quiet { (result ≡ 5) ⊎ ((S.shown out.new).faults ≡ (S.shown out.old).faults) }

@@ -12,7 +12,7 @@ is_round_of number (entry.Round n) = eqb n number
 is_round_of number (entry.Enter thread by at reads) = false
 is_round_of number (entry.Wake thread by at reads) = false
 is_round_of number (entry.Work by what) = false
-is_round_of number (entry.Steal by from thread reads) = false
+is_round_of number (entry.Steal by from threads reads) = false
 is_round_of number (entry.Fail by from reads) = false
 is_round_of number (entry.Pass by reads) = false
 

@@ -10,7 +10,7 @@ use Rattle.round_model.specs.Choices.{candidates_of, choice_of, target_of}
 use Rattle.round_model.specs.Cores.{opening_state}
 use Rattle.round_model.specs.Entries.{acts, touches}
 use Rattle.round_model.specs.Legal.{LegalNext, is_complete, is_due}
-use Rattle.round_model.specs.Moves.{core_after_event, handed, received, released}
+use Rattle.round_model.specs.Moves.{core_after_event, handed_all, received_all, released}
 use Rattle.round_model.specs.Rows.{Row}
 use Rattle.round_model.specs.Scenes.{entering_next, scene_of, waking_next}
 use Rattle.round_model.specs.TurnSteps.{turn_step_of}
@@ -20,7 +20,7 @@ use Rattle.round_model.specs.Work.{worked}
 use Rattle.model_tests.specs.EventRows.{GapsAndOverlaps, OverNumbersArePassedOver, Saturates, TiesGoToTheLowest, YieldGoesToTheQueue}
 
 pub yield_goes_to_the_queue : YieldGoesToTheQueue
-unfolding LegalNext Row with_round step_of turn_step_of acts touches effect after_from attempt_of candidates_of choice_of target_of opening_state is_due is_complete core_after_event handed received released scene_of entering_next waking_next worked holding_cases outcomes_of task_after_set pair_values core_values thread_values event_values
+unfolding LegalNext Row with_round step_of turn_step_of acts touches effect after_from attempt_of candidates_of choice_of target_of opening_state is_due is_complete core_after_event handed_all received_all released scene_of entering_next waking_next worked holding_cases outcomes_of task_after_set pair_values core_values thread_values event_values
 yield_goes_to_the_queue = refl
 
 -- of no words none is right, and of two no third
@@ -33,7 +33,7 @@ two_words a b d (suc zero, inside, is) first second = second is
 two_words a b d (suc (suc k), inside, is) first second = omega arith
 
 pub gaps_and_overlaps : GapsAndOverlaps
-unfolding LegalNext Row with_round step_of turn_step_of acts touches effect after_from attempt_of candidates_of choice_of target_of opening_state is_due is_complete core_after_event handed received released scene_of entering_next waking_next worked holding_cases outcomes_of task_after_set pair_values core_values thread_values event_values
+unfolding LegalNext Row with_round step_of turn_step_of acts touches effect after_from attempt_of candidates_of choice_of target_of opening_state is_due is_complete core_after_event handed_all received_all released scene_of entering_next waking_next worked holding_cases outcomes_of task_after_set pair_values core_values thread_values event_values
 gaps_and_overlaps = record {
   gap_loses = refl;
   gap_says_nothing = λ d r. no_word d r.row.outcome;
@@ -44,13 +44,13 @@ gaps_and_overlaps = record {
 }
 
 pub saturates : Saturates
-unfolding LegalNext Row with_round step_of turn_step_of acts touches effect after_from attempt_of candidates_of choice_of target_of opening_state is_due is_complete core_after_event handed received released scene_of entering_next waking_next worked holding_cases outcomes_of task_after_set pair_values core_values thread_values event_values
+unfolding LegalNext Row with_round step_of turn_step_of acts touches effect after_from attempt_of candidates_of choice_of target_of opening_state is_due is_complete core_after_event handed_all received_all released scene_of entering_next waking_next worked holding_cases outcomes_of task_after_set pair_values core_values thread_values event_values
 saturates = record { within = refl; at_the_end = refl }
 
 pub over_numbers_are_passed_over : OverNumbersArePassedOver
-unfolding LegalNext Row with_round step_of turn_step_of acts touches effect after_from attempt_of candidates_of choice_of target_of opening_state is_due is_complete core_after_event handed received released scene_of entering_next waking_next worked holding_cases outcomes_of task_after_set pair_values core_values thread_values event_values
+unfolding LegalNext Row with_round step_of turn_step_of acts touches effect after_from attempt_of candidates_of choice_of target_of opening_state is_due is_complete core_after_event handed_all received_all released scene_of entering_next waking_next worked holding_cases outcomes_of task_after_set pair_values core_values thread_values event_values
 over_numbers_are_passed_over = refl
 
 pub ties_go_to_the_lowest : TiesGoToTheLowest
-unfolding LegalNext Row with_round step_of turn_step_of acts touches effect after_from attempt_of candidates_of choice_of target_of opening_state is_due is_complete core_after_event handed received released scene_of entering_next waking_next worked holding_cases outcomes_of task_after_set pair_values core_values thread_values event_values
+unfolding LegalNext Row with_round step_of turn_step_of acts touches effect after_from attempt_of candidates_of choice_of target_of opening_state is_due is_complete core_after_event handed_all received_all released scene_of entering_next waking_next worked holding_cases outcomes_of task_after_set pair_values core_values thread_values event_values
 ties_go_to_the_lowest = record { by_the_last = refl; by_the_first = refl }

@@ -8,7 +8,7 @@ use Rattle.round_model.specs.Choices.{candidates_of, choice_of, target_of}
 use Rattle.round_model.specs.Cores.{opening_state}
 use Rattle.round_model.specs.Entries.{acts, touches}
 use Rattle.round_model.specs.Legal.{LegalNext, is_complete, is_due}
-use Rattle.round_model.specs.Moves.{core_after_event, handed, received, released}
+use Rattle.round_model.specs.Moves.{core_after_event, handed_all, received_all, released}
 use Rattle.round_model.specs.Scenes.{entering_next, scene_of, waking_next}
 use Rattle.round_model.specs.Work.{worked}
 use Rattle.round_model.specs.declared.entry.Did.{Did}
@@ -21,7 +21,7 @@ one_word : (a b : Did) → Contains (a ∷ []) b → (a ≡ b → ⊥) → ⊥
 one_word a b (k, inside, is) other = let first : k ≡ 0 = omega arith in other (ap (λ j. get_or (a ∷ []) j b) (sym first) ∙ is)
 
 pub two_cores_misses : TwoCoresMisses
-unfolding LegalNext Row acts touches effect after_from attempt_of candidates_of choice_of target_of opening_state is_due is_complete core_after_event handed received released scene_of entering_next waking_next worked holding_cases outcomes_of task_after_set pair_values core_values thread_values event_values
+unfolding LegalNext Row acts touches effect after_from attempt_of candidates_of choice_of target_of opening_state is_due is_complete core_after_event handed_all received_all released scene_of entering_next waking_next worked holding_cases outcomes_of task_after_set pair_values core_values thread_values event_values
 two_cores_misses = record {
   enters_before_a_round = λ r. absurd (let begun = r.begun in omega arith);
   begins_with_round_2 = λ r. absurd (let next = r.next in omega arith);
@@ -44,7 +44,7 @@ two_cores_misses = record {
 }
 
 pub other_misses : OtherMisses
-unfolding LegalNext Row acts touches effect after_from attempt_of candidates_of choice_of target_of opening_state is_due is_complete core_after_event handed received released scene_of entering_next waking_next worked holding_cases outcomes_of task_after_set pair_values core_values thread_values event_values
+unfolding LegalNext Row acts touches effect after_from attempt_of candidates_of choice_of target_of opening_state is_due is_complete core_after_event handed_all received_all released scene_of entering_next waking_next worked holding_cases outcomes_of task_after_set pair_values core_values thread_values event_values
 other_misses = record {
   wakes_late = λ r. absurd (let woken = r.row.woken in cc);
   wakes_another = λ r. absurd (let next = r.row.next in omega arith);

@@ -10,7 +10,7 @@ use Rattle.round_model.specs.declared.state.CountAndLoad.{CountAndLoad}
 use Rattle.round_model.specs.Cores.{opening_state, thread_count}
 use Rattle.round_model.specs.Entries.{acts, touches}
 use Rattle.round_model.specs.Legal.{is_complete, is_due}
-use Rattle.round_model.specs.Moves.{core_after_event, handed, received, released}
+use Rattle.round_model.specs.Moves.{core_after_event, handed_all, received_all, released}
 use Rattle.round_model.specs.Scenes.{entering_next, scene_of, waking_next}
 use Rattle.round_model.specs.Work.{worked}
 use Rattle.round_model.specs.declared.entry.Entry.TheVariants as entry
@@ -28,7 +28,7 @@ use Rattle.model_tests.specs.Histories.{eight_threads_history, stale_read_histor
 
 -- the attempts of round 2, each after a unit of work
 attempts_of_2 : (c : ℕ) → c < 4 → Attempts eight_threads_history 2 c
-unfolding acts touches effect after_from attempt_of candidates_of choice_of target_of opening_state is_due is_complete core_after_event handed received released scene_of entering_next waking_next worked holding_cases outcomes_of task_after_set pair_values core_values thread_values event_values owed
+unfolding acts touches effect after_from attempt_of candidates_of choice_of target_of opening_state is_due is_complete core_after_event handed_all received_all released scene_of entering_next waking_next worked holding_cases outcomes_of task_after_set pair_values core_values thread_values event_values owed
 attempts_of_2 zero there = record { position = 19; attempt = slice_index_or eight_threads_history 19 (entry.Round 0); stands = refl; in_round = refl; by_core = refl; is = refl }
 attempts_of_2 (suc zero) there = record { position = 21; attempt = slice_index_or eight_threads_history 21 (entry.Round 0); stands = refl; in_round = refl; by_core = refl; is = refl }
 attempts_of_2 (suc (suc zero)) there = record { position = 23; attempt = slice_index_or eight_threads_history 23 (entry.Round 0); stands = refl; in_round = refl; by_core = refl; is = refl }
@@ -37,7 +37,7 @@ attempts_of_2 (suc (suc (suc (suc c)))) there = absurd (omega arith)
 
 -- as round 3 begins no core is idle
 count_3 : (c : ℕ) → c < 4 → 1 ≤ thread_count (after basic eight_threads (take 26 eight_threads_history) c)
-unfolding acts touches effect after_from attempt_of candidates_of choice_of target_of opening_state is_due is_complete core_after_event handed received released scene_of entering_next waking_next worked holding_cases outcomes_of task_after_set pair_values core_values thread_values event_values owed
+unfolding acts touches effect after_from attempt_of candidates_of choice_of target_of opening_state is_due is_complete core_after_event handed_all received_all released scene_of entering_next waking_next worked holding_cases outcomes_of task_after_set pair_values core_values thread_values event_values owed
 count_3 zero there = omega arith
 count_3 (suc zero) there = omega arith
 count_3 (suc (suc zero)) there = omega arith
@@ -72,14 +72,14 @@ module _ (cause : ℕ) (x : Explains basic stale_read stale_read_history 8 cause
       core_2_or_0
 
 same_before_7 : (c : ℕ) → (c ≡ 2) ⊎ (c ≡ 0) → value_read basic stale_read stale_read_history c 6 ≡ value_read basic stale_read stale_read_history c 7
-unfolding acts touches effect after_from attempt_of candidates_of choice_of target_of opening_state is_due is_complete core_after_event handed received released scene_of entering_next waking_next worked holding_cases outcomes_of task_after_set pair_values core_values thread_values event_values owed
+unfolding acts touches effect after_from attempt_of candidates_of choice_of target_of opening_state is_due is_complete core_after_event handed_all received_all released scene_of entering_next waking_next worked holding_cases outcomes_of task_after_set pair_values core_values thread_values event_values owed
 same_before_7 c which = ⊎_elim
     (λ (h : c ≡ 2). subst (λ d. value_read basic stale_read stale_read_history d 6 ≡ value_read basic stale_read stale_read_history d 7) (sym h) refl)
     (λ (h : c ≡ 0). subst (λ d. value_read basic stale_read stale_read_history d 6 ≡ value_read basic stale_read stale_read_history d 7) (sym h) refl)
     which
 
 same_before_6 : (c : ℕ) → (c ≡ 2) ⊎ (c ≡ 0) → value_read basic stale_read stale_read_history c 5 ≡ value_read basic stale_read stale_read_history c 6
-unfolding acts touches effect after_from attempt_of candidates_of choice_of target_of opening_state is_due is_complete core_after_event handed received released scene_of entering_next waking_next worked holding_cases outcomes_of task_after_set pair_values core_values thread_values event_values owed
+unfolding acts touches effect after_from attempt_of candidates_of choice_of target_of opening_state is_due is_complete core_after_event handed_all received_all released scene_of entering_next waking_next worked holding_cases outcomes_of task_after_set pair_values core_values thread_values event_values owed
 same_before_6 c which = ⊎_elim
     (λ (h : c ≡ 2). subst (λ d. value_read basic stale_read stale_read_history d 5 ≡ value_read basic stale_read stale_read_history d 6) (sym h) refl)
     (λ (h : c ≡ 0). subst (λ d. value_read basic stale_read stale_read_history d 5 ≡ value_read basic stale_read stale_read_history d 6) (sym h) refl)
@@ -100,7 +100,7 @@ only_7 cause x =
     omega arith
 
 pub eight_threads_rounds : EightThreadsRounds
-unfolding acts touches effect after_from attempt_of candidates_of choice_of target_of opening_state is_due is_complete core_after_event handed received released scene_of entering_next waking_next worked holding_cases outcomes_of task_after_set pair_values core_values thread_values event_values owed
+unfolding acts touches effect after_from attempt_of candidates_of choice_of target_of opening_state is_due is_complete core_after_event handed_all received_all released scene_of entering_next waking_next worked holding_cases outcomes_of task_after_set pair_values core_values thread_values event_values owed
 eight_threads_rounds = record {
   second_is_bad = record {
     position = 17;
@@ -119,7 +119,7 @@ eight_threads_rounds = record {
 }
 
 pub stale_read_explained : StaleReadExplained
-unfolding acts touches effect after_from attempt_of candidates_of choice_of target_of opening_state is_due is_complete core_after_event handed received released scene_of entering_next waking_next worked holding_cases outcomes_of task_after_set pair_values core_values thread_values event_values owed
+unfolding acts touches effect after_from attempt_of candidates_of choice_of target_of opening_state is_due is_complete core_after_event handed_all received_all released scene_of entering_next waking_next worked holding_cases outcomes_of task_after_set pair_values core_values thread_values event_values owed
 stale_read_explained = record {
   by_the_steal = record {
     thief = 2;
@@ -135,13 +135,13 @@ stale_read_explained = record {
   not_by_an_idle_unit = not_6;
   not_by_what_was_read = λ x. absurd (let after_it = late 3 x in omega arith);
   only = only_7;
-  no_fail_no_cause = λ x. absurd (let fails = x.fails in let same : entry.Steal 1 0 2 (5 ∷ 6 ∷ 1 ∷ []) ≡ entry.Fail x.thief x.victim x.reads = some-injective _ _ fails in cc);
+  no_fail_no_cause = λ x. absurd (let fails = x.fails in let same : entry.Steal 1 0 (2 ∷ []) (5 ∷ 6 ∷ 1 ∷ []) ≡ entry.Fail x.thief x.victim x.reads = some-injective _ _ fails in cc);
 }
 
 pub thread_phases : ThreadPhases
-unfolding acts touches effect after_from attempt_of candidates_of choice_of target_of opening_state is_due is_complete core_after_event handed received released scene_of entering_next waking_next worked holding_cases outcomes_of task_after_set pair_values core_values thread_values event_values owed
+unfolding acts touches effect after_from attempt_of candidates_of choice_of target_of opening_state is_due is_complete core_after_event handed_all received_all released scene_of entering_next waking_next worked holding_cases outcomes_of task_after_set pair_values core_values thread_values event_values owed
 thread_phases = record { phases = refl; stands = refl }
 
 pub owed_entries : OwedEntries
-unfolding acts touches effect after_from attempt_of candidates_of choice_of target_of opening_state is_due is_complete core_after_event handed received released scene_of entering_next waking_next worked holding_cases outcomes_of task_after_set pair_values core_values thread_values event_values owed
+unfolding acts touches effect after_from attempt_of candidates_of choice_of target_of opening_state is_due is_complete core_after_event handed_all received_all released scene_of entering_next waking_next worked holding_cases outcomes_of task_after_set pair_values core_values thread_values event_values owed
 owed_entries = record { at_first = refl; in_round_1 = refl; in_round_2 = refl; at_the_end = refl; one_to_wake = refl }

@@ -8,7 +8,7 @@ use Rattle.round_model.specs.Choices.{candidates_of, choice_of, target_of}
 use Rattle.round_model.specs.Cores.{opening_state}
 use Rattle.round_model.specs.Entries.{acts, touches}
 use Rattle.round_model.specs.Legal.{LegalNext, Whole, is_complete, is_due}
-use Rattle.round_model.specs.Moves.{core_after_event, handed, received, released}
+use Rattle.round_model.specs.Moves.{core_after_event, handed_all, received_all, released}
 use Rattle.round_model.specs.Scenes.{entering_next, scene_of, waking_next}
 use Rattle.round_model.specs.Work.{worked}
 use Rattle.round_model.specs.Rows.{Row}
@@ -20,7 +20,7 @@ use Rattle.fair_policy.specs.Fair.{fair_meaning as fair}
 use Rattle.model_tests.specs.Policies.{basic}
 
 one_core_steps : LegalFrom basic one_core [] one_core_history
-unfolding LegalNext Row acts touches effect after_from attempt_of candidates_of choice_of target_of opening_state is_due is_complete core_after_event handed received released scene_of entering_next waking_next worked holding_cases outcomes_of task_after_set pair_values core_values thread_values event_values
+unfolding LegalNext Row acts touches effect after_from attempt_of candidates_of choice_of target_of opening_state is_due is_complete core_after_event handed_all received_all released scene_of entering_next waking_next worked holding_cases outcomes_of task_after_set pair_values core_values thread_values event_values
 one_core_steps = (
   record { complete = refl; due = refl; next = refl },
   (
@@ -45,11 +45,11 @@ one_core_steps = (
 )
 
 one_core_whole : Whole basic one_core one_core_history
-unfolding acts touches effect after_from attempt_of candidates_of choice_of target_of opening_state is_due is_complete core_after_event handed received released scene_of entering_next waking_next worked holding_cases outcomes_of task_after_set pair_values core_values thread_values event_values
+unfolding acts touches effect after_from attempt_of candidates_of choice_of target_of opening_state is_due is_complete core_after_event handed_all received_all released scene_of entering_next waking_next worked holding_cases outcomes_of task_after_set pair_values core_values thread_values event_values
 one_core_whole = record { legal = legal_walk basic one_core one_core_history one_core_steps; complete = refl; finished = refl }
 
 two_cores_steps : LegalFrom basic two_cores [] two_cores_history
-unfolding LegalNext Row acts touches effect after_from attempt_of candidates_of choice_of target_of opening_state is_due is_complete core_after_event handed received released scene_of entering_next waking_next worked holding_cases outcomes_of task_after_set pair_values core_values thread_values event_values
+unfolding LegalNext Row acts touches effect after_from attempt_of candidates_of choice_of target_of opening_state is_due is_complete core_after_event handed_all received_all released scene_of entering_next waking_next worked holding_cases outcomes_of task_after_set pair_values core_values thread_values event_values
 two_cores_steps = (
   record { complete = refl; due = refl; next = refl },
   (
@@ -74,11 +74,11 @@ two_cores_steps = (
 )
 
 two_cores_whole : Whole basic two_cores two_cores_history
-unfolding acts touches effect after_from attempt_of candidates_of choice_of target_of opening_state is_due is_complete core_after_event handed received released scene_of entering_next waking_next worked holding_cases outcomes_of task_after_set pair_values core_values thread_values event_values
+unfolding acts touches effect after_from attempt_of candidates_of choice_of target_of opening_state is_due is_complete core_after_event handed_all received_all released scene_of entering_next waking_next worked holding_cases outcomes_of task_after_set pair_values core_values thread_values event_values
 two_cores_whole = record { legal = legal_walk basic two_cores two_cores_history two_cores_steps; complete = refl; finished = refl }
 
 stale_read_steps : LegalFrom basic stale_read [] stale_read_history
-unfolding LegalNext Row acts touches effect after_from attempt_of candidates_of choice_of target_of opening_state is_due is_complete core_after_event handed received released scene_of entering_next waking_next worked holding_cases outcomes_of task_after_set pair_values core_values thread_values event_values
+unfolding LegalNext Row acts touches effect after_from attempt_of candidates_of choice_of target_of opening_state is_due is_complete core_after_event handed_all received_all released scene_of entering_next waking_next worked holding_cases outcomes_of task_after_set pair_values core_values thread_values event_values
 stale_read_steps = (
   record { complete = refl; due = refl; next = refl },
   (
@@ -109,11 +109,11 @@ stale_read_steps = (
 )
 
 stale_read_whole : Whole basic stale_read stale_read_history
-unfolding acts touches effect after_from attempt_of candidates_of choice_of target_of opening_state is_due is_complete core_after_event handed received released scene_of entering_next waking_next worked holding_cases outcomes_of task_after_set pair_values core_values thread_values event_values
+unfolding acts touches effect after_from attempt_of candidates_of choice_of target_of opening_state is_due is_complete core_after_event handed_all received_all released scene_of entering_next waking_next worked holding_cases outcomes_of task_after_set pair_values core_values thread_values event_values
 stale_read_whole = record { legal = legal_walk basic stale_read stale_read_history stale_read_steps; complete = refl; finished = refl }
 
 block_and_wake_steps : LegalFrom fair block_and_wake [] block_and_wake_history
-unfolding LegalNext Row acts touches effect after_from attempt_of candidates_of choice_of target_of opening_state is_due is_complete core_after_event handed received released scene_of entering_next waking_next worked holding_cases outcomes_of task_after_set pair_values core_values thread_values event_values
+unfolding LegalNext Row acts touches effect after_from attempt_of candidates_of choice_of target_of opening_state is_due is_complete core_after_event handed_all received_all released scene_of entering_next waking_next worked holding_cases outcomes_of task_after_set pair_values core_values thread_values event_values
 block_and_wake_steps = (
   record { complete = refl; due = refl; next = refl },
   (
@@ -156,7 +156,7 @@ block_and_wake_steps = (
 )
 
 block_and_wake_whole : Whole fair block_and_wake block_and_wake_history
-unfolding acts touches effect after_from attempt_of candidates_of choice_of target_of opening_state is_due is_complete core_after_event handed received released scene_of entering_next waking_next worked holding_cases outcomes_of task_after_set pair_values core_values thread_values event_values
+unfolding acts touches effect after_from attempt_of candidates_of choice_of target_of opening_state is_due is_complete core_after_event handed_all received_all released scene_of entering_next waking_next worked holding_cases outcomes_of task_after_set pair_values core_values thread_values event_values
 block_and_wake_whole = record { legal = legal_walk fair block_and_wake block_and_wake_history block_and_wake_steps; complete = refl; finished = refl }
 
 pub worked_are_whole : WorkedAreWhole

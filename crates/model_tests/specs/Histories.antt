@@ -27,7 +27,7 @@ two_cores_front =
     ∷ []
 
 abbrev pub two_cores_history : List Entry
-two_cores_history = two_cores_front ++ entry.Steal 1 0 2 (5 ∷ 6 ∷ []) ∷ []
+two_cores_history = two_cores_front ++ entry.Steal 1 0 (2 ∷ []) (5 ∷ 6 ∷ []) ∷ []
 
 abbrev pub stale_read_history : List Entry
 stale_read_history =
@@ -38,7 +38,7 @@ stale_read_history =
     ∷ entry.Pass 0 (4 ∷ 1 ∷ 1 ∷ [])
     ∷ entry.Work 1 did.Nothing
     ∷ entry.Work 2 did.Nothing
-    ∷ entry.Steal 1 0 2 (5 ∷ 6 ∷ 1 ∷ [])
+    ∷ entry.Steal 1 0 (2 ∷ []) (5 ∷ 6 ∷ 1 ∷ [])
     ∷ entry.Fail 2 0 (5 ∷ 6 ∷ 7 ∷ [])
     ∷ []
 
@@ -82,20 +82,20 @@ eight_threads_history =
     ∷ entry.Work 0 (did.Kept 1)
     ∷ entry.Pass 0 (19 ∷ 18 ∷ 18 ∷ 18 ∷ [])
     ∷ entry.Work 1 did.Nothing
-    ∷ entry.Steal 1 0 2 (20 ∷ 21 ∷ 18 ∷ 18 ∷ [])
+    ∷ entry.Steal 1 0 (2 ∷ []) (20 ∷ 21 ∷ 18 ∷ 18 ∷ [])
     ∷ entry.Work 2 did.Nothing
-    ∷ entry.Steal 2 0 3 (22 ∷ 22 ∷ 23 ∷ 18 ∷ [])
+    ∷ entry.Steal 2 0 (3 ∷ []) (22 ∷ 22 ∷ 23 ∷ 18 ∷ [])
     ∷ entry.Work 3 did.Nothing
-    ∷ entry.Steal 3 0 4 (24 ∷ 22 ∷ 24 ∷ 25 ∷ [])
+    ∷ entry.Steal 3 0 (4 ∷ []) (24 ∷ 22 ∷ 24 ∷ 25 ∷ [])
     ∷ entry.Round 3
     ∷ entry.Work 0 (did.Kept 1)
     ∷ entry.Pass 0 (28 ∷ 27 ∷ 27 ∷ 27 ∷ [])
     ∷ entry.Work 1 (did.Kept 2)
-    ∷ entry.Steal 1 0 5 (29 ∷ 30 ∷ 27 ∷ 27 ∷ [])
+    ∷ entry.Steal 1 0 (5 ∷ []) (29 ∷ 30 ∷ 27 ∷ 27 ∷ [])
     ∷ entry.Work 2 (did.Kept 3)
-    ∷ entry.Steal 2 0 6 (31 ∷ 31 ∷ 32 ∷ 27 ∷ [])
+    ∷ entry.Steal 2 0 (6 ∷ []) (31 ∷ 31 ∷ 32 ∷ 27 ∷ [])
     ∷ entry.Work 3 (did.Kept 4)
-    ∷ entry.Steal 3 0 7 (33 ∷ 31 ∷ 33 ∷ 34 ∷ [])
+    ∷ entry.Steal 3 0 (7 ∷ []) (33 ∷ 31 ∷ 33 ∷ 34 ∷ [])
     ∷ entry.Round 4
     ∷ entry.Work 0 (did.Kept 1)
     ∷ entry.Pass 0 (37 ∷ 36 ∷ 36 ∷ 36 ∷ [])

@@ -63,7 +63,7 @@ nothing_begun p plan (entry.Round number ∷ es) legal roomy full = let room = r
 nothing_begun p plan (entry.Enter thread by at reads ∷ es) legal roomy full = let begun = (legal 0 (entry.Enter thread by at reads) refl).begun in absurd (omega arith)
 nothing_begun p plan (entry.Wake thread by at reads ∷ es) legal roomy full = let begun = (legal 0 (entry.Wake thread by at reads) refl).begun in absurd (omega arith)
 nothing_begun p plan (entry.Work by did ∷ es) legal roomy full = let begun = (legal 0 (entry.Work by did) refl).begun in absurd (omega arith)
-nothing_begun p plan (entry.Steal by from thread reads ∷ es) legal roomy full = let begun = (legal 0 (entry.Steal by from thread reads) refl).begun in absurd (omega arith)
+nothing_begun p plan (entry.Steal by from threads reads ∷ es) legal roomy full = let begun = (legal 0 (entry.Steal by from threads reads) refl).begun in absurd (omega arith)
 nothing_begun p plan (entry.Fail by from reads ∷ es) legal roomy full = let begun = (legal 0 (entry.Fail by from reads) refl).begun in absurd (omega arith)
 nothing_begun p plan (entry.Pass by reads ∷ es) legal roomy full = let begun = (legal 0 (entry.Pass by reads) refl).begun in absurd (omega arith)
 

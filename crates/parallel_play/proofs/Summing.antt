@@ -84,7 +84,7 @@ acts_as (entry.Round number) a c is = absurd (cc)
 acts_as (entry.Enter thread by at reads) a c is = let same : by ≡ a = cc in ap (λ k. eqb k c) same
 acts_as (entry.Wake thread by at reads) a c is = let same : by ≡ a = cc in ap (λ k. eqb k c) same
 acts_as (entry.Work by what) a c is = let same : by ≡ a = cc in ap (λ k. eqb k c) same
-acts_as (entry.Steal by from thread reads) a c is = let same : by ≡ a = cc in ap (λ k. eqb k c) same
+acts_as (entry.Steal by from threads reads) a c is = let same : by ≡ a = cc in ap (λ k. eqb k c) same
 acts_as (entry.Fail by from reads) a c is = let same : by ≡ a = cc in ap (λ k. eqb k c) same
 acts_as (entry.Pass by reads) a c is = let same : by ≡ a = cc in ap (λ k. eqb k c) same
 
@@ -93,7 +93,7 @@ actor_of (entry.Round number) not = absurd (cc)
 actor_of (entry.Enter thread by at reads) not = (by, refl)
 actor_of (entry.Wake thread by at reads) not = (by, refl)
 actor_of (entry.Work by what) not = (by, refl)
-actor_of (entry.Steal by from thread reads) not = (by, refl)
+actor_of (entry.Steal by from threads reads) not = (by, refl)
 actor_of (entry.Fail by from reads) not = (by, refl)
 actor_of (entry.Pass by reads) not = (by, refl)
 

@@ -2,3 +2,5 @@ pub mod Checks
 pub mod Lines
 pub mod Points
 pub mod Reading
+pub mod TextLines
+pub mod Verifying

@@ -1,4 +1,4 @@
-//! Checks a policy's text: the answer of `check` and of `explain`, and how each is written.
+//! Checks a policy's text: the answers of `check`, `explain` and `verify`, and how each is written.
 #![tactic(auto)]
 
 mod answer;
@@ -6,7 +6,11 @@ mod explaining;
 mod lines;
 mod points;
 mod reading;
+mod text_lines;
+mod verifying;
 
 pub use answer::{CheckAnswer, check_text};
 pub use explaining::{ExplainAnswer, Explanation, explain_text};
 pub use reading::{CheckMemory, Refusal};
+pub use text_lines::put_text;
+pub use verifying::{VerifyAnswer, verify_text};

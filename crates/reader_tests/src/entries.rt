@@ -1,10 +1,11 @@
 //! Entries by their numbers, and whether those are in their ranges.
 
 ghost use Rattle.std.specs.Prelude.{◌≤◌, All, IsTrue, length};
-ghost use Rattle.sched_history.specs.Ranges.{AreReads, IsCoreNumber, IsPrintable, IsThreadNumber, NamesThread};
+ghost use Rattle.sched_history.specs.Ranges.{AreReads, AreStolen, IsCoreNumber, IsPrintable, IsThreadNumber};
+ghost use Rattle.sched_history.specs.Ranges.{NamesThread};
 
 use round_model::{Did, Entry};
-use sched_base::{MAX_CORES, MAX_ENTRIES, MAX_ROUNDS, MAX_THREADS, Reads};
+use sched_base::{MAX_CORES, MAX_ENTRIES, MAX_ROUNDS, MAX_STOLEN, MAX_THREADS, Reads, Stolen};
 
 /// These positions.
 fn reads_at(positions: &[u32]) -> Reads
@@ -15,6 +16,17 @@ fn reads_at(positions: &[u32]) -> Reads
         reads.push(*position);
     }
     reads
+}
+
+/// These threads.
+fn stolen(numbers: &[u32]) -> Stolen
+    requires { length numbers.now ≤ MAX_STOLEN }
+{
+    let mut threads = Stolen::empty();
+    for number in numbers {
+        threads.push(*number);
+    }
+    threads
 }
 
 pub(crate) fn round(number: u32) -> Entry {
@@ -47,13 +59,14 @@ pub(crate) fn work(by: u32, did: Did) -> Entry {
     Entry::Work { by, did }
 }
 
-pub(crate) fn steal(by: u32, from: u32, thread: u32, positions: &[u32]) -> Entry
-    requires { length positions.now ≤ MAX_CORES }
+pub(crate) fn steal(by: u32, from: u32, threads: &[u32], positions: &[u32]) -> Entry
+    requires threads { length threads.now ≤ MAX_STOLEN }
+    requires positions { length positions.now ≤ MAX_CORES }
 {
     Entry::Steal {
         by,
         from,
-        thread,
+        threads: stolen(threads),
         reads: reads_at(positions),
     }
 }
@@ -110,9 +123,9 @@ fn is_printable(entry: &Entry) -> bool
         Entry::Steal {
             by,
             from,
-            thread,
+            threads,
             reads,
-        } => is_core(*by) && is_core(*from) && is_thread(*thread) && are_positions(reads),
+        } => is_core(*by) && is_core(*from) && are_stolen(threads) && are_positions(reads),
         Entry::Fail { by, from, reads } => is_core(*by) && is_core(*from) && are_positions(reads),
         Entry::Pass { by, reads } => is_core(*by) && are_positions(reads),
     }
@@ -132,6 +145,23 @@ fn is_thread(thread: u32) -> bool
     ensures { IsTrue result → IsThreadNumber thread }
 {
     1 <= thread && thread <= MAX_THREADS
+}
+
+fn are_stolen(threads: &Stolen) -> bool
+    ensures { IsTrue result → AreStolen threads.now }
+{
+    threads.len() > 0 && are_threads(threads)
+}
+
+fn are_threads(threads: &Stolen) -> bool
+    ensures { IsTrue result → All IsThreadNumber threads.now }
+{
+    for at in 0..threads.len() {
+        if !is_thread(threads.get(at)) {
+            return false;
+        }
+    }
+    true
 }
 
 fn is_core(core: u32) -> bool

@@ -53,7 +53,7 @@ fn a_stale_read(alloc: Global) -> Result<bool, AllocError> {
         pass(0, &[4, 1, 1]),
         work(1, Did::Nothing),
         work(2, Did::Nothing),
-        steal(1, 0, 2, &[5, 6, 1]),
+        steal(1, 0, &[2], &[5, 6, 1]),
         fail(2, 0, &[5, 6, 7]),
     ];
     let text =
@@ -93,7 +93,7 @@ fn two_cores_and_a_put_that_fails(alloc: Global) -> Result<bool, AllocError> {
         work(0, Did::Kept(1)),
         pass(0, &[4, 1]),
         work(1, Did::Nothing),
-        steal(1, 0, 2, &[5, 6]),
+        steal(1, 0, &[2], &[5, 6]),
     ];
     let text =
         "round 1\nenter 1 0 0 :\nenter 2 0 0 :\nwork 0 1 keep\npass 0 : 4 1\nwork 1 -\nsteal 1 0 2 : 5 6\n";
@@ -106,12 +106,15 @@ fn greatest_numbers(alloc: Global) -> Result<bool, AllocError> {
     let entries = [
         round(4096),
         enter(1023, 63, 63, &[65536; 64]),
-        steal(63, 63, 1023, &[65536; 64]),
+        steal(63, 63, &[1023; 8], &[65536; 64]),
         work(63, Did::Blocked(1023)),
     ];
     let mut text = String::from_str(alloc, "round 4096\n")?;
     push_reads(&mut text, "enter 1023 63 63 :")?;
-    push_reads(&mut text, "steal 63 63 1023 :")?;
+    push_reads(
+        &mut text,
+        "steal 63 63 1023 1023 1023 1023 1023 1023 1023 1023 :",
+    )?;
     text.push_str("work 63 1023 block\n")?;
     is_written(alloc, &entries, text.as_bytes())
 }

@@ -1,6 +1,6 @@
 -- What the outcome of an attempt says: a pass that no other core passed the filter by the values read, a fail that one
 -- did and that the same core doesn't pass now or has nothing queued, a steal that it passes now and that a thread waits there.
-use Rattle.std.proofs.Common.{◌≡◌, ◌≢◌, ℕ, ◌==◌, ◌<◌, ◌≤◌, not, ◌&&◌, Bool, true, false, cond, List, [], filter, length, option_to_list, IfSome, Option, Some, None, refl, sym, ap, ◌∙◌, subst, arith}
+use Rattle.std.proofs.Common.{◌∷◌, ◌≡◌, ◌≢◌, ℕ, ◌==◌, ◌<◌, ◌≤◌, not, ◌&&◌, Bool, true, false, cond, List, [], filter, length, option_to_list, IfSome, Option, Some, None, refl, sym, ap, ◌∙◌, subst, arith}
 use Rattle.std.specs.List.{range_with_len}
 use Rattle.std.proofs.lemmas.Bool.Decides.{nat_tests}
 use Rattle.std.proofs.lemmas.List.{length-append}
@@ -15,7 +15,7 @@ use Rattle.round_model.specs.declared.entry.Entry.TheVariants as entry
 use Rattle.round_model.specs.declared.plan.Plan.{Plan}
 use Rattle.round_model.specs.declared.state.ModelCore.{ModelCore}
 use Rattle.round_model.specs.After.{after}
-use Rattle.round_model.specs.Attempts.{attempt_of, attempt_with, present_values, steal_or_fail}
+use Rattle.round_model.specs.Attempts.{attempt_of, attempt_with, moves_with, present_values, steal_or_fail}
 use Rattle.round_model.specs.Choices.{candidates_of, choice_of, is_candidate, prefers}
 use Rattle.round_model.specs.Cores.{Cores, thread_count}
 use Rattle.round_model.specs.Legal.{LegalNext}
@@ -68,13 +68,13 @@ module _ (p : Meaning) (plan : Plan) (m : Cores) (a : ℕ) where
   abbrev pub PassesNow : ℕ → Type 0
   PassesNow v = Holds (pair_values (present_values plan m a) (present_values plan m v)) p.filter
 
-  -- a steal: that core was chosen and passes now, and this is the best thread that waits there
-  pub record StealMeans (from thread : ℕ) (chosen : Option ℕ) : Type 0 where
+  -- a steal: that core was chosen and passes now, and the best thread that waits there is moved alone
+  pub record StealMeans (from : ℕ) (threads : List ℕ) (chosen : Option ℕ) : Type 0 where
     pub choice : chosen ≡ Some from
     pub passes : PassesNow from
     pub task : Task
     pub best : best_of (before p.steal) (m from).queue ≡ Some task
-    pub named : task.id ≡ thread
+    pub alone : threads ≡ task.id ∷ []
 
   -- a fail: that core was chosen, and no thread waits there if it passes now
   pub record FailMeans (from : ℕ) (chosen : Option ℕ) : Type 0 where
@@ -82,26 +82,27 @@ module _ (p : Meaning) (plan : Plan) (m : Cores) (a : ℕ) where
     pub nothing : PassesNow from → (m from).queue ≡ []
 
   module _ (reads : List ℕ) where
-    -- what a test of the filter and the best thread say of the attempt on a core
-    steal_by : (from thread v : ℕ) (test : Bool) (found : Option Task) → holds (pair_values (present_values plan m a) (present_values plan m v)) p.filter ≡ test
-        → best_of (before p.steal) (m v).queue ≡ found → entry.Steal a from thread reads ≡ cond test (steal_or_fail a v reads found) (entry.Fail a v reads)
-        → StealMeans from thread (Some v)
-    steal_by from thread v true None passes best is = absurd (cc)
-    steal_by from thread v true (Some t) passes best is =
+    -- the attempt on a core whose filter test and best thread are these
+    abbrev attempt_by : ℕ → Bool → Option Task → Entry
+    attempt_by v test found = steal_or_fail a v reads (moves_with (cond test found None) (λ t. t.id ∷ []))
+
+    steal_by : (from : ℕ) (threads : List ℕ) (v : ℕ) (test : Bool) (found : Option Task) → holds (pair_values (present_values plan m a) (present_values plan m v)) p.filter ≡ test
+        → best_of (before p.steal) (m v).queue ≡ found → entry.Steal a from threads reads ≡ attempt_by v test found → StealMeans from threads (Some v)
+    steal_by from threads v true None passes best is = absurd (cc)
+    steal_by from threads v true (Some t) passes best is =
         let same : v ≡ from = cc in
-        let named : t.id ≡ thread = cc in
+        let alone : threads ≡ t.id ∷ [] = cc in
         record {
           choice = ap (λ c. Some c) same;
           passes = subst PassesNow same passes;
           task = t;
           best = subst (λ c. best_of (before p.steal) (m c).queue ≡ Some t) same best;
-          named = named;
+          alone = alone;
         }
-    steal_by from thread v false found passes best is = absurd (cc)
+    steal_by from threads v false found passes best is = absurd (cc)
 
     fail_by : (from v : ℕ) (test : Bool) (found : Option Task) → holds (pair_values (present_values plan m a) (present_values plan m v)) p.filter ≡ test
-        → best_of (before p.steal) (m v).queue ≡ found → entry.Fail a from reads ≡ cond test (steal_or_fail a v reads found) (entry.Fail a v reads)
-        → FailMeans from (Some v)
+        → best_of (before p.steal) (m v).queue ≡ found → entry.Fail a from reads ≡ attempt_by v test found → FailMeans from (Some v)
     fail_by from v true None passes best is =
         let same : v ≡ from = cc in
         record { choice = ap (λ c. Some c) same; nothing = λ now. subst (λ c. (m c).queue ≡ []) same (best_missing (before p.steal) (m v).queue best) }
@@ -110,15 +111,15 @@ module _ (p : Meaning) (plan : Plan) (m : Cores) (a : ℕ) where
         let same : v ≡ from = cc in
         record { choice = ap (λ c. Some c) same; nothing = λ now. let test = subst PassesNow (sym same) now in absurd (cc) }
 
-    pass_by : (v : ℕ) (test : Bool) (found : Option Task) → entry.Pass a reads ≡ cond test (steal_or_fail a v reads found) (entry.Fail a v reads) → ⊥
+    pass_by : (v : ℕ) (test : Bool) (found : Option Task) → entry.Pass a reads ≡ attempt_by v test found → ⊥
     pass_by v true None is = cc
     pass_by v true (Some t) is = cc
     pass_by v false found is = cc
 
-    steal_means : (from thread : ℕ) (chosen : Option ℕ) → entry.Steal a from thread reads ≡ attempt_with p plan m a reads chosen → StealMeans from thread chosen
-    steal_means from thread None is = absurd (cc)
-    steal_means from thread (Some v) is =
-        steal_by from thread v (holds (pair_values (present_values plan m a) (present_values plan m v)) p.filter) (best_of (before p.steal) (m v).queue) refl refl is
+    steal_means : (from : ℕ) (threads : List ℕ) (chosen : Option ℕ) → entry.Steal a from threads reads ≡ attempt_with p plan m a reads chosen → StealMeans from threads chosen
+    steal_means from threads None is = absurd (cc)
+    steal_means from threads (Some v) is =
+        steal_by from threads v (holds (pair_values (present_values plan m a) (present_values plan m v)) p.filter) (best_of (before p.steal) (m v).queue) refl refl is
 
     fail_means : (from : ℕ) (chosen : Option ℕ) → entry.Fail a from reads ≡ attempt_with p plan m a reads chosen → FailMeans from chosen
     fail_means from None is = absurd (cc)
@@ -159,10 +160,10 @@ module _ (p : Meaning) (plan : Plan) (h : List Entry) where
       no_choice p plan.cores (values_at p plan h reads) by v (pass_means p plan (after p plan h) by reads (choice_by by reads) legal.row.outcome) candidate
 
   -- what a legal steal says of choice and queue
-  pub legal_steal : (by from thread : ℕ) (reads : List ℕ) → LegalNext p plan h (entry.Steal by from thread reads)
-      → StealMeans p plan (after p plan h) by from thread (choice_by by reads)
+  pub legal_steal : (by from : ℕ) (threads reads : List ℕ) → LegalNext p plan h (entry.Steal by from threads reads)
+      → StealMeans p plan (after p plan h) by from threads (choice_by by reads)
   unfolding LegalNext Row scene_of attempt_of
-  legal_steal by from thread reads legal = steal_means p plan (after p plan h) by reads from thread (choice_by by reads) legal.row.outcome
+  legal_steal by from threads reads legal = steal_means p plan (after p plan h) by reads from threads (choice_by by reads) legal.row.outcome
 
 -- where two threads or more are, one waits
 pub some_wait : (core : ModelCore) → 2 ≤ thread_count core → core.queue ≡ [] → ⊥

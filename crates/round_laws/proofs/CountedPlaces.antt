@@ -1,6 +1,6 @@
 -- How often the thread of a number is current or queued at a core, and how often it is blocked there, after another thread
 -- came to that core or left it: exactly.
-use Rattle.std.proofs.Common.{◌≡◌, ℕ, ◌+◌, eqb, Bool, fold, count_by, option_to_list, Some, refl, sym, ap, subst, arith}
+use Rattle.std.proofs.Common.{◌≡◌, ℕ, ◌+◌, eqb, Bool, List, fold, count_by, option_to_list, Some, refl, sym, ap, subst, arith}
 use Rattle.std.specs.List.{AllByRecursion}
 use Rattle.std.proofs.lemmas.List.Sums.{sum_by-append, sum_by_push}
 use Rattle.sched_base.specs.declared.task.Task.{Task}
@@ -18,10 +18,11 @@ use Rattle.round_model.specs.declared.state.Blocked.{Blocked}
 use Rattle.round_model.specs.declared.state.ModelCore.{ModelCore}
 use Rattle.round_model.specs.Cores.{tasks_of}
 use Rattle.round_model.specs.Code.Kept.{Holds}
-use Rattle.round_model.specs.Moves.{admitted, blocked_of, core_after_event, handed, is_blocked_task, is_task, queued_of, received, released, with_outcome, with_task}
+use Rattle.round_model.specs.Moves.{admitted, blocked_of, core_after_event, handed_all, is_blocked_task, is_task, received_all, released, taken_from, with_outcome, with_task}
 use Rattle.round_model.proofs.BegunBounds.{counted}
 use Rattle.round_model.proofs.Counting.{count_without}
 use Rattle.round_model.proofs.Standing.{one_outcome}
+use Rattle.round_model.proofs.Takings.{sum-taken}
 use Rattle.round_model.proofs.Waking.{allowed_outcomes}
 use Rattle.round_laws.proofs.ThreadChanges.{one_of}
 
@@ -50,20 +51,24 @@ module _ (id : ℕ) where
     blocked = refl;
   }
 
-  -- a thread that was stolen
-  pub received_comes : (t : Task) (core : ModelCore) → Comes (one_of id t.id) core (received t core)
-  unfolding received
-  received_comes t core = queued_comes 0 t core
+  -- threads that were stolen come to the queue
+  pub received_comes : (tasks : List Task) (core : ModelCore) → Comes (count_by (is_task id) tasks) core (received_all tasks core)
+  unfolding received_all
+  received_comes tasks core = record {
+    places = omega (arith, places_are id core, places_are id (received_all tasks core), sum_by-append (λ (x : Task). counted (is_task id x)) core.queue tasks);
+    blocked = refl;
+  }
 
-  -- a thread leaves the queue, and no blocked one leaves
-  pub handed_places : (thread : ℕ) (t : Task) (core : ModelCore) → queued_of thread core ≡ Some t → places_at id (handed thread core) + one_of id t.id ≡ places_at id core
-  unfolding handed
-  handed_places thread t core found =
-      omega (arith, places_are id core, places_are id (handed thread core), count_without (is_task id) (is_task thread) core.queue t found)
+  -- they leave the other queue, and no blocked one leaves
+  pub handed_places : (threads : List ℕ) (core : ModelCore)
+      → places_at id (handed_all threads core) + count_by (is_task id) (taken_from threads core.queue).found ≡ places_at id core
+  unfolding handed_all
+  handed_places threads core =
+      omega (arith, places_are id core, places_are id (handed_all threads core), sum-taken (λ (x : Task). counted (is_task id x)) threads core.queue)
 
-  pub handed_blocked : (thread : ℕ) (core : ModelCore) → blocked_at id (handed thread core) ≡ blocked_at id core
-  unfolding handed
-  handed_blocked thread core = refl
+  pub handed_blocked : (threads : List ℕ) (core : ModelCore) → blocked_at id (handed_all threads core) ≡ blocked_at id core
+  unfolding handed_all
+  handed_blocked threads core = refl
 
   -- a blocked thread leaves, and no other
   pub released_blocked : (thread : ℕ) (b : Blocked) (core : ModelCore) → blocked_of thread core ≡ Some b

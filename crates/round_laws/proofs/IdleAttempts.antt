@@ -84,7 +84,7 @@ module _ (p : Meaning) (plan : Plan) (h : List Entry) (k : ℕ) (inside : k < le
     is_one (entry.Enter thread by at reads) next by_core attempt = absurd (cc)
     is_one (entry.Wake thread by at reads) next by_core attempt = absurd (cc)
     is_one (entry.Work by what) next by_core attempt = absurd (cc)
-    is_one (entry.Steal by from thread reads) next by_core attempt = refl
+    is_one (entry.Steal by from threads reads) next by_core attempt = refl
     is_one (entry.Fail by from reads) next by_core attempt =
         let is : by ≡ a = grind (arith, nat_tests) in absurd (no_fail from reads (subst (λ c. LegalNext p plan (take k h) (entry.Fail c from reads)) is next))
     is_one (entry.Pass by reads) next by_core attempt =

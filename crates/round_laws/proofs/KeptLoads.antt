@@ -150,7 +150,7 @@ module _ (p : Meaning) (plan : Plan) (fits : Fits p plan) (handlers : MeetsHandl
       ap (amount counts) (sym (moved_work p plan (round_of h) m by what c))
       ∙ stays_after (λ core. amount counts core ≡ amount counts (m c)) m by c (core_after_work p plan (round_of h) (m by)) refl
       (λ is. same ∙ ap (λ k. amount counts (m k)) is)
-  entry_keeps (entry.Steal by from thread reads) legal other calm c counts = absurd (cc)
+  entry_keeps (entry.Steal by from threads reads) legal other calm c counts = absurd (cc)
   entry_keeps (entry.Fail by from reads) legal other calm c counts = ap (amount counts) (sym (unmoved_fail p plan (round_of h) (after p plan h) by from reads c))
   entry_keeps (entry.Pass by reads) legal other calm c counts = ap (amount counts) (sym (unmoved_pass p plan (round_of h) (after p plan h) by reads c))
 

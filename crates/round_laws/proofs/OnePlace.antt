@@ -125,8 +125,8 @@ module _ (p : Meaning) (plan : Plan) (fits : Fits p plan) (handlers : MeetsHandl
     legal_change (entry.Wake thread by at reads) legal there =
         woken_change thread by at reads (find (is_due_blocked (round_of h)) (after p plan h by).blocked) refl legal.row.next there.0 there.1
     legal_change (entry.Work by what) legal there = work_sums id p plan fits handlers (round_of h) (after p plan h) all_hold by what there legal.row.outcome
-    legal_change (entry.Steal by from thread reads) legal there =
-        steal_sums id p plan fits handlers (round_of h) (after p plan h) all_hold by from thread reads there.0 there.1 (queued_of thread (after p plan h from)) refl
+    legal_change (entry.Steal by from threads reads) legal there =
+        steal_sums id p plan fits handlers (round_of h) (after p plan h) all_hold by from threads reads there.0 there.1.0 there.1.1
     legal_change (entry.Fail by from reads) legal there =
         let m = after p plan h in
         same_cores id p plan fits handlers (round_of h) m all_hold (moved p plan (round_of h) (entry.Fail by from reads) m) (unmoved_fail p plan (round_of h) m by from reads)

@@ -9,7 +9,7 @@ use Rattle.round_model.specs.Fits.{Fits}
 use Rattle.round_model.specs.Legal.{Legal}
 use Rattle.round_model.specs.Rounds.{BeginsAt, IsStill, round_at}
 use Rattle.round_model.specs.StillRounds.{StealsIn, spread_at}
-use Rattle.round_laws.proofs.StealsNarrow.{steals_narrow}
+use Rattle.round_laws.proofs.StealsNarrow.{steals_narrow_two}
 use Rattle.round_laws.proofs.Stretches.{never_wider}
 use Rattle.round_laws.proofs.RoundNumbers.{behind_round, round_behind}
 use Rattle.round_laws.proofs.StealsKeepBalance.{steal_opens_none}
@@ -41,7 +41,7 @@ module _ (p : Meaning) (plan : Plan) (h : List Entry) (fits : Fits p plan) (meet
       let in_round = found.in_round in
       let later = behind_round p plan h legal start s (omega arith) in
       let same = round_behind h s found.steal found.stands ∙ steal_opens_none (round_at h s) found.steal found.is in
-      let less = steals_narrow p plan h fits meets legal s found.steal found.stands found.is in
+      let less = steals_narrow_two p plan h fits meets legal s found.steal found.stands found.is in
       let wide = never_wider p plan h fits meets legal first last opening still begins start s behind (omega arith) (omega arith) in
       let rest = paid_from rounds (suc s) (omega arith) (omega arith) (λ some_left. let rises = increasing 0 (omega arith) in omega arith) (increasing_rest n rounds increasing) (λ k there. each (suc k) (omega arith)) in
       let reached = rest.behind in

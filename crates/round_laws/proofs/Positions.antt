@@ -55,7 +55,7 @@ round_kept (entry.Round number) round not = absurd (cc)
 round_kept (entry.Enter thread by at reads) round not = refl
 round_kept (entry.Wake thread by at reads) round not = refl
 round_kept (entry.Work by what) round not = refl
-round_kept (entry.Steal by from thread reads) round not = refl
+round_kept (entry.Steal by from threads reads) round not = refl
 round_kept (entry.Fail by from reads) round not = refl
 round_kept (entry.Pass by reads) round not = refl
 

@@ -73,7 +73,7 @@ module _ (p : Meaning) (plan : Plan) (h : List Entry) (legal : Legal p plan h) w
       by_kind (entry.Enter thread by at reads) is = stays (entry.Enter thread by at reads) refl (round_behind h k (entry.Enter thread by at reads) is) is
       by_kind (entry.Wake thread by at reads) is = stays (entry.Wake thread by at reads) refl (round_behind h k (entry.Wake thread by at reads) is) is
       by_kind (entry.Work by what) is = stays (entry.Work by what) refl (round_behind h k (entry.Work by what) is) is
-      by_kind (entry.Steal by from thread reads) is = stays (entry.Steal by from thread reads) refl (round_behind h k (entry.Steal by from thread reads) is) is
+      by_kind (entry.Steal by from threads reads) is = stays (entry.Steal by from threads reads) refl (round_behind h k (entry.Steal by from threads reads) is) is
       by_kind (entry.Fail by from reads) is = stays (entry.Fail by from reads) refl (round_behind h k (entry.Fail by from reads) is) is
       by_kind (entry.Pass by reads) is = stays (entry.Pass by reads) refl (round_behind h k (entry.Pass by reads) is) is
 

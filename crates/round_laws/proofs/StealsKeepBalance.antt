@@ -6,7 +6,6 @@ use lib.ListN.{get_elem?}
 use Rattle.policy_tree.specs.Meaning.{Meaning}
 use Rattle.policy_eval.specs.Obligations.{MeetsObligations}
 use Rattle.round_model.specs.declared.entry.Entry.{Entry}
-use Rattle.round_model.specs.declared.entry.Entry.TheVariants as entry
 use Rattle.round_model.specs.declared.plan.Plan.{Plan}
 use Rattle.round_model.specs.declared.state.CountAndLoad.{CountAndLoad}
 use Rattle.round_model.specs.After.{after, round_after}
@@ -16,7 +15,7 @@ use Rattle.round_model.specs.Kinds.{is_steal}
 use Rattle.round_model.specs.Legal.{Legal}
 use Rattle.round_model.specs.Spread.{Beside}
 use Rattle.round_model.specs.StillRounds.{BesideAt}
-use Rattle.round_laws.proofs.Thefts.{IsLegalSteal, steal_at}
+use Rattle.round_laws.proofs.Thefts.{IsLegalSteal, steal_at, steal_cases}
 
 -- an idle core beside an overloaded one was so before the steal, beside the victim
 beside_before : (p : Meaning) (plan : Plan) (by from thread : ℕ) (m w : Cores) → IsLegalSteal p plan by from thread m w → Beside plan w → Beside plan m
@@ -35,24 +34,15 @@ beside_before p plan by from thread m w steal beside =
       is_overloaded = two;
     }
 
--- what holds of each Steal holds of each entry that is one
-steal_cases : (P : Entry → Type 0) → ((by from thread : ℕ) (reads : List ℕ) → P (entry.Steal by from thread reads)) → (e : Entry) → IsTrue (is_steal e) → P e
-steal_cases P each (entry.Round number) steal = absurd (cc)
-steal_cases P each (entry.Enter thread by at reads) steal = absurd (cc)
-steal_cases P each (entry.Wake thread by at reads) steal = absurd (cc)
-steal_cases P each (entry.Work by what) steal = absurd (cc)
-steal_cases P each (entry.Steal by from thread reads) steal = each by from thread reads
-steal_cases P each (entry.Fail by from reads) steal = absurd (cc)
-steal_cases P each (entry.Pass by reads) steal = absurd (cc)
-
 -- a steal is no Round, and opens none
 pub steal_opens_none : (round : ℕ) (e : Entry) → IsTrue (is_steal e) → round_after round e ≡ round
-steal_opens_none round e steal = steal_cases (λ x. round_after round x ≡ round) (λ by from thread reads. refl) e steal
+steal_opens_none round e steal = steal_cases (λ x. round_after round x ≡ round) (λ by from threads reads. refl) e steal
 
 -- a steal of a legal history brings no idle core beside an overloaded one
 pub beside_before_steal : (p : Meaning) (plan : Plan) (h : List Entry) → Fits p plan → MeetsObligations p → Legal p plan h → (k : ℕ) (e : Entry) → get_elem? h k ≡ some e → IsTrue (is_steal e)
     → BesideAt p plan h (suc k) → BesideAt p plan h k
 beside_before_steal p plan h fits meets legal k e is steal beside =
     steal_cases (λ x. get_elem? h k ≡ some x → BesideAt p plan h k)
-    (λ by from thread reads here. beside_before p plan by from thread (after p plan (take k h)) (after p plan (take (suc k) h)) (steal_at p plan h fits meets legal k by from thread reads here) beside)
+    (λ by from threads reads here. let one = steal_at p plan h fits meets legal k by from threads reads here in
+    beside_before p plan by from one.0 (after p plan (take k h)) (after p plan (take (suc k) h)) one.2 beside)
     e steal is

@@ -17,7 +17,7 @@ use Rattle.round_model.specs.Reads.{value_read}
 use Rattle.round_model.specs.Rounds.{BeginsAt, IsStill, disturbs, round_at}
 use Rattle.round_model.specs.StillRounds.{BesideAt, spread_at}
 use Rattle.round_laws.proofs.KeptLoads.{keeps_loads}
-use Rattle.round_laws.proofs.StealsNarrow.{steals_narrow}
+use Rattle.round_laws.proofs.StealsNarrow.{steals_narrow_two}
 use Rattle.round_laws.proofs.Apart.{beside_same, spread_same}
 use Rattle.round_laws.proofs.RoundNumbers.{EntryAt, entry_at, opened, past_end, round_rises, which_entry}
 use Rattle.round_laws.proofs.StealsKeepBalance.{beside_before_steal}
@@ -51,7 +51,7 @@ module _ (p : Meaning) (plan : Plan) (h : List Entry) (fits : Fits p plan) (meet
 
   narrower : (k : ℕ) → Step p plan h k → spread_at p plan h (suc k) ≤ spread_at p plan h k
   narrower k (keeps_all same) = let equal : spread_at p plan h (suc k) ≡ spread_at p plan h k = spread_same plan (after p plan (take (suc k) h)) (after p plan (take k h)) same in omega arith
-  narrower k (steals e is steal) = let less = steals_narrow p plan h fits meets legal k e is steal in omega arith
+  narrower k (steals e is steal) = let less = steals_narrow_two p plan h fits meets legal k e is steal in omega arith
 
   -- the spread never rises
   pub never_wider : (k j : ℕ) → opening ≤ k → k ≤ j → round_at h j ≤ last → spread_at p plan h j ≤ spread_at p plan h k

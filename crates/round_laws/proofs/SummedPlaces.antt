@@ -1,5 +1,5 @@
 -- How often the thread of a number stands at the cores of a plan, and how often it is blocked there, after an entry: exactly.
-use Rattle.std.proofs.Common.{◌≡◌, ℕ, ◌+◌, ◌<◌, true, false, List, [], ◌∷◌, IfSome, Option, Some, None, sym, ap, subst, arith}
+use Rattle.std.proofs.Common.{◌≡◌, ◌≢◌, ℕ, ◌+◌, ◌<◌, true, false, List, [], ◌∷◌, count_by, IfSome, Option, Some, None, sym, ap, ◌∙◌, subst, arith}
 use Rattle.std.proofs.lemmas.Bool.Decides.{nat_tests}
 use Rattle.sched_base.specs.declared.task.Task.{Task}
 use Rattle.policy_tree.specs.Meaning.{Meaning}
@@ -15,23 +15,19 @@ use Rattle.round_model.specs.After.{moved}
 use Rattle.round_model.specs.Cores.{Cores}
 use Rattle.round_model.specs.Fits.{Fits}
 use Rattle.round_model.specs.Code.Kept.{Holds}
-use Rattle.round_model.specs.Moves.{admitted, blocked_of, handed, is_blocked_task, is_task, queued_of, received, released}
+use Rattle.round_model.specs.Moves.{admitted, blocked_of, handed_all, is_blocked_task, is_task, received_all, released, taken_from}
 use Rattle.round_model.specs.Programs.{entering_task, planned_of}
 use Rattle.round_model.specs.Code.Updates.{updated}
 use Rattle.round_model.specs.Work.{IsOutcomeOfWork, core_after_work}
 use Rattle.round_model.proofs.Directories.{is_thread}
-use Rattle.round_model.proofs.Finding.{find-All, find-append, find-passes}
+use Rattle.round_model.proofs.Finding.{find-All, find-passes}
 use Rattle.round_model.proofs.Gaining.{blocked_still}
-use Rattle.round_model.proofs.Keeping.{entering_fits, stays_after}
-use Rattle.round_model.proofs.Moved.{moved_enter, moved_no_steal, moved_steal, moved_wake, moved_work}
+use Rattle.round_model.proofs.Keeping.{entering_fits, stays_after, updated_other}
+use Rattle.round_model.proofs.Moved.{moved_enter, moved_steal, moved_wake, moved_work}
 use Rattle.round_model.proofs.Totals.{total, total_has, total_same, total_updated}
 use Rattle.round_laws.proofs.ThreadChanges.{AsSaid, HasWoken, IsSame, one_of, said_of_sums}
 use Rattle.round_laws.proofs.CountedPlaces.{admitted_comes, blocked_at, handed_blocked, handed_places, places_at, received_comes, released_blocked, released_places}
 use Rattle.round_laws.proofs.WorkedPlaces.{work_said}
-
-queued_still : (id : ℕ) (t x : Task) (core : ModelCore) → queued_of id core ≡ Some x → queued_of id (received t core) ≡ Some x
-unfolding received
-queued_still id t x core is = find-append (is_task id) core.queue (t ∷ []) x is
 
 blocked_fits : (p : Meaning) (id : ℕ) (b : Blocked) (core : ModelCore) → Holds p core → blocked_of id core ≡ Some b → IsTask p b.task
 blocked_fits p id b core holds is =
@@ -118,28 +114,27 @@ module _ (id : ℕ) (p : Meaning) (plan : Plan) (fits : Fits p plan) (handlers :
         );
       }
 
-  -- a steal moves a thread from core to core, or nothing
-  pub steal_sums : (by from thread : ℕ) (reads : List ℕ) → by < plan.cores → from < plan.cores → (found : Option Task) → queued_of thread (m from) ≡ found
-      → let k = moved p plan round (entry.Steal by from thread reads) m in IsSame (places m) (blocked m) (places k) (blocked k)
-  steal_sums by from thread reads own there None is = same_cores (moved p plan round (entry.Steal by from thread reads) m) (moved_no_steal p plan round m by from thread reads is)
-  steal_sums by from thread reads own there (Some t) is =
-      let x = received t (m by) in
-      let mid = updated m by x from in
-      let y = handed thread mid in
-      let comes = received_comes id t (m by) in
-      let still : queued_of thread mid ≡ Some t =
-      stays_after (λ core. queued_of thread core ≡ Some t) m by from x is (λ same. queued_still thread t t (m by) (subst (λ k. queued_of thread (m k) ≡ Some t) (sym same) is)) in
-      let k = moved p plan round (entry.Steal by from thread reads) m in
-      let alike = moved_steal p plan round m by from thread reads t is in
+  -- a steal moves threads from core to core
+  pub steal_sums : (by from : ℕ) (threads reads : List ℕ) → by < plan.cores → from < plan.cores → by ≢ from
+      → let k = moved p plan round (entry.Steal by from threads reads) m in IsSame (places m) (blocked m) (places k) (blocked k)
+  steal_sums by from threads reads own there apart =
+      let found = (taken_from threads (m from).queue).found in
+      let one = count_by (is_task id) found in
+      let x = received_all found (m by) in
+      let y = handed_all threads (m from) in
+      let comes = received_comes id found (m by) in
+      let mid : updated m by x from ≡ m from = updated_other m by from x apart in
+      let k = moved p plan round (entry.Steal by from threads reads) m in
+      let alike = moved_steal p plan round m by from threads reads apart in
       record {
         places = omega (
           arith,
-          sum_moved (places_at id) plan.cores m by from x y (one_of id t.id) (one_of id t.id) own there comes.places (handed_places id thread t mid still),
+          sum_moved (places_at id) plan.cores m by from x y one one own there comes.places (handed_places id threads (m from) ∙ ap (places_at id) (sym mid)),
           total_same (places_at id) plan.cores (updated (updated m by x) from y) k (λ c inside. alike c),
         );
         blocked = omega (
           arith,
-          sum_moved (blocked_at id) plan.cores m by from x y 0 0 own there (omega (arith, comes.blocked)) (omega (arith, handed_blocked id thread mid)),
+          sum_moved (blocked_at id) plan.cores m by from x y 0 0 own there (omega (arith, comes.blocked)) (omega (arith, handed_blocked id threads (m from), ap (blocked_at id) mid)),
           total_same (blocked_at id) plan.cores (updated (updated m by x) from y) k (λ c inside. alike c),
         );
       }

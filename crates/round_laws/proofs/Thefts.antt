@@ -1,5 +1,5 @@
 -- A legal steal takes a thread of an overloaded core to another one, whose load stays below what the victim had.
-use Rattle.std.proofs.Common.{◌≡◌, ◌≢◌, ℕ, suc, ◌+◌, ◌*◌, ◌<◌, ◌≤◌, eqb, true, false, cond, List, [], ◌∷◌, length, option_to_list, take, sum_by, All, IfSome, Option, Some, None, refl, sym, ap, ◌∙◌, subst, arith}
+use Rattle.std.proofs.Common.{◌≡◌, ◌≢◌, ℕ, suc, ◌+◌, ◌*◌, ◌<◌, ◌≤◌, eqb, true, false, cond, List, [], ◌∷◌, length, option_to_list, take, sum_by, All, IfSome, IsTrue, Option, Some, None, refl, sym, ap, ◌∙◌, subst, arith}
 use Rattle.std.proofs.lemmas.Bool.Decides.{nat_tests}
 use Rattle.std.proofs.lemmas.List.{length-append}
 use Rattle.std.proofs.lemmas.List.Sums.{sum_by-cons}
@@ -20,6 +20,7 @@ use Rattle.round_model.specs.After.{after, moved, round_of}
 use Rattle.round_model.specs.Attempts.{present_values}
 use Rattle.round_model.specs.Cores.{Cores, load_of, seen_of, thread_count}
 use Rattle.round_model.specs.Fits.{Fits}
+use Rattle.round_model.specs.Kinds.{is_steal}
 use Rattle.round_model.specs.Code.Kept.{Holds}
 use Rattle.round_model.specs.Legal.{Legal, LegalNext}
 use Rattle.round_model.specs.Moves.{handed, is_task, queued_of, received}
@@ -28,8 +29,8 @@ use Rattle.round_model.specs.Code.Updates.{updated}
 use Rattle.round_model.specs.Work.{before}
 use Rattle.round_model.proofs.Bounded.{bounds_law, stays}
 use Rattle.round_model.proofs.Grows.{legal_prefix}
-use Rattle.round_model.proofs.Keeping.{holds_handed, queued_fits}
-use Rattle.round_model.proofs.Moved.{moved_steal}
+use Rattle.round_model.proofs.Keeping.{holds_handed, queued_fits, updated_other}
+use Rattle.round_model.proofs.Takings.{moved_one}
 use Rattle.round_model.proofs.There.{acts_there}
 use Rattle.round_laws.proofs.Amounts.{amount_handed, amount_is, amount_received, count_is, weighed}
 use Rattle.round_laws.proofs.Bests.{best_among, found_before}
@@ -85,46 +86,40 @@ core_weighs p core holds =
 updated_here : (m : Cores) (at : ℕ) (x : ModelCore) → updated m at x at ≡ x
 updated_here m at x = let same : eqb at at ≡ true = grind (arith, nat_tests) in ap (λ b. cond b x (m at)) same
 
-updated_other : (m : Cores) (at c : ℕ) (x : ModelCore) → at ≢ c → updated m at x c ≡ m c
-updated_other m at c x apart = let other : eqb at c ≡ false = grind (arith, nat_tests) in ap (λ b. cond b x (m c)) other
-
 -- the cores after a steal of a thread that waits
 module _ (p : Meaning) (plan : Plan) (round : ℕ) (m : Cores) (by from thread : ℕ) (reads : List ℕ) (t : Task) (is : queued_of thread (m from) ≡ Some t) (apart : by ≢ from) where
   abbrev pub cores_after : Cores
-  cores_after = moved p plan round (entry.Steal by from thread reads) m
+  cores_after = moved p plan round (entry.Steal by from (thread ∷ []) reads) m
 
-  as_steps : (c : ℕ) → updated (updated m by (received t (m by))) from (handed thread (updated m by (received t (m by)) from)) c ≡ cores_after c
-  as_steps c = moved_steal p plan round m by from thread reads t is c
+  as_steps : (c : ℕ) → updated (updated m by (received t (m by))) from (handed thread (m from)) c ≡ cores_after c
+  as_steps c = moved_one p plan round m by from thread reads t is apart c
 
   victim_left : cores_after from ≡ handed thread (m from)
-  victim_left =
-      let x = received t (m by) in
-      sym (as_steps from) ∙ (updated_here (updated m by x) from (handed thread (updated m by x from)) ∙ ap (handed thread) (updated_other m by from x apart))
+  victim_left = sym (as_steps from) ∙ updated_here (updated m by (received t (m by))) from (handed thread (m from))
 
   thief_left : cores_after by ≡ received t (m by)
   thief_left =
       let x = received t (m by) in
-      sym (as_steps by) ∙ (updated_other (updated m by x) from by (handed thread (updated m by x from)) (λ same. apart (sym same)) ∙ updated_here m by x)
+      sym (as_steps by) ∙ (updated_other (updated m by x) from by (handed thread (m from)) (λ same. apart (sym same)) ∙ updated_here m by x)
 
   others_left : (c : ℕ) → c ≢ by → c ≢ from → cores_after c ≡ m c
   others_left c first second =
       let x = received t (m by) in
-      sym (as_steps c) ∙ (updated_other (updated m by x) from c (handed thread (updated m by x from)) (λ same. second (sym same)) ∙ updated_other m by c x (λ same. first (sym same)))
+      sym (as_steps c) ∙ (updated_other (updated m by x) from c (handed thread (m from)) (λ same. second (sym same)) ∙ updated_other m by c x (λ same. first (sym same)))
 
 module _ (p : Meaning) (plan : Plan) (fits : Fits p plan) (obligations : MeetsObligations p) (h : List Entry) (so_far : Legal p plan h) where
-  -- a legal steal: the best thread of the victim's queue has that number, so one of that number is found there
-  pub steal_is : (by from thread : ℕ) (reads : List ℕ) → LegalNext p plan h (entry.Steal by from thread reads)
-      → IsLegalSteal p plan by from thread (after p plan h) (moved p plan (round_of h) (entry.Steal by from thread reads) (after p plan h))
-  steal_is by from thread reads legal =
+  one_is : (by from thread : ℕ) (reads : List ℕ) → LegalNext p plan h (entry.Steal by from (thread ∷ []) reads)
+      → IsLegalSteal p plan by from thread (after p plan h) (moved p plan (round_of h) (entry.Steal by from (thread ∷ []) reads) (after p plan h))
+  one_is by from thread reads legal =
       let m = after p plan h in
-      let e = entry.Steal by from thread reads in
+      let e = entry.Steal by from (thread ∷ []) reads in
       let handlers = handler_obligations p obligations in
       let balance = balance_obligations p obligations in
-      let means = legal_steal p plan h by from thread reads legal in
+      let means = legal_steal p plan h by from (thread ∷ []) reads legal in
       let candidate = choice_is p plan.cores (values_at p plan h reads) by from means.choice in
       let there = acts_there p plan h e by refl legal in
       let best = means.task in
-      let names : is_task thread best ≡ true = let id = means.named in grind (arith, nat_tests) in
+      let names : is_task thread best ≡ true = let id : means.task.id ≡ thread = let alone = means.alone in cc in grind (arith, nat_tests) in
       let found = found_before (is_task thread) (m from).queue best (best_among (before p.steal) (m from).queue best means.best) names in
       let t = found.0 in
       let holds = (stays p plan fits handlers (λ id. true) h so_far).holds from candidate.there in
@@ -158,11 +153,30 @@ module _ (p : Meaning) (plan : Plan) (fits : Fits p plan) (obligations : MeetsOb
         others = λ c first second. ap seen_of (others_left p plan (round_of h) m by from thread reads t found.1 candidate.apart c first second);
       }
 
+  -- a legal steal moves one thread. The best thread of the victim's queue has its number, so one of that number is found
+  pub steal_is : (by from : ℕ) (threads reads : List ℕ) → LegalNext p plan h (entry.Steal by from threads reads)
+      → (thread : ℕ) × (threads ≡ thread ∷ []) × IsLegalSteal p plan by from thread (after p plan h) (moved p plan (round_of h) (entry.Steal by from threads reads) (after p plan h))
+  steal_is by from threads reads legal =
+      let means = legal_steal p plan h by from threads reads legal in
+      let one = subst (λ (ids : List ℕ). LegalNext p plan h (entry.Steal by from ids reads)) means.alone legal in
+      let steal = one_is by from means.task.id reads one in
+      (means.task.id, means.alone, subst (λ (ids : List ℕ). IsLegalSteal p plan by from means.task.id (after p plan h) (moved p plan (round_of h) (entry.Steal by from ids reads) (after p plan h))) (sym means.alone) steal)
+
 -- and so is each steal of a legal history
 pub steal_at : (p : Meaning) (plan : Plan) (history : List Entry) → Fits p plan → MeetsObligations p → Legal p plan history
-    → (k by from thread : ℕ) (reads : List ℕ) → get_elem? history k ≡ some (entry.Steal by from thread reads)
-    → IsLegalSteal p plan by from thread (after p plan (take k history)) (after p plan (take (suc k) history))
-steal_at p plan history fits obligations legal k by from thread reads is =
-    let e = entry.Steal by from thread reads in
-    subst (IsLegalSteal p plan by from thread (after p plan (take k history))) (sym (state_behind p plan history k e is))
-    (steal_is p plan fits obligations (take k history) (legal_prefix p plan history k legal) by from thread reads (legal k e is))
+    → (k by from : ℕ) (threads reads : List ℕ) → get_elem? history k ≡ some (entry.Steal by from threads reads)
+    → (thread : ℕ) × (threads ≡ thread ∷ []) × IsLegalSteal p plan by from thread (after p plan (take k history)) (after p plan (take (suc k) history))
+steal_at p plan history fits obligations legal k by from threads reads is =
+    let e = entry.Steal by from threads reads in
+    let steal = steal_is p plan fits obligations (take k history) (legal_prefix p plan history k legal) by from threads reads (legal k e is) in
+    (steal.0, steal.1, subst (IsLegalSteal p plan by from steal.0 (after p plan (take k history))) (sym (state_behind p plan history k e is)) steal.2)
+
+-- what holds of each Steal holds of each entry that is one
+pub steal_cases : (P : Entry → Type 0) → ((by from : ℕ) (threads reads : List ℕ) → P (entry.Steal by from threads reads)) → (e : Entry) → IsTrue (is_steal e) → P e
+steal_cases P each (entry.Round number) steal = absurd (cc)
+steal_cases P each (entry.Enter thread by at reads) steal = absurd (cc)
+steal_cases P each (entry.Wake thread by at reads) steal = absurd (cc)
+steal_cases P each (entry.Work by what) steal = absurd (cc)
+steal_cases P each (entry.Steal by from threads reads) steal = each by from threads reads
+steal_cases P each (entry.Fail by from reads) steal = absurd (cc)
+steal_cases P each (entry.Pass by reads) steal = absurd (cc)

@@ -58,7 +58,7 @@ AsMoved id (entry.Round number) old_places old_blocked places blocked = IsSame o
 AsMoved id (entry.Enter thread by at reads) old_places old_blocked places blocked = HasCome (one_of id thread) old_places old_blocked places blocked
 AsMoved id (entry.Wake thread by at reads) old_places old_blocked places blocked = HasWoken (one_of id thread) old_places old_blocked places blocked
 AsMoved id (entry.Work by what) old_places old_blocked places blocked = AsSaid id what old_places old_blocked places blocked
-AsMoved id (entry.Steal by from thread reads) old_places old_blocked places blocked = IsSame old_places old_blocked places blocked
+AsMoved id (entry.Steal by from threads reads) old_places old_blocked places blocked = IsSame old_places old_blocked places blocked
 AsMoved id (entry.Fail by from reads) old_places old_blocked places blocked = IsSame old_places old_blocked places blocked
 AsMoved id (entry.Pass by reads) old_places old_blocked places blocked = IsSame old_places old_blocked places blocked
 
@@ -132,6 +132,6 @@ module _ (old_places old_blocked places blocked : ℕ) where
   stands_moved id phase (entry.Enter thread by at reads) change stands = stands_come (eqb thread id) phase change stands
   stands_moved id phase (entry.Wake thread by at reads) change stands = stands_woken (eqb thread id) phase change stands
   stands_moved id phase (entry.Work by what) change stands = stands_said id phase what change stands
-  stands_moved id phase (entry.Steal by from thread reads) change stands = stands_same phase change.places change.blocked stands
+  stands_moved id phase (entry.Steal by from threads reads) change stands = stands_same phase change.places change.blocked stands
   stands_moved id phase (entry.Fail by from reads) change stands = stands_same phase change.places change.blocked stands
   stands_moved id phase (entry.Pass by reads) change stands = stands_same phase change.places change.blocked stands

@@ -36,7 +36,7 @@ no_round (entry.Round number) by is = absurd (cc)
 no_round (entry.Enter thread a at reads) by is = refl
 no_round (entry.Wake thread a at reads) by is = refl
 no_round (entry.Work a what) by is = refl
-no_round (entry.Steal a from thread reads) by is = refl
+no_round (entry.Steal a from threads reads) by is = refl
 no_round (entry.Fail a from reads) by is = refl
 no_round (entry.Pass a reads) by is = refl
 
@@ -45,7 +45,7 @@ round_stays (entry.Round number) by round is = absurd (cc)
 round_stays (entry.Enter thread a at reads) by round is = refl
 round_stays (entry.Wake thread a at reads) by round is = refl
 round_stays (entry.Work a what) by round is = refl
-round_stays (entry.Steal a from thread reads) by round is = refl
+round_stays (entry.Steal a from threads reads) by round is = refl
 round_stays (entry.Fail a from reads) by round is = refl
 round_stays (entry.Pass a reads) by round is = refl
 
@@ -56,7 +56,7 @@ legal_said p plan h (entry.Round number) legal = tt
 legal_said p plan h (entry.Enter thread a at reads) legal = tt
 legal_said p plan h (entry.Wake thread a at reads) legal = tt
 legal_said p plan h (entry.Work a what) legal = legal.row.outcome
-legal_said p plan h (entry.Steal a from thread reads) legal = tt
+legal_said p plan h (entry.Steal a from threads reads) legal = tt
 legal_said p plan h (entry.Fail a from reads) legal = tt
 legal_said p plan h (entry.Pass a reads) legal = tt
 
@@ -98,7 +98,7 @@ acts_is (entry.Round number) by k is = absurd (cc)
 acts_is (entry.Enter thread a at reads) by k is = let same : a ≡ by = cc in ap (λ c. eqb c k) same
 acts_is (entry.Wake thread a at reads) by k is = let same : a ≡ by = cc in ap (λ c. eqb c k) same
 acts_is (entry.Work a what) by k is = let same : a ≡ by = cc in ap (λ c. eqb c k) same
-acts_is (entry.Steal a from thread reads) by k is = let same : a ≡ by = cc in ap (λ c. eqb c k) same
+acts_is (entry.Steal a from threads reads) by k is = let same : a ≡ by = cc in ap (λ c. eqb c k) same
 acts_is (entry.Fail a from reads) by k is = let same : a ≡ by = cc in ap (λ c. eqb c k) same
 acts_is (entry.Pass a reads) by k is = let same : a ≡ by = cc in ap (λ c. eqb c k) same
 
@@ -162,7 +162,7 @@ flag_after (entry.Round number) flags id inside = sym (or_nothing (is_flagged fl
 flag_after (entry.Enter thread a at reads) flags id inside = sym (or_nothing (is_flagged flags id))
 flag_after (entry.Wake thread a at reads) flags id inside = sym (or_nothing (is_flagged flags id))
 flag_after (entry.Work a what) flags id inside = flag_by what flags id inside
-flag_after (entry.Steal a from thread reads) flags id inside = sym (or_nothing (is_flagged flags id))
+flag_after (entry.Steal a from threads reads) flags id inside = sym (or_nothing (is_flagged flags id))
 flag_after (entry.Fail a from reads) flags id inside = sym (or_nothing (is_flagged flags id))
 flag_after (entry.Pass a reads) flags id inside = sym (or_nothing (is_flagged flags id))
 

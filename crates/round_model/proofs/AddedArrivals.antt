@@ -157,6 +157,6 @@ module _ (p : Meaning) (plan : Plan) (h : List Entry) (arrivals : List Arrival) 
           (left_at thread c at reads a fits awaits next.row.next)
       now a (entry.Wake thread c at reads) is next = none_in plan h (entry.Wake thread c at reads) arrivals a refl (λ id. none_by (acts a (entry.Wake thread c at reads))) awaits
       now a (entry.Work c what) is next = none_in plan h (entry.Work c what) arrivals a refl (λ id. none_by (acts a (entry.Work c what))) awaits
-      now a (entry.Steal c from thread reads) is next = none_in plan h (entry.Steal c from thread reads) arrivals a refl (λ id. none_by (acts a (entry.Steal c from thread reads))) awaits
+      now a (entry.Steal c from threads reads) is next = none_in plan h (entry.Steal c from threads reads) arrivals a refl (λ id. none_by (acts a (entry.Steal c from threads reads))) awaits
       now a (entry.Fail c from reads) is next = none_in plan h (entry.Fail c from reads) arrivals a refl (λ id. none_by (acts a (entry.Fail c from reads))) awaits
       now a (entry.Pass c reads) is next = none_in plan h (entry.Pass c reads) arrivals a refl (λ id. none_by (acts a (entry.Pass c reads))) awaits

@@ -81,7 +81,7 @@ flags_kept (entry.Work c what) flags = by_word what
     by_word (did.Queued thread) = refl
     by_word (did.Blocked thread) = refl
     by_word (did.Ended thread) = length-set flags thread true
-flags_kept (entry.Steal c from thread reads) flags = refl
+flags_kept (entry.Steal c from threads reads) flags = refl
 flags_kept (entry.Fail c from reads) flags = refl
 flags_kept (entry.Pass c reads) flags = refl
 
@@ -102,7 +102,7 @@ fewer_left p plan past h (entry.Enter thread c at reads) by is stands legal =
     is_there (Some t) next = refl
 fewer_left p plan past h (entry.Wake thread c at reads) by is stands legal = omega arith
 fewer_left p plan past h (entry.Work c what) by is stands legal = omega arith
-fewer_left p plan past h (entry.Steal c from thread reads) by is stands legal = omega arith
+fewer_left p plan past h (entry.Steal c from threads reads) by is stands legal = omega arith
 fewer_left p plan past h (entry.Fail c from reads) by is stands legal = omega arith
 fewer_left p plan past h (entry.Pass c reads) by is stands legal = omega arith
 

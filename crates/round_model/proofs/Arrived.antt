@@ -66,7 +66,7 @@ module _ (named : ℕ → Bool) (p : Meaning) (plan : Plan) (fits : Fits p plan)
   entered_grows (entry.Enter thread by at reads) legal = one_more_in thread by at reads (find (is_entering (round_of h) by (own_entries h by)) plan.threads) refl legal.row.next
   entered_grows (entry.Wake thread by at reads) legal = let fewer = no_fewer (entry.Wake thread by at reads) in omega arith
   entered_grows (entry.Work by what) legal = let fewer = no_fewer (entry.Work by what) in omega arith
-  entered_grows (entry.Steal by from thread reads) legal = let fewer = no_fewer (entry.Steal by from thread reads) in omega arith
+  entered_grows (entry.Steal by from threads reads) legal = let fewer = no_fewer (entry.Steal by from threads reads) in omega arith
   entered_grows (entry.Fail by from reads) legal = let fewer = no_fewer (entry.Fail by from reads) in omega arith
   entered_grows (entry.Pass by reads) legal = let fewer = no_fewer (entry.Pass by reads) in omega arith
 

@@ -113,7 +113,7 @@ module _ (p : Meaning) (plan : Plan) where
   awaited_back h (entry.Enter thread by at reads) so_far legal t is = let e = entry.Enter thread by at reads in awaited_before h e refl (round_of_more h e) t is
   awaited_back h (entry.Wake thread by at reads) so_far legal t is = let e = entry.Wake thread by at reads in awaited_before h e refl (round_of_more h e) t is
   awaited_back h (entry.Work by what) so_far legal t is = let e = entry.Work by what in awaited_before h e refl (round_of_more h e) t is
-  awaited_back h (entry.Steal by from thread reads) so_far legal t is = let e = entry.Steal by from thread reads in awaited_before h e refl (round_of_more h e) t is
+  awaited_back h (entry.Steal by from threads reads) so_far legal t is = let e = entry.Steal by from threads reads in awaited_before h e refl (round_of_more h e) t is
   awaited_back h (entry.Fail by from reads) so_far legal t is = let e = entry.Fail by from reads in awaited_before h e refl (round_of_more h e) t is
   awaited_back h (entry.Pass by reads) so_far legal t is = let e = entry.Pass by reads in awaited_before h e refl (round_of_more h e) t is
 
@@ -138,7 +138,7 @@ module _ (p : Meaning) (plan : Plan) where
       ] refl
   not_let_in fits h (entry.Wake thread by at reads) legal k d inside is = refl
   not_let_in fits h (entry.Work by what) legal k d inside is = refl
-  not_let_in fits h (entry.Steal by from thread reads) legal k d inside is = refl
+  not_let_in fits h (entry.Steal by from threads reads) legal k d inside is = refl
   not_let_in fits h (entry.Fail by from reads) legal k d inside is = refl
   not_let_in fits h (entry.Pass by reads) legal k d inside is = refl
 

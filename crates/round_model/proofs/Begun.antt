@@ -119,7 +119,7 @@ round_of_none (entry.Round number) is = (number, refl)
 round_of_none (entry.Enter thread by at reads) is = absurd (cc)
 round_of_none (entry.Wake thread by at reads) is = absurd (cc)
 round_of_none (entry.Work by what) is = absurd (cc)
-round_of_none (entry.Steal by from thread reads) is = absurd (cc)
+round_of_none (entry.Steal by from threads reads) is = absurd (cc)
 round_of_none (entry.Fail by from reads) is = absurd (cc)
 round_of_none (entry.Pass by reads) is = absurd (cc)
 

@@ -133,7 +133,7 @@ module _ (p : Meaning) (plan : Plan) (t : Planned) where
   one_more h (entry.Enter thread a at reads) next before = by_core h (entry.Enter thread a at reads) a refl next before
   one_more h (entry.Wake thread a at reads) next before = by_core h (entry.Wake thread a at reads) a refl next before
   one_more h (entry.Work a did) next before = by_core h (entry.Work a did) a refl next before
-  one_more h (entry.Steal a from thread reads) next before = by_core h (entry.Steal a from thread reads) a refl next before
+  one_more h (entry.Steal a from threads reads) next before = by_core h (entry.Steal a from threads reads) a refl next before
   one_more h (entry.Fail a from reads) next before = by_core h (entry.Fail a from reads) a refl next before
   one_more h (entry.Pass a reads) next before = by_core h (entry.Pass a reads) a refl next before
 

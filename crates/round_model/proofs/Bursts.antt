@@ -26,12 +26,13 @@ use Rattle.round_model.specs.Bursts.{BurstsLaw, HasBurst, HaveBursts, LiesIn}
 use Rattle.round_model.specs.Cores.{Cores, opening_state}
 use Rattle.round_model.specs.Entries.{touches}
 use Rattle.round_model.specs.Fits.{Fits, IsLast, IsProgram, ThreadFits}
-use Rattle.round_model.specs.Moves.{admitted, blocked_of, core_after_event, handed, is_blocked_task, is_task, queued_of, received, released, with_outcome, with_task}
+use Rattle.round_model.specs.Moves.{admitted, blocked_of, core_after_event, handed_all, is_blocked_task, received_all, released, taken_from, with_outcome, with_task}
 use Rattle.round_model.specs.Programs.{Meeting, blocking, burst_of, ending_now, entering_task, is_endless, is_last_unit, meeting_at_end, meeting_of, place_after, planned_of, tick, yielding}
 use Rattle.round_model.specs.Work.{after_meeting, after_unit, before, core_after_work, elected, elected_over, run_over, with_current, worked}
 use Rattle.round_model.proofs.Directories.{is_thread}
 use Rattle.round_model.proofs.Finding.{find-All, find-passes}
 use Rattle.round_model.proofs.Keeping.{All-append, All-one, All-without}
+use Rattle.round_model.proofs.Takings.{All-found, All-left}
 
 -- a case changes the attributes of a thread alone
 record IsSameButAttributes (t u : Task) : Type 0 where
@@ -91,13 +92,13 @@ module _ (plan : Plan) where
   unfolding released
   released_keeps id core have = record { current = have.current; queue = have.queue; blocked = All-without (λ (b : Blocked). HasBurst plan b.task) (is_blocked_task id) core.blocked have.blocked }
 
-  handed_keeps : (id : ℕ) (core : ModelCore) → HaveBursts plan core → HaveBursts plan (handed id core)
-  unfolding handed
-  handed_keeps id core have = record { current = have.current; queue = All-without (HasBurst plan) (is_task id) core.queue have.queue; blocked = have.blocked }
+  handed_keep : (ids : List ℕ) (core : ModelCore) → HaveBursts plan core → HaveBursts plan (handed_all ids core)
+  unfolding handed_all
+  handed_keep ids core have = record { current = have.current; queue = All-left (HasBurst plan) ids core.queue have.queue; blocked = have.blocked }
 
-  received_keeps : (t : Task) (core : ModelCore) → HaveBursts plan core → HasBurst plan t → HaveBursts plan (received t core)
-  unfolding received
-  received_keeps t core have has = record { current = have.current; queue = All-append (HasBurst plan) core.queue (t ∷ []) have.queue (All-one (HasBurst plan) t has); blocked = have.blocked }
+  received_keep : (tasks : List Task) (core : ModelCore) → HaveBursts plan core → All (HasBurst plan) tasks → HaveBursts plan (received_all tasks core)
+  unfolding received_all
+  received_keep tasks core have has = record { current = have.current; queue = All-append (HasBurst plan) core.queue tasks have.queue has; blocked = have.blocked }
 
   either : (b : Bool) (x y : ModelCore) → HaveBursts plan x → HaveBursts plan y → HaveBursts plan (cond b x y)
   either true x y first second = first
@@ -233,14 +234,11 @@ module _ (p : Meaning) (plan : Plan) (fits : Fits p plan) where
               let kept = either plan (by == c) (released b.task.id (m c)) (m c) (released_keeps plan b.task.id (m c) (have c)) (have c) in
               either plan (at == c) (admitted p false b.task left) left (event_keeps plan p event.Enqueue false 0 b.task left kept has) kept
       effects (entry.Work by what) = work_keeps round (m c) (have c)
-      effects (entry.Steal by from thread reads) = steal (queued_of thread (m from)) (find-All (is_task thread) (HasBurst plan) (m from).queue (have from).queue)
-        where
-          steal : (found : Option Task) → IfSome found (HasBurst plan) → HaveBursts plan (stolen by from c found (m c))
-          steal None has = have c
-          steal (Some t) has =
-              let left = cond (from == c) (handed t.id (m c)) (m c) in
-              let kept = either plan (from == c) (handed t.id (m c)) (m c) (handed_keeps plan t.id (m c) (have c)) (have c) in
-              either plan (by == c) (received t left) left (received_keeps plan t left kept has) kept
+      effects (entry.Steal by from threads reads) =
+          let found = (taken_from threads (m from).queue).found in
+          let left = cond (from == c) (handed_all threads (m c)) (m c) in
+          let kept = either plan (from == c) (handed_all threads (m c)) (m c) (handed_keep plan threads (m c) (have c)) (have c) in
+          either plan (by == c) (received_all found left) left (received_keep plan found left kept (All-found (HasBurst plan) threads (m from).queue (have from).queue)) kept
       effects (entry.Fail by from reads) = have c
       effects (entry.Pass by reads) = have c
 

@@ -15,7 +15,7 @@ use Rattle.round_model.specs.After.{after, effect, entered, moved, round_of, sto
 use Rattle.round_model.specs.Cores.{Cores}
 use Rattle.round_model.specs.Entries.{touches}
 use Rattle.round_model.specs.Fits.{Fits}
-use Rattle.round_model.specs.Moves.{admitted, blocked_of, handed, is_blocked_task, queued_of, received, released, without_first}
+use Rattle.round_model.specs.Moves.{admitted, blocked_of, handed_all, is_blocked_task, received_all, released, taken_from, without_first}
 use Rattle.round_model.specs.OwedLaws.{NoneFallsDueLaw}
 use Rattle.round_model.specs.Programs.{entering_task, planned_of}
 use Rattle.round_model.specs.Scenes.{is_due_blocked}
@@ -27,12 +27,11 @@ blocked_if : (b : Bool) (x y : ModelCore) → x.blocked ≡ y.blocked → (cond 
 blocked_if true x y same = same
 blocked_if false x y same = refl
 
-stolen_blocked : (by from c : ℕ) (t : Option Task) (core : ModelCore) → (stolen by from c t core).blocked ≡ core.blocked
-unfolding handed received
-stolen_blocked by from c None core = refl
-stolen_blocked by from c (Some t) core =
-    let left : ModelCore = cond (from == c) (handed t.id core) core in
-    blocked_if (by == c) (received t left) left refl ∙ blocked_if (from == c) (handed t.id core) core refl
+stolen_blocked : (by from c : ℕ) (threads : List ℕ) (victim core : ModelCore) → (stolen by from c threads victim core).blocked ≡ core.blocked
+unfolding handed_all received_all
+stolen_blocked by from c threads victim core =
+    let left : ModelCore = cond (from == c) (handed_all threads core) core in
+    blocked_if (by == c) (received_all (taken_from threads victim.queue).found left) left refl ∙ blocked_if (from == c) (handed_all threads core) core refl
 
 module _ (p : Meaning) (plan : Plan) (fits : Fits p plan) (round : ℕ) (m : Cores) where
   entered_blocked : (t : Option Planned) (core : ModelCore) → (entered p t core).blocked ≡ core.blocked
@@ -49,10 +48,10 @@ module _ (p : Meaning) (plan : Plan) (fits : Fits p plan) (round : ℕ) (m : Cor
   unfolding effect
   enter_leaves thread by at reads c = blocked_if (touches c (entry.Enter thread by at reads)) (entered p (planned_of plan thread) (m c)) (m c) (entered_blocked (planned_of plan thread) (m c))
 
-  pub steal_leaves : (by from thread : ℕ) (reads : List ℕ) (c : ℕ) → (moved p plan round (entry.Steal by from thread reads) m c).blocked ≡ (m c).blocked
+  pub steal_leaves : (by from : ℕ) (threads reads : List ℕ) (c : ℕ) → (moved p plan round (entry.Steal by from threads reads) m c).blocked ≡ (m c).blocked
   unfolding effect
-  steal_leaves by from thread reads c =
-      blocked_if (touches c (entry.Steal by from thread reads)) (stolen by from c (queued_of thread (m from)) (m c)) (m c) (stolen_blocked by from c (queued_of thread (m from)) (m c))
+  steal_leaves by from threads reads c =
+      blocked_if (touches c (entry.Steal by from threads reads)) (stolen by from c threads (m from) (m c)) (m c) (stolen_blocked by from c threads (m from) (m c))
 
   pub fail_leaves : (by from : ℕ) (reads : List ℕ) (c : ℕ) → (moved p plan round (entry.Fail by from reads) m c).blocked ≡ (m c).blocked
   unfolding effect
@@ -101,7 +100,7 @@ module _ (p : Meaning) (plan : Plan) (fits : Fits p plan) (round : ℕ) (m : Cor
   effect_change (entry.Enter thread by at reads) c = stays (entered_blocked (planned_of plan thread) (m c))
   effect_change (entry.Wake thread by at reads) c = woken_change by at c (blocked_of thread (m by)) (m c)
   effect_change (entry.Work by what) c = work_change p plan fits round (m c)
-  effect_change (entry.Steal by from thread reads) c = stays (stolen_blocked by from c (queued_of thread (m from)) (m c))
+  effect_change (entry.Steal by from threads reads) c = stays (stolen_blocked by from c threads (m from) (m c))
   effect_change (entry.Fail by from reads) c = stays refl
   effect_change (entry.Pass by reads) c = stays refl
 

@@ -18,7 +18,7 @@ use Rattle.round_model.specs.After.{after_from, effect, entered, moved, round_af
 use Rattle.round_model.specs.Cores.{Cores, opening_state}
 use Rattle.round_model.specs.Entries.{touches}
 use Rattle.round_model.specs.Laws.{ConstantsLaw}
-use Rattle.round_model.specs.Moves.{admitted, blocked_of, core_after_event, handed, queued_of, received, released, with_outcome, with_task}
+use Rattle.round_model.specs.Moves.{admitted, blocked_of, core_after_event, handed_all, received_all, released, taken_from, with_outcome, with_task}
 use Rattle.round_model.specs.Programs.{Meeting, blocking, burst_of, ending_now, meeting_of, planned_of, tick, yielding}
 use Rattle.round_model.specs.Work.{after_meeting, after_unit, before, core_after_work, elected, elected_over, run_over, with_current, worked}
 
@@ -42,14 +42,6 @@ cond-consts false x y consts left right = right
 released-consts : (id : ℕ) (core : ModelCore) → (released id core).consts ≡ core.consts
 unfolding released
 released-consts id core = refl
-
-handed-consts : (id : ℕ) (core : ModelCore) → (handed id core).consts ≡ core.consts
-unfolding handed
-handed-consts id core = refl
-
-received-consts : (t : Task) (core : ModelCore) → (received t core).consts ≡ core.consts
-unfolding received
-received-consts t core = refl
 
 with_current-consts : (core : ModelCore) (best : Option (Task × List Task)) → (with_current core best).consts ≡ core.consts
 with_current-consts core None = refl
@@ -88,12 +80,12 @@ woken-consts p by at c (Some b) core =
     let same : left.consts ≡ core.consts = cond-consts (by == c) (released b.task.id core) core core.consts (released-consts b.task.id core) refl in
     cond-consts (at == c) (admitted p false b.task left) left core.consts (core_after_event-consts p _ _ _ b.task left ∙ same) same
 
-stolen-consts : (by from c : ℕ) (t : Option Task) (core : ModelCore) → (stolen by from c t core).consts ≡ core.consts
-stolen-consts by from c None core = refl
-stolen-consts by from c (Some t) core =
-    let left : ModelCore = cond (from == c) (handed t.id core) core in
-    let same : left.consts ≡ core.consts = cond-consts (from == c) (handed t.id core) core core.consts (handed-consts t.id core) refl in
-    cond-consts (by == c) (received t left) left core.consts (received-consts t left ∙ same) same
+stolen-consts : (by from c : ℕ) (threads : List ℕ) (victim core : ModelCore) → (stolen by from c threads victim core).consts ≡ core.consts
+unfolding handed_all received_all
+stolen-consts by from c threads victim core =
+    let left : ModelCore = cond (from == c) (handed_all threads core) core in
+    let same : left.consts ≡ core.consts = cond-consts (from == c) (handed_all threads core) core core.consts refl refl in
+    cond-consts (by == c) (received_all (taken_from threads victim.queue).found left) left core.consts same same
 
 effect-consts : (p : Meaning) (plan : Plan) (round : ℕ) (e : Entry) (m : Cores) (c : ℕ) → (effect p plan round e m c).consts ≡ (m c).consts
 unfolding effect
@@ -101,7 +93,7 @@ effect-consts p plan round (entry.Round number) m c = refl
 effect-consts p plan round (entry.Enter thread by at reads) m c = entered-consts p (planned_of plan thread) (m c)
 effect-consts p plan round (entry.Wake thread by at reads) m c = woken-consts p by at c (blocked_of thread (m by)) (m c)
 effect-consts p plan round (entry.Work by what) m c = worked-consts p plan round (m c)
-effect-consts p plan round (entry.Steal by from thread reads) m c = stolen-consts by from c (queued_of thread (m from)) (m c)
+effect-consts p plan round (entry.Steal by from threads reads) m c = stolen-consts by from c threads (m from) (m c)
 effect-consts p plan round (entry.Fail by from reads) m c = refl
 effect-consts p plan round (entry.Pass by reads) m c = refl
 

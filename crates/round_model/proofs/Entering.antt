@@ -23,7 +23,7 @@ acting c (entry.Round number) = ((λ test. absurd (cc)), (λ is. absurd (cc)))
 acting c (entry.Enter thread by at reads) = same_core by c
 acting c (entry.Wake thread by at reads) = same_core by c
 acting c (entry.Work by what) = same_core by c
-acting c (entry.Steal by from thread reads) = same_core by c
+acting c (entry.Steal by from threads reads) = same_core by c
 acting c (entry.Fail by from reads) = same_core by c
 acting c (entry.Pass by reads) = same_core by c
 

@@ -52,7 +52,7 @@ module _ (p : Meaning) (plan : Plan) (fits : Fits p plan) (handlers : MeetsHandl
   one_more h (entry.Enter thread by at reads) so_far next bound = let e = entry.Enter thread by at reads in by_core h e by so_far next refl next.row.core (begun_more h e) bound
   one_more h (entry.Wake thread by at reads) so_far next bound = let e = entry.Wake thread by at reads in by_core h e by so_far next refl next.row.core (begun_more h e) bound
   one_more h (entry.Work by did) so_far next bound = let e = entry.Work by did in by_core h e by so_far next refl next.row.core (begun_more h e) bound
-  one_more h (entry.Steal by from thread reads) so_far next bound = let e = entry.Steal by from thread reads in by_core h e by so_far next refl next.row.core (begun_more h e) bound
+  one_more h (entry.Steal by from threads reads) so_far next bound = let e = entry.Steal by from threads reads in by_core h e by so_far next refl next.row.core (begun_more h e) bound
   one_more h (entry.Fail by from reads) so_far next bound = let e = entry.Fail by from reads in by_core h e by so_far next refl next.row.core (begun_more h e) bound
   one_more h (entry.Pass by reads) so_far next bound = let e = entry.Pass by reads in by_core h e by so_far next refl next.row.core (begun_more h e) bound
 

@@ -37,6 +37,6 @@ is_free p plan past h (entry.Enter thread by at reads) fits belongs stands legal
     omega (arith, fits.few_threads)
 is_free p plan past h (entry.Wake thread by at reads) fits belongs stands legal = let total = belongs.total in omega (arith, fits.few_threads)
 is_free p plan past h (entry.Work by what) fits belongs stands legal = let total = belongs.total in omega (arith, fits.few_threads)
-is_free p plan past h (entry.Steal by from thread reads) fits belongs stands legal = let total = belongs.total in omega (arith, fits.few_threads)
+is_free p plan past h (entry.Steal by from threads reads) fits belongs stands legal = let total = belongs.total in omega (arith, fits.few_threads)
 is_free p plan past h (entry.Fail by from reads) fits belongs stands legal = let total = belongs.total in omega (arith, fits.few_threads)
 is_free p plan past h (entry.Pass by reads) fits belongs stands legal = let total = belongs.total in omega (arith, fits.few_threads)

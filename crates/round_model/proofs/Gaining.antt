@@ -1,6 +1,6 @@
 -- What the cores of a plan have after an entry: numbers in their ranges, and no more threads of any numbers than before
 -- and the one that enters.
-use Rattle.std.proofs.Common.{◌≡◌, ℕ, ◌+◌, ◌<◌, ◌≤◌, Bool, true, false, List, [], ◌∷◌, IfSome, Option, Some, None, refl, sym, subst, arith}
+use Rattle.std.proofs.Common.{◌≡◌, ◌≢◌, ℕ, ◌+◌, ◌<◌, ◌≤◌, Bool, true, false, List, [], ◌∷◌, count_by, IfSome, Option, Some, None, refl, sym, ap, ◌∙◌, subst, arith}
 use Rattle.std.proofs.lemmas.Bool.Decides.{nat_tests}
 use Rattle.sched_base.specs.declared.task.Task.{Task}
 use Rattle.policy_tree.specs.declared.typed.Event.TheVariants as event
@@ -19,7 +19,7 @@ use Rattle.round_model.specs.BoundsLaws.{named_count}
 use Rattle.round_model.specs.Cores.{Cores}
 use Rattle.round_model.specs.Fits.{Fits}
 use Rattle.round_model.specs.Code.Kept.{Holds}
-use Rattle.round_model.specs.Moves.{admitted, blocked_of, core_after_event, handed, is_blocked_task, is_task, queued_of, received, released}
+use Rattle.round_model.specs.Moves.{admitted, blocked_of, core_after_event, handed_all, is_blocked_task, received_all, released, taken_from}
 use Rattle.round_model.specs.Programs.{entering_task, planned_of}
 use Rattle.round_model.specs.Code.Steps.{AreThere}
 use Rattle.round_model.specs.Code.Updates.{updated}
@@ -27,9 +27,10 @@ use Rattle.round_model.specs.Work.{core_after_work}
 use Rattle.round_model.proofs.BegunBounds.{counted}
 use Rattle.round_model.proofs.Directories.{is_thread}
 use Rattle.round_model.proofs.Finding.{find-All, find-append, find-passes}
-use Rattle.round_model.proofs.Keeping.{entering_fits, holds_handed, holds_released, queued_fits, stays_after}
-use Rattle.round_model.proofs.Moved.{blocked-outcomes, moved_enter, moved_no_enter, moved_no_steal, moved_no_wake, moved_steal, moved_wake, moved_work, unmoved_fail, unmoved_pass, unmoved_round}
-use Rattle.round_model.proofs.Standing.{Gains, event_gains, handed_count, holds_received, received_count, released_count, work_gains}
+use Rattle.round_model.proofs.Keeping.{entering_fits, holds_released, stays_after, updated_other}
+use Rattle.round_model.proofs.Moved.{blocked-outcomes, moved_enter, moved_no_enter, moved_no_wake, moved_steal, moved_wake, moved_work, unmoved_fail, unmoved_pass, unmoved_round}
+use Rattle.round_model.proofs.Standing.{Gains, event_gains, handed_count, has_name, received_count, released_count, work_gains}
+use Rattle.round_model.proofs.Takings.{All-found, holds_come, holds_left}
 use Rattle.round_model.proofs.Totals.{total, total_same, total_updated}
 
 -- how many threads of those numbers come with the entry
@@ -38,7 +39,7 @@ named_comes named (entry.Round number) = 0
 named_comes named (entry.Enter thread by at reads) = counted (named thread)
 named_comes named (entry.Wake thread by at reads) = 0
 named_comes named (entry.Work by what) = 0
-named_comes named (entry.Steal by from thread reads) = 0
+named_comes named (entry.Steal by from threads reads) = 0
 named_comes named (entry.Fail by from reads) = 0
 named_comes named (entry.Pass by reads) = 0
 
@@ -46,10 +47,6 @@ named_comes named (entry.Pass by reads) = 0
 pub blocked_still : (p : Meaning) (fresh : Bool) (t : Task) (id : ℕ) (b : Blocked) (core : ModelCore) → blocked_of id core ≡ Some b → blocked_of id (admitted p fresh t core) ≡ Some b
 unfolding core_after_event
 blocked_still p fresh t id b core is = blocked-outcomes id 0 b (outcomes_of p event.Enqueue fresh core.consts t) core is
-
-queued_still : (id : ℕ) (t x : Task) (core : ModelCore) → queued_of id core ≡ Some x → queued_of id (received t core) ≡ Some x
-unfolding received
-queued_still id t x core is = find-append (is_task id) core.queue (t ∷ []) x is
 
 blocked_fits : (p : Meaning) (id : ℕ) (b : Blocked) (core : ModelCore) → Holds p core → blocked_of id core ≡ Some b → IsTask p b.task
 blocked_fits p id b core holds is =
@@ -114,23 +111,21 @@ module _ (p : Meaning) (plan : Plan) (fits : Fits p plan) (handlers : MeetsHandl
       (holds_released p thread (updated m at x by) (came.holds by own)) (released_count p named thread b (updated m at x by) still))
       (moved_wake p plan round m thread by at reads b is)
 
-  steal_gains : (by from thread : ℕ) (reads : List ℕ) → by < plan.cores → from < plan.cores → (found : Option Task) → queued_of thread (m from) ≡ found
-      → AllGain p named plan.cores 0 m (moved p plan round (entry.Steal by from thread reads) m)
-  steal_gains by from thread reads own there None is =
-      gain_same p named plan.cores 0 m m (moved p plan round (entry.Steal by from thread reads) m) (gain_none p named plan.cores m holds) (moved_no_steal p plan round m by from thread reads is)
-  steal_gains by from thread reads own there (Some t) is =
-      let w = counted (named t.id) in
-      let x = received t (m by) in
+  steal_gains : (by from : ℕ) (threads reads : List ℕ) → by < plan.cores → from < plan.cores → by ≢ from
+      → AllGain p named plan.cores 0 m (moved p plan round (entry.Steal by from threads reads) m)
+  steal_gains by from threads reads own there apart =
+      let found = (taken_from threads (m from).queue).found in
+      let w = count_by (has_name named) found in
+      let x = received_all found (m by) in let y = handed_all threads (m from) in
       let came = gain_at p named plan.cores w m by x holds own (record {
-        holds = holds_received p named t (m by) (holds by own) (queued_fits p thread t (m from) (holds from there) is);
-        count = received_count p named t (m by);
+        holds = holds_come p found (m by) (holds by own) (All-found (IsTask p) threads (m from).queue (holds from there).queue);
+        count = received_count p named found (m by);
       }) in
-      let still : queued_of thread (updated m by x from) ≡ Some t =
-      stays_after (λ core. queued_of thread core ≡ Some t) m by from x is (λ same. queued_still thread t t (m by) (subst (λ k. queued_of thread (m k) ≡ Some t) (sym same) is)) in
-      gain_same p named plan.cores 0 m (updated (updated m by x) from (handed thread (updated m by x from))) (moved p plan round (entry.Steal by from thread reads) m)
-      (gain_moved p named plan.cores w m by from x (handed thread (updated m by x from)) came there
-      (holds_handed p thread (updated m by x from) (came.holds from there)) (handed_count p named thread t (updated m by x from) still))
-      (moved_steal p plan round m by from thread reads t is)
+      let stays : updated m by x from ≡ m from = updated_other m by from x apart in
+      let less = handed_count p named threads (m from) ∙ ap (named_count named) (sym stays) in
+      gain_same p named plan.cores 0 m (updated (updated m by x) from y) (moved p plan round (entry.Steal by from threads reads) m)
+      (gain_moved p named plan.cores w m by from x y came there (holds_left p threads (m from) (holds from there)) less)
+      (moved_steal p plan round m by from threads reads apart)
 
   -- the cores after any entry
   pub moved_gains : (e : Entry) → AreThere plan.cores e → AllGain p named plan.cores (named_comes named e) m (moved p plan round e m)
@@ -141,6 +136,6 @@ module _ (p : Meaning) (plan : Plan) (fits : Fits p plan) (handlers : MeetsHandl
       gain_same p named plan.cores 0 m (updated m by (core_after_work p plan round (m by))) (moved p plan round (entry.Work by what) m)
       (gain_at p named plan.cores 0 m by (core_after_work p plan round (m by)) holds there (work_gains p named fits.policy handlers plan round (m by) (holds by there)))
       (moved_work p plan round m by what)
-  moved_gains (entry.Steal by from thread reads) there = steal_gains by from thread reads there.0 there.1 (queued_of thread (m from)) refl
+  moved_gains (entry.Steal by from threads reads) there = steal_gains by from threads reads there.0 there.1.0 there.1.1
   moved_gains (entry.Fail by from reads) there = gain_same p named plan.cores 0 m m (moved p plan round (entry.Fail by from reads) m) (gain_none p named plan.cores m holds) (unmoved_fail p plan round m by from reads)
   moved_gains (entry.Pass by reads) there = gain_same p named plan.cores 0 m m (moved p plan round (entry.Pass by reads) m) (gain_none p named plan.cores m holds) (unmoved_pass p plan round m by reads)

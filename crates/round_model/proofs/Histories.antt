@@ -39,7 +39,7 @@ module _ (p : Meaning) (plan : Plan) where
   counted_on h (entry.Enter thread by at reads) legal same = let e = entry.Enter thread by at reads in omega (arith, round_of_more h e, begun_more h e, same)
   counted_on h (entry.Wake thread by at reads) legal same = let e = entry.Wake thread by at reads in omega (arith, round_of_more h e, begun_more h e, same)
   counted_on h (entry.Work by what) legal same = let e = entry.Work by what in omega (arith, round_of_more h e, begun_more h e, same)
-  counted_on h (entry.Steal by from thread reads) legal same = let e = entry.Steal by from thread reads in omega (arith, round_of_more h e, begun_more h e, same)
+  counted_on h (entry.Steal by from threads reads) legal same = let e = entry.Steal by from threads reads in omega (arith, round_of_more h e, begun_more h e, same)
   counted_on h (entry.Fail by from reads) legal same = let e = entry.Fail by from reads in omega (arith, round_of_more h e, begun_more h e, same)
   counted_on h (entry.Pass by reads) legal same = let e = entry.Pass by reads in omega (arith, round_of_more h e, begun_more h e, same)
 

@@ -29,7 +29,7 @@ use Rattle.round_model.specs.Bounds.{CoreInBounds, standing_count}
 use Rattle.round_model.specs.Cores.{Cores, listed}
 use Rattle.round_model.specs.Fits.{Fits, ThreadFits}
 use Rattle.round_model.specs.Code.Kept.{Holds, IsKept}
-use Rattle.round_model.specs.Moves.{admitted, blocked_of, core_after_event, handed, is_blocked_task, is_task, queued_of, received, released, with_task, without_first}
+use Rattle.round_model.specs.Moves.{admitted, blocked_of, core_after_event, handed, is_blocked_task, is_task, queued_of, released, with_task, without_first}
 use Rattle.round_model.specs.Code.Updates.{updated}
 use Rattle.round_model.specs.Code.Units.{HasTask, IsUnit, core_after_unit, without}
 use Rattle.round_model.specs.Code.Outcomes.{IsCountable}
@@ -96,7 +96,7 @@ length-without test (x ∷ xs) is =
     ] is
 
 -- how many threads stand at a core, list by list
-standing_is : (core : ModelCore) → standing_count core ≡ length (option_to_list core.current) + length core.queue + length core.blocked
+pub standing_is : (core : ModelCore) → standing_count core ≡ length (option_to_list core.current) + length core.queue + length core.blocked
 standing_is core = ap (λ n. n + length core.blocked) (length-append (option_to_list core.current) core.queue)
 
 module _ (p : Meaning) where
@@ -180,15 +180,7 @@ module _ (p : Meaning) where
   standing_unit plan round core (unit.Met place t put wake) is = let fewer = standing_without place core is.1 in let more = standing_put put wake t (without place core) in omega arith
   standing_unit plan round core (unit.Over place id) is = let fewer = standing_without place core is.1 in omega arith
 
-  -- a queued thread stays queued as another comes, and a blocked one blocked
-  pub queued_stays : (id : ℕ) (t : Task) (core : ModelCore) → IsSome (queued_of id core) → IsSome (queued_of id (received t core))
-  unfolding received
-  queued_stays id t core is = some_stays (queued_of id core) refl is
-    where
-      some_stays : (o : Option Task) → queued_of id core ≡ o → IsSome o → IsSome (find (is_task id) (core.queue ++ t ∷ []))
-      some_stays None e found = absurd (cc)
-      some_stays (Some x) e found = ap is_some (find-append (is_task id) core.queue (t ∷ []) x e)
-
+  -- a blocked thread stays blocked as another comes
   pub blocked_stays : (fresh : Bool) (t : Task) (id : ℕ) (b : Blocked) (core : ModelCore) → blocked_of id core ≡ Some b → IsSome (blocked_of id (admitted p fresh t core))
   unfolding core_after_event
   blocked_stays fresh t id b core is = ap is_some (blocked-outcomes id 0 b (outcomes_of p event.Enqueue fresh core.consts t) core is)
@@ -209,6 +201,10 @@ stays_after P m at c x here there =
       | true ↦ λ e. there (grind (arith, nat_tests))
       | false ↦ λ e. here
     ] refl
+
+-- the other cores after a change of one
+pub updated_other : (m : Cores) (at c : ℕ) (x : ModelCore) → at ≢ c → updated m at x c ≡ m c
+updated_other m at c x other = ap (λ b. cond b x (m c)) (let e : eqb at c ≡ false = grind (arith, nat_tests) in e)
 
 -- a thread that comes to one core and leaves another
 pub kept_moved : (p : Meaning) (old mid new : List ModelCore) → IsKept p 0 1 old mid → IsKept p 1 0 mid new → IsKept p 0 0 old new

@@ -45,6 +45,7 @@ pub mod Spreads
 pub mod Standing
 pub mod States
 pub mod Stillness
+pub mod Takings
 pub mod There
 pub mod Totals
 pub mod Touched

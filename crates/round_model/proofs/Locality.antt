@@ -1,12 +1,8 @@
 -- Whether an entry of a core is legal next depends on what the core knows alone: its own entries and the times of the
 -- round, the cores that the entry touches, and what its reads saw.
-use Rattle.std.proofs.Common.{◌≡◌, ℕ, ◌<◌, nat_lt, ◌&&◌, ◌||◌, eqb, Bool, true, false, cond, List, length, slice_index, IfSome, IsSomeAnd, IsNone, IsFalse, IsTrue, Option, Some, None, refl, sym, ap, ap₂, subst, ◌∙◌, arith}
+use Rattle.std.proofs.Common.{◌≡◌, ℕ, ◌<◌, nat_lt, ◌&&◌, ◌||◌, eqb, Bool, true, false, cond, List, [], ◌∷◌, length, slice_index, IfSome, IsSomeAnd, IsNone, IsFalse, IsTrue, Option, Some, None, refl, sym, ap, ap₂, subst, ◌∙◌, arith}
 use Rattle.std.proofs.lemmas.Bool.Decides.{nat_tests}
-use Rattle.sched_base.specs.declared.task.Task.{Task}
 use Rattle.policy_tree.specs.Meaning.{Meaning, PlaceTree, here, least}
-use Rattle.policy_eval.specs.Orders.{best_of}
-use Rattle.policy_eval.specs.Sights.{pair_values}
-use Rattle.policy_eval.specs.Values.{holds}
 use Rattle.round_model.specs.declared.entry.Entry.{Entry}
 use Rattle.round_model.specs.declared.entry.Entry.TheVariants as entry
 use Rattle.round_model.specs.declared.plan.Plan.{Plan}
@@ -14,16 +10,16 @@ use Rattle.round_model.specs.declared.plan.Planned.{Planned}
 use Rattle.round_model.specs.declared.state.Blocked.{Blocked}
 use Rattle.round_model.specs.declared.state.ModelCore.{ModelCore}
 use Rattle.round_model.specs.After.{after}
-use Rattle.round_model.specs.Attempts.{attempt_of, attempt_on, attempt_with, present_values, steal_or_fail}
+use Rattle.round_model.specs.Attempts.{attempt_of, attempt_on, attempt_with, moves_of, steal_or_fail}
 use Rattle.round_model.specs.Choices.{choice_of, target_by, target_of}
-use Rattle.round_model.specs.Cores.{Cores, seen_of}
+use Rattle.round_model.specs.Cores.{Cores}
 use Rattle.round_model.specs.Entries.{acting_core, reads_of, touches}
 use Rattle.round_model.specs.Legal.{LegalInRound, LegalNext, rounds_begun}
 use Rattle.round_model.specs.Local.{IsAsKnown, LocalLaw, is_read_at, needed_of}
 use Rattle.round_model.specs.Reads.{ReadsFit, read_values, value_read, values_of}
 use Rattle.round_model.specs.Rows.{IsPlacement, LegalAttempt, PlacementReads, Row}
 use Rattle.round_model.specs.Scenes.{Scene, entering_next, has_attempted, has_worked, scene_of, waking_next}
-use Rattle.round_model.specs.Work.{IsOutcomeOfWork, before}
+use Rattle.round_model.specs.Work.{IsOutcomeOfWork}
 use Rattle.round_model.proofs.Outcomes.{choice_same, target_same}
 
 -- an attempt on a core touches both
@@ -37,22 +33,17 @@ other_touched a v = by_first (eqb a v)
     by_first true = refl
     by_first false = grind (arith, nat_tests)
 
-touches_pair : (a v : ℕ) (reads : List ℕ) (passes : Bool) (best : Option Task) (c : ℕ) → (eqb a c || eqb v c) ≡ true
-    → touches c (cond passes (steal_or_fail a v reads best) (entry.Fail a v reads)) ≡ true
+touches_pair : (a v : ℕ) (reads moves : List ℕ) (c : ℕ) → (eqb a c || eqb v c) ≡ true → touches c (steal_or_fail a v reads moves) ≡ true
 unfolding touches
-touches_pair a v reads true None c is = is
-touches_pair a v reads true (Some t) c is = is
-touches_pair a v reads false best c is = is
+touches_pair a v reads [] c is = is
+touches_pair a v reads (id ∷ ids) c is = is
 
 on_touches : (p : Meaning) (plan : Plan) (m : Cores) (a v : ℕ) (reads : List ℕ) (c : ℕ) → (eqb a c || eqb v c) ≡ true → touches c (attempt_on p plan m a reads v) ≡ true
-on_touches p plan m a v reads c is =
-    touches_pair a v reads (holds (pair_values (present_values plan m a) (present_values plan m v)) p.filter) (best_of (before p.steal) (m v).queue) c is
+on_touches p plan m a v reads c is = touches_pair a v reads (moves_of p plan a v None (m a) (m v)) c is
 
 -- and depends on them alone
 on_same : (p : Meaning) (plan : Plan) (m k : Cores) (a v : ℕ) (reads : List ℕ) → m a ≡ k a → m v ≡ k v → attempt_on p plan m a reads v ≡ attempt_on p plan k a reads v
-on_same p plan m k a v reads =
-    ap₂ (λ (x y : ModelCore). cond (holds (pair_values (values_of plan a (seen_of x)) (values_of plan v (seen_of y))) p.filter)
-    (steal_or_fail a v reads (best_of (before p.steal) y.queue)) (entry.Fail a v reads))
+on_same p plan m k a v reads = ap₂ (λ (x y : ModelCore). steal_or_fail a v reads (moves_of p plan a v None x y))
 
 -- two moments that are the same for an entry
 record AreSame (s t : Scene) (e : Entry) : Type 0 where
@@ -143,7 +134,7 @@ row_same p plan s t (entry.Work a did) same old =
       outcome = subst (λ (round : ℕ). IsOutcomeOfWork p plan round (s.cores a) did) (sym same.round)
           (subst (λ (core : ModelCore). IsOutcomeOfWork p plan t.round core did) (sym (same.cores a own)) old.outcome);
     }
-row_same p plan s t (entry.Steal a from thread reads) same old = attempt_same p plan s t (entry.Steal a from thread reads) same a reads refl old
+row_same p plan s t (entry.Steal a from threads reads) same old = attempt_same p plan s t (entry.Steal a from threads reads) same a reads refl old
 row_same p plan s t (entry.Fail a from reads) same old = attempt_same p plan s t (entry.Fail a from reads) same a reads refl old
 row_same p plan s t (entry.Pass a reads) same old = attempt_same p plan s t (entry.Pass a reads) same a reads refl old
 
@@ -192,7 +183,7 @@ module _ (p : Meaning) (plan : Plan) (h : List Entry) (a : ℕ) (begun : 0 < rou
   row_of (entry.Enter thread by at reads) acting next = let own : by ≡ a = cc in subst (λ (c : ℕ). Row p plan (scene_of p plan h c) (entry.Enter thread by at reads)) own next.row
   row_of (entry.Wake thread by at reads) acting next = let own : by ≡ a = cc in subst (λ (c : ℕ). Row p plan (scene_of p plan h c) (entry.Wake thread by at reads)) own next.row
   row_of (entry.Work by did) acting next = let own : by ≡ a = cc in subst (λ (c : ℕ). Row p plan (scene_of p plan h c) (entry.Work by did)) own next.row
-  row_of (entry.Steal by from thread reads) acting next = let own : by ≡ a = cc in subst (λ (c : ℕ). Row p plan (scene_of p plan h c) (entry.Steal by from thread reads)) own next.row
+  row_of (entry.Steal by from threads reads) acting next = let own : by ≡ a = cc in subst (λ (c : ℕ). Row p plan (scene_of p plan h c) (entry.Steal by from threads reads)) own next.row
   row_of (entry.Fail by from reads) acting next = let own : by ≡ a = cc in subst (λ (c : ℕ). Row p plan (scene_of p plan h c) (entry.Fail by from reads)) own next.row
   row_of (entry.Pass by reads) acting next = let own : by ≡ a = cc in subst (λ (c : ℕ). Row p plan (scene_of p plan h c) (entry.Pass by reads)) own next.row
 
@@ -206,7 +197,7 @@ module _ (p : Meaning) (plan : Plan) (h : List Entry) (a : ℕ) (begun : 0 < rou
   next_of (entry.Enter thread by at reads) acting row = in_round (entry.Enter thread by at reads) by (let own : a ≡ by = cc in own) row
   next_of (entry.Wake thread by at reads) acting row = in_round (entry.Wake thread by at reads) by (let own : a ≡ by = cc in own) row
   next_of (entry.Work by did) acting row = in_round (entry.Work by did) by (let own : a ≡ by = cc in own) row
-  next_of (entry.Steal by from thread reads) acting row = in_round (entry.Steal by from thread reads) by (let own : a ≡ by = cc in own) row
+  next_of (entry.Steal by from threads reads) acting row = in_round (entry.Steal by from threads reads) by (let own : a ≡ by = cc in own) row
   next_of (entry.Fail by from reads) acting row = in_round (entry.Fail by from reads) by (let own : a ≡ by = cc in own) row
   next_of (entry.Pass by reads) acting row = in_round (entry.Pass by reads) by (let own : a ≡ by = cc in own) row
 

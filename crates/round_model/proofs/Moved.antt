@@ -1,5 +1,5 @@
 -- What an entry makes of the cores, as changes of one core after the other.
-use Rattle.std.proofs.Common.{◌≡◌, ℕ, ◌==◌, ◌||◌, Bool, true, false, cond, eqb, List, [], ◌∷◌, fold, All, Option, Some, None, IfSome, option_map, refl, sym, ap, ◌∙◌, subst, arith}
+use Rattle.std.proofs.Common.{◌≡◌, ◌≢◌, ℕ, ◌==◌, ◌||◌, Bool, true, false, cond, eqb, List, [], ◌∷◌, fold, All, Option, Some, None, IfSome, option_map, refl, sym, ap, ◌∙◌, subst, arith}
 use Rattle.std.proofs.lemmas.Bool.Decides.{nat_tests}
 use Rattle.sched_base.specs.declared.task.Task.{Task}
 use Rattle.policy_tree.specs.declared.typed.Put.{Put}
@@ -14,10 +14,10 @@ use Rattle.round_model.specs.declared.plan.Plan.{Plan}
 use Rattle.round_model.specs.declared.plan.Planned.{Planned}
 use Rattle.round_model.specs.declared.state.Blocked.{Blocked}
 use Rattle.round_model.specs.declared.state.ModelCore.{ModelCore}
-use Rattle.round_model.specs.After.{effect, entered, moved, stolen, woken}
+use Rattle.round_model.specs.After.{effect, entered, moved, woken}
 use Rattle.round_model.specs.Cores.{Cores}
 use Rattle.round_model.specs.Entries.{touches}
-use Rattle.round_model.specs.Moves.{admitted, blocked_of, core_after_event, handed, is_blocked_task, is_task, queued_of, received, released, with_outcome, with_task}
+use Rattle.round_model.specs.Moves.{admitted, blocked_of, core_after_event, handed_all, is_blocked_task, received_all, released, taken_from, with_outcome, with_task}
 use Rattle.round_model.specs.Programs.{planned_of}
 use Rattle.round_model.specs.Code.Updates.{updated}
 use Rattle.round_model.specs.Work.{core_after_work}
@@ -56,11 +56,6 @@ released-admitted : (p : Meaning) (fresh : Bool) (t : Task) (id : ℕ) (b : Bloc
 unfolding core_after_event released
 released-admitted p fresh t id b core is = released-outcomes id 0 b (outcomes_of p event.Enqueue fresh core.consts t) core is
 
-handed-received : (id : ℕ) (t found : Task) (core : ModelCore) → queued_of id core ≡ Some found → handed id (received t core) ≡ received t (handed id core)
-unfolding handed received
-handed-received id t found core is =
-    ap (λ (queue : List Task). let left : ModelCore = record core { queue = queue } in left) (without_first-append (is_task id) core.queue (t ∷ []) found is)
-
 -- a change of one core and then of another, which may be the same
 put_then_take : (m : Cores) (a b : ℕ) (f g : ModelCore → ModelCore) → (a ≡ b → g (f (m a)) ≡ f (g (m a))) → (c : ℕ)
     → updated (updated m a (f (m a))) b (g (updated m a (f (m a)) b)) c ≡ (let left : ModelCore = cond (b == c) (g (m c)) (m c) in cond (a == c) (f left) left)
@@ -93,26 +88,28 @@ untouched_right true false f g core = refl
 untouched_right false false f g core = refl
 
 module _ (p : Meaning) (plan : Plan) (round : ℕ) (m : Cores) where
-  -- a steal that finds its thread
-  pub moved_steal : (by from thread : ℕ) (reads : List ℕ) (t : Task) → queued_of thread (m from) ≡ Some t → (c : ℕ)
-      → updated (updated m by (received t (m by))) from (handed thread (updated m by (received t (m by)) from)) c ≡ moved p plan round (entry.Steal by from thread reads) m c
+  -- a steal: what it finds at the victim leaves it and comes to the thief
+  pub moved_steal : (by from : ℕ) (threads reads : List ℕ) → by ≢ from → (c : ℕ)
+      → updated (updated m by (received_all (taken_from threads (m from).queue).found (m by))) from (handed_all threads (m from)) c
+      ≡ moved p plan round (entry.Steal by from threads reads) m c
   unfolding touches effect
-  moved_steal by from thread reads t is c =
-      let named : t.id ≡ thread = let test = find-passes (is_task thread) (m from).queue t is in grind (arith, nat_tests) in
-      put_then_take m by from (received t) (handed thread) (λ same. handed-received thread t t (m by) (subst (λ k. queued_of thread (m k) ≡ Some t) (sym same) is)) c
-      ∙ (ap (λ id. let left : ModelCore = cond (from == c) (handed id (m c)) (m c) in cond (by == c) (received t left) left) (sym named)
-      ∙ (sym (untouched_left (by == c) (from == c) (received t) (handed t.id) (m c))
-      ∙ ap (λ o. cond ((by == c) || (from == c)) (stolen by from c o (m c)) (m c)) (sym is)))
-
-  -- a steal of a thread that isn't queued
-  pub moved_no_steal : (by from thread : ℕ) (reads : List ℕ) → queued_of thread (m from) ≡ None → (c : ℕ) → m c ≡ moved p plan round (entry.Steal by from thread reads) m c
-  unfolding touches effect
-  moved_no_steal by from thread reads none c =
-      unchanged ((by == c) || (from == c)) ∙ ap (λ o. cond ((by == c) || (from == c)) (stolen by from c o (m c)) (m c)) (sym none)
+  moved_steal by from threads reads apart c =
+      elim (eqb from c) as (λ x. eqb from c ≡ x → cond x (handed_all threads (m from)) (cond (by == c) (received_all found (m by)) (m c))
+      ≡ cond ((by == c) || x) (let left : ModelCore = cond x (handed_all threads (m c)) (m c) in cond (by == c) (received_all found left) left) (m c)) [
+        | true ↦ λ there. elim (eqb by c) as (λ y. eqb by c ≡ y → handed_all threads (m from)
+            ≡ cond (y || true) (cond y (received_all found (handed_all threads (m c))) (handed_all threads (m c))) (m c)) [
+              | true ↦ λ here. absurd (apart (grind (arith, nat_tests)))
+              | false ↦ λ elsewhere. let at : from ≡ c = grind (arith, nat_tests) in ap (λ k. handed_all threads (m k)) at
+            ] refl
+        | false ↦ λ other. elim (eqb by c) as (λ y. eqb by c ≡ y → cond y (received_all found (m by)) (m c)
+            ≡ cond (y || false) (cond y (received_all found (m c)) (m c)) (m c)) [
+              | true ↦ λ here. let own : by ≡ c = grind (arith, nat_tests) in ap (λ k. received_all found (m k)) own
+              | false ↦ λ none. refl
+            ] refl
+      ] refl
     where
-      unchanged : (b : Bool) → m c ≡ cond b (m c) (m c)
-      unchanged true = refl
-      unchanged false = refl
+      found : List Task
+      found = (taken_from threads (m from).queue).found
 
   -- entries that move nothing
   same_core : (b : Bool) (x : ModelCore) → x ≡ cond b x x

@@ -1,6 +1,7 @@
 -- Attempts, and choices by values that agree on the cores that there are.
-use Rattle.std.proofs.Common.{◌≡◌, ℕ, zero, suc, ◌+◌, ◌==◌, ◌<◌, ◌≤◌, Bool, true, false, not, ◌&&◌, cond, int_lt, List, [], ◌∷◌, filter, length, take, All, IfSome, Option, Some, None, option_map, refl, sym, ap, ap₂, ◌∙◌, subst, arith}
+use Rattle.std.proofs.Common.{◌≡◌, ◌≢◌, ℕ, zero, suc, ◌+◌, ◌==◌, ◌<◌, ◌≤◌, Bool, true, false, not, ◌&&◌, cond, int_lt, List, [], ◌∷◌, filter, length, take, All, IfSome, Option, Some, None, eqb, option_map, option_to_list, refl, sym, ap, ap₂, ◌∙◌, subst, arith}
 use Rattle.std.specs.List.{AllByRecursion, range_with_len}
+use Rattle.std.proofs.lemmas.Bool.Decides.{nat_tests}
 use Rattle.std.proofs.lemmas.List.{get_or-take, get_or_default, length-take}
 use Rattle.sched_base.specs.declared.task.Task.{Task}
 use Rattle.policy_tree.specs.Meaning.{Meaning, PlaceTree, here, least}
@@ -9,27 +10,32 @@ use Rattle.policy_eval.specs.declared.env.CoreValues.{CoreValues}
 use Rattle.policy_eval.specs.Orders.{best_of, better_of, precedes}
 use Rattle.policy_eval.specs.Sights.{core_values, pair_values}
 use Rattle.policy_eval.specs.Values.{holds, value_of}
-use Rattle.round_model.specs.declared.entry.Entry.TheVariants as entry
 use Rattle.round_model.specs.declared.plan.Plan.{Plan}
-use Rattle.round_model.specs.Attempts.{attempt_on, present_values, steal_or_fail}
+use Rattle.round_model.specs.Attempts.{attempt_on, moves_with, present_values, steal_or_fail}
 use Rattle.round_model.specs.Choices.{candidates_of, choice_of, is_candidate, is_less, no_values, prefers, target_by, target_of, values_in}
 use Rattle.round_model.specs.Cores.{Cores}
-use Rattle.round_model.specs.Code.Outcomes.{entry_with}
 use Rattle.round_model.specs.Work.{before}
 
-steal-entry : (by from : ℕ) (reads : List ℕ) (best : Option Task) → steal_or_fail by from reads best ≡ entry_with by from reads (option_map (λ t. t.id) best)
-steal-entry by from reads None = refl
-steal-entry by from reads (Some t) = refl
-
 -- an attempt where the filter holds takes the best of the queue
-pub attempt_taken : (p : Meaning) (plan : Plan) (m : Cores) (a : ℕ) (reads : List ℕ) (v : ℕ) (taken : Option ℕ)
+pub attempt_taken : (p : Meaning) (plan : Plan) (m : Cores) (a : ℕ) (reads : List ℕ) (v : ℕ) (taken : List ℕ)
     → holds (pair_values (present_values plan m a) (present_values plan m v)) p.filter ≡ true
-    → taken ≡ option_map (λ t. t.id) (best_of (before p.steal) (m v).queue)
-    → attempt_on p plan m a reads v ≡ entry_with a v reads taken
+    → taken ≡ moves_with (best_of (before p.steal) (m v).queue) (λ t. t.id ∷ [])
+    → attempt_on p plan m a reads v ≡ steal_or_fail a v reads taken
 attempt_taken p plan m a reads v taken passes is =
     let best = best_of (before p.steal) (m v).queue in
-    ap (λ b. cond b (steal_or_fail a v reads best) (entry.Fail a v reads)) passes
-    ∙ (steal-entry a v reads best ∙ ap (entry_with a v reads) (sym is))
+    ap (λ b. steal_or_fail a v reads (moves_with (cond b best None) (λ t. t.id ∷ []))) passes
+    ∙ ap (steal_or_fail a v reads) (sym is)
+
+pub attempt_best : (p : Meaning) (plan : Plan) (m : Cores) (a : ℕ) (reads : List ℕ) (v : ℕ) (taken : Option ℕ)
+    → holds (pair_values (present_values plan m a) (present_values plan m v)) p.filter ≡ true
+    → taken ≡ option_map (λ t. t.id) (best_of (before p.steal) (m v).queue)
+    → attempt_on p plan m a reads v ≡ steal_or_fail a v reads (option_to_list taken)
+attempt_best p plan m a reads v taken passes is =
+    attempt_taken p plan m a reads v (option_to_list taken) passes (ap option_to_list is ∙ alone (best_of (before p.steal) (m v).queue))
+  where
+    alone : (best : Option Task) → option_to_list (option_map (λ t. t.id) best) ≡ moves_with best (λ t. t.id ∷ [])
+    alone None = refl
+    alone (Some t) = refl
 
 -- by two orders that agree on these items the best is the same, and one of them
 best_same : {X : Type 0} (first second : X → X → Bool) (P : X → Type 0) → ((x y : X) → P x → P y → first x y ≡ second x y)
@@ -108,6 +114,33 @@ unfolding choice_of candidates_of
 choice_there p n f a =
     (best_same (prefers p f a) (prefers p f a) (λ c. c < n) (λ x y first second. refl) (filter (is_candidate p f a) (range_with_len 0 n))
     (filter_keeps (is_candidate p f a) (λ c. c < n) (range_with_len 0 n) (numbers_below n 0 n (omega arith)))).1
+
+-- and a core is never its own choice
+filter_passing : {X : Type 0} (test : X → Bool) (P : X → Type 0) (xs : List X) → AllByRecursion P xs → AllByRecursion (λ x. P x × (test x ≡ true)) (filter test xs)
+filter_passing test P [] are = tt
+filter_passing test P (x ∷ xs) are =
+    let rest = filter_passing test P xs are.1 in
+    elim (test x) as (λ b. test x ≡ b → AllByRecursion (λ y. P y × (test y ≡ true)) (cond b (x ∷ filter test xs) (filter test xs))) [
+      | true ↦ λ e. ((are.0, e), rest)
+      | false ↦ λ e. rest
+    ] refl
+
+candidate_other : (p : Meaning) (f : ℕ → CoreValues) (a v : ℕ) → is_candidate p f a v ≡ true → a ≢ v
+candidate_other p f a v is = λ same.
+    let own : eqb a v ≡ true = grind (arith, nat_tests) in
+    let no : is_candidate p f a v ≡ false = ap (λ b. not b && holds (pair_values (f a) (f v)) p.filter) own in
+    let never : true ≡ false = sym is ∙ no in absurd (cc)
+
+pub choice_other : (p : Meaning) (n : ℕ) (f : ℕ → CoreValues) (a : ℕ) → IfSome (choice_of p n f a) (λ v. (v < n) × (a ≢ v))
+unfolding choice_of candidates_of
+choice_other p n f a = found (best_of (prefers p f a) (filter (is_candidate p f a) (range_with_len 0 n)))
+    (best_same (prefers p f a) (prefers p f a) (λ c. (c < n) × (is_candidate p f a c ≡ true)) (λ x y first second. refl)
+    (filter (is_candidate p f a) (range_with_len 0 n))
+    (filter_passing (is_candidate p f a) (λ c. c < n) (range_with_len 0 n) (numbers_below n 0 n (omega arith)))).1
+  where
+    found : (o : Option ℕ) → IfSome o (λ c. (c < n) × (is_candidate p f a c ≡ true)) → IfSome o (λ v. (v < n) × (a ≢ v))
+    found None is = tt
+    found (Some v) is = (is.0, candidate_other p f a v is.1)
 
 pub target_there : (p : Meaning) (n : ℕ) (f : ℕ → CoreValues) (a : ℕ) → a < n → IfSome (target_of p n f a) (λ v. v < n)
 unfolding target_of

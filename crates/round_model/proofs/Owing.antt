@@ -91,7 +91,7 @@ module _ (p : Meaning) (plan : Plan) where
   round_open h (entry.Enter thread by at reads) a is legal = legal.begun
   round_open h (entry.Wake thread by at reads) a is legal = legal.begun
   round_open h (entry.Work by what) a is legal = legal.begun
-  round_open h (entry.Steal by from thread reads) a is legal = legal.begun
+  round_open h (entry.Steal by from threads reads) a is legal = legal.begun
   round_open h (entry.Fail by from reads) a is legal = legal.begun
   round_open h (entry.Pass by reads) a is legal = legal.begun
 
@@ -103,7 +103,7 @@ module _ (p : Meaning) (plan : Plan) where
   others_blocked round m fits (entry.Enter thread by at reads) a c is other = enter_leaves p plan fits round m thread by at reads c
   others_blocked round m fits (entry.Wake thread by at reads) a c is other = let same : by ≡ a = cc in wake_others p plan fits round m thread by at reads c (ap (λ k. eqb k c) same ∙ other)
   others_blocked round m fits (entry.Work by what) a c is other = let same : by ≡ a = cc in work_others p plan fits round m by what c (ap (λ k. eqb k c) same ∙ other)
-  others_blocked round m fits (entry.Steal by from thread reads) a c is other = steal_leaves p plan fits round m by from thread reads c
+  others_blocked round m fits (entry.Steal by from threads reads) a c is other = steal_leaves p plan fits round m by from threads reads c
   others_blocked round m fits (entry.Fail by from reads) a c is other = fail_leaves p plan fits round m by from reads c
   others_blocked round m fits (entry.Pass by reads) a c is other = pass_leaves p plan fits round m by reads c
 

@@ -62,7 +62,7 @@ work_is (entry.Work by what) c is =
     let test : eqb by c ≡ true = sym (and_one (eqb by c)) ∙ is in
     let same : by ≡ c = grind (arith, nat_tests) in
     (what, ap (λ (k : ℕ). entry.Work k what) same)
-work_is (entry.Steal by from thread reads) c is = absurd (never (by == c) is)
+work_is (entry.Steal by from threads reads) c is = absurd (never (by == c) is)
 work_is (entry.Fail by from reads) c is = absurd (never (by == c) is)
 work_is (entry.Pass by reads) c is = absurd (never (by == c) is)
 
@@ -71,7 +71,7 @@ same_round round (entry.Round number) inner = absurd (cc)
 same_round round (entry.Enter thread by at reads) inner = refl
 same_round round (entry.Wake thread by at reads) inner = refl
 same_round round (entry.Work by what) inner = refl
-same_round round (entry.Steal by from thread reads) inner = refl
+same_round round (entry.Steal by from threads reads) inner = refl
 same_round round (entry.Fail by from reads) inner = refl
 same_round round (entry.Pass by reads) inner = refl
 
@@ -231,9 +231,9 @@ module _ (p : Meaning) (plan : Plan) (fits : Fits p plan) where
     pays (entry.Enter thread by at reads) a is legal = let same : by ≡ a = cc in subst (Pays h (entry.Enter thread by at reads)) same (enter_pays thread by at reads legal)
     pays (entry.Wake thread by at reads) a is legal = let same : by ≡ a = cc in subst (Pays h (entry.Wake thread by at reads)) same (wake_pays thread by at reads legal)
     pays (entry.Work by what) a is legal = let same : by ≡ a = cc in subst (Pays h (entry.Work by what)) same (work_pays by what legal)
-    pays (entry.Steal by from thread reads) a is legal =
+    pays (entry.Steal by from threads reads) a is legal =
         let same : by ≡ a = cc in
-        subst (Pays h (entry.Steal by from thread reads)) same (attempt_pays (entry.Steal by from thread reads) by refl refl refl (λ id. refl) legal.row.worked legal.row.first)
+        subst (Pays h (entry.Steal by from threads reads)) same (attempt_pays (entry.Steal by from threads reads) by refl refl refl (λ id. refl) legal.row.worked legal.row.first)
     pays (entry.Fail by from reads) a is legal =
         let same : by ≡ a = cc in
         subst (Pays h (entry.Fail by from reads)) same (attempt_pays (entry.Fail by from reads) by refl refl refl (λ id. refl) legal.row.worked legal.row.first)

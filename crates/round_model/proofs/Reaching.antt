@@ -1,15 +1,11 @@
 -- The cores that the entries of a legal history touch are there.
 use Rattle.std.proofs.Common.{◌≡◌, ℕ, ◌<◌, ◌||◌, eqb, Bool, true, false, cond, List, [], ◌∷◌, All, IfSome, Option, Some, None, refl, sym, subst, arith}
 use Rattle.std.proofs.lemmas.Bool.Decides.{nat_tests}
-use Rattle.sched_base.specs.declared.task.Task.{Task}
 use Rattle.policy_tree.specs.Meaning.{Meaning}
-use Rattle.policy_eval.specs.Orders.{best_of}
-use Rattle.policy_eval.specs.Sights.{pair_values}
-use Rattle.policy_eval.specs.Values.{holds}
 use Rattle.round_model.specs.declared.entry.Entry.{Entry}
 use Rattle.round_model.specs.declared.entry.Entry.TheVariants as entry
 use Rattle.round_model.specs.declared.plan.Plan.{Plan}
-use Rattle.round_model.specs.Attempts.{attempt_of, attempt_with, present_values, steal_or_fail}
+use Rattle.round_model.specs.Attempts.{attempt_of, attempt_with, moves_of, steal_or_fail}
 use Rattle.round_model.specs.Choices.{choice_of}
 use Rattle.round_model.specs.Cores.{Cores}
 use Rattle.round_model.specs.Entries.{touches}
@@ -17,7 +13,6 @@ use Rattle.round_model.specs.Legal.{Legal, LegalNext}
 use Rattle.round_model.specs.Reads.{read_values}
 use Rattle.round_model.specs.Rows.{Row}
 use Rattle.round_model.specs.Scenes.{scene_of}
-use Rattle.round_model.specs.Work.{before}
 use Rattle.round_model.proofs.Histories.{legal_induction}
 use Rattle.round_model.proofs.Keeping.{All-append, All-one}
 use Rattle.round_model.proofs.Outcomes.{choice_there}
@@ -37,13 +32,11 @@ one_of_two a b c n is first second = by_first (eqb a c) refl is
 failed_at : (p : Meaning) (plan : Plan) (m : Cores) (a from : ℕ) (reads : List ℕ) (chosen : Option ℕ)
     → entry.Fail a from reads ≡ attempt_with p plan m a reads chosen → IfSome chosen (λ v. v < plan.cores) → from < plan.cores
 failed_at p plan m a from reads None is there = absurd (cc)
-failed_at p plan m a from reads (Some v) is there =
-    by_filter (holds (pair_values (present_values plan m a) (present_values plan m v)) p.filter) (best_of (before p.steal) (m v).queue) is
+failed_at p plan m a from reads (Some v) is there = by_moves (moves_of p plan a v None (m a) (m v)) is
   where
-    by_filter : (b : Bool) (taken : Option Task) → entry.Fail a from reads ≡ cond b (steal_or_fail a v reads taken) (entry.Fail a v reads) → from < plan.cores
-    by_filter true None is = let same : from ≡ v = cc in subst (λ c. c < plan.cores) (sym same) there
-    by_filter true (Some t) is = absurd (cc)
-    by_filter false taken is = let same : from ≡ v = cc in subst (λ c. c < plan.cores) (sym same) there
+    by_moves : (moves : List ℕ) → entry.Fail a from reads ≡ steal_or_fail a v reads moves → from < plan.cores
+    by_moves [] is = let same : from ≡ v = cc in subst (λ c. c < plan.cores) (sym same) there
+    by_moves (id ∷ ids) is = absurd (cc)
 
 fail_there : (p : Meaning) (plan : Plan) (h : List Entry) (by from : ℕ) (reads : List ℕ) → LegalNext p plan h (entry.Fail by from reads) → from < plan.cores
 unfolding LegalNext Row attempt_of
@@ -58,8 +51,8 @@ touched_next p plan h (entry.Enter thread by at reads) legal c is = one_of at c 
 touched_next p plan h (entry.Wake thread by at reads) legal c is =
     let there = are_there p plan h (entry.Wake thread by at reads) legal in one_of_two by at c plan.cores is there.0 there.1
 touched_next p plan h (entry.Work by what) legal c is = one_of by c plan.cores is (are_there p plan h (entry.Work by what) legal)
-touched_next p plan h (entry.Steal by from thread reads) legal c is =
-    let there = are_there p plan h (entry.Steal by from thread reads) legal in one_of_two by from c plan.cores is there.0 there.1
+touched_next p plan h (entry.Steal by from threads reads) legal c is =
+    let there = are_there p plan h (entry.Steal by from threads reads) legal in one_of_two by from c plan.cores is there.0 there.1.0
 touched_next p plan h (entry.Fail by from reads) legal c is =
     one_of_two by from c plan.cores is (acts_there p plan h (entry.Fail by from reads) by refl legal) (fail_there p plan h by from reads legal)
 touched_next p plan h (entry.Pass by reads) legal c is = one_of by c plan.cores is (acts_there p plan h (entry.Pass by reads) by refl legal)

@@ -11,8 +11,6 @@ use Rattle.policy_eval.specs.Events.{outcomes_of}
 use Rattle.policy_eval.specs.Fitting.{IsTask}
 use Rattle.policy_eval.specs.Obligations.{MeetsHandlerObligations}
 use Rattle.policy_eval.specs.Orders.{best_of, better_of}
-use Rattle.policy_eval.specs.Sights.{pair_values}
-use Rattle.policy_eval.specs.Values.{holds}
 use Rattle.round_model.specs.declared.attempts.Attempt.{Attempt}
 use Rattle.round_model.specs.declared.attempts.Attempt.TheVariants as attempt
 use Rattle.round_model.specs.declared.entry.Did.{Did}
@@ -27,7 +25,7 @@ use Rattle.round_model.specs.declared.state.ModelCore.{ModelCore}
 use Rattle.round_model.specs.declared.turns.NextStep.{NextStep}
 use Rattle.round_model.specs.declared.turns.NextStep.TheVariants as next
 use Rattle.round_model.specs.After.{after, round_of}
-use Rattle.round_model.specs.Attempts.{attempt_of, attempt_with, present_values, steal_or_fail}
+use Rattle.round_model.specs.Attempts.{attempt_of, attempt_with, moves_of, steal_or_fail}
 use Rattle.round_model.specs.Bursts.{HasBurst, HaveBursts, LiesIn}
 use Rattle.round_model.specs.Choices.{choice_of, is_less, target_by, target_of}
 use Rattle.round_model.specs.Code.Kept.{Holds}
@@ -85,14 +83,13 @@ attempt_form : (p : Meaning) (plan : Plan) (m : Cores) (values : ℕ → CoreVal
 unfolding attempt_of
 attempt_form p plan m values a reads = by_choice (choice_of p plan.cores values a)
   where
-    by_filter : (v : ℕ) (b : Bool) (found : Option Task) → (x : Attempt) × (cond b (steal_or_fail a v reads found) (entry.Fail a v reads) ≡ entry_of_attempt a reads x)
-    by_filter v true None = (attempt.Fail v, refl)
-    by_filter v true (Some t) = (attempt.Steal v t.id, refl)
-    by_filter v false found = (attempt.Fail v, refl)
+    by_moves : (v : ℕ) (moves : List ℕ) → (x : Attempt) × (steal_or_fail a v reads moves ≡ entry_of_attempt a reads x)
+    by_moves v [] = (attempt.Fail v, refl)
+    by_moves v (id ∷ ids) = (attempt.Steal v (id ∷ ids), refl)
 
     by_choice : (choice : Option ℕ) → (x : Attempt) × (attempt_with p plan m a reads choice ≡ entry_of_attempt a reads x)
     by_choice None = (attempt.Pass, refl)
-    by_choice (Some v) = by_filter v (holds (pair_values (present_values plan m a) (present_values plan m v)) p.filter) (best_of (before p.steal) (m v).queue)
+    by_choice (Some v) = by_moves v (moves_of p plan a v None (m a) (m v))
 
 attempt_acts : (a : ℕ) (reads : List ℕ) (x : Attempt) → acting_core (entry_of_attempt a reads x) ≡ Some a
 attempt_acts a reads attempt.Pass = refl

@@ -20,12 +20,13 @@ use Rattle.round_model.specs.declared.state.Blocked.{Blocked}
 use Rattle.round_model.specs.declared.state.ModelCore.{ModelCore}
 use Rattle.round_model.specs.BoundsLaws.{named_count}
 use Rattle.round_model.specs.Code.Kept.{Holds}
-use Rattle.round_model.specs.Moves.{blocked_of, core_after_event, handed, is_blocked_task, is_task, queued_of, received, released, with_outcome, with_task}
+use Rattle.round_model.specs.Moves.{blocked_of, core_after_event, handed_all, is_blocked_task, received_all, released, taken_from, with_outcome, with_task}
 use Rattle.round_model.specs.Programs.{Meeting, blocking, burst_of, ending_now, meeting_of, place_after, tick, yielding}
 use Rattle.round_model.specs.Work.{after_meeting, after_unit, before, core_after_work, elected, elected_over, run_over, with_current, worked}
 use Rattle.round_model.proofs.BegunBounds.{counted}
 use Rattle.round_model.proofs.Counting.{Split, best_split, count_without}
 use Rattle.round_model.proofs.Keeping.{holds_put}
+use Rattle.round_model.proofs.Takings.{sum-taken}
 
 -- the one item of a list of one
 only_item : {X : Type 0} (xs : List X) → length xs ≡ 1 → (x : X) × (xs ≡ x ∷ [])
@@ -59,18 +60,18 @@ module _ (p : Meaning) (named : ℕ → Bool) where
   released_count id b core found =
       omega (arith, named_is named core, named_is named (released id core), count_without (blocked_name named) (is_blocked_task id) core.blocked b found)
 
-  pub handed_count : (id : ℕ) (t : Task) (core : ModelCore) → queued_of id core ≡ Some t → named_count named (handed id core) + counted (named t.id) ≡ named_count named core
-  unfolding handed
-  handed_count id t core found =
-      omega (arith, named_is named core, named_is named (handed id core), count_without (has_name named) (is_task id) core.queue t found)
+  -- the threads that a list of numbers takes, and those that come
+  pub handed_count : (ids : List ℕ) (core : ModelCore)
+      → named_count named (handed_all ids core) + count_by (has_name named) (taken_from ids core.queue).found ≡ named_count named core
+  unfolding handed_all
+  handed_count ids core =
+      omega (arith, named_is named core, named_is named (handed_all ids core), sum-taken (λ (x : Task). counted (named x.id)) ids core.queue)
 
-  pub received_count : (t : Task) (core : ModelCore) → named_count named (received t core) ≤ named_count named core + counted (named t.id)
-  unfolding received
-  received_count t core = put_count put.Queue 0 t core
-
-  pub holds_received : (t : Task) (core : ModelCore) → Holds p core → IsTask p t → Holds p (received t core)
-  unfolding received
-  holds_received t core holds fits = holds_put p put.Queue 0 t core holds fits
+  pub received_count : (tasks : List Task) (core : ModelCore)
+      → named_count named (received_all tasks core) ≤ named_count named core + count_by (has_name named) tasks
+  unfolding received_all
+  received_count tasks core =
+      omega (arith, named_is named core, named_is named (received_all tasks core), sum_by-append (λ (x : Task). counted (named x.id)) core.queue tasks)
 
   -- what a change makes of a core to which a thread comes that weighs so much
   pub record Gains (more : ℕ) (old new : ModelCore) : Type 0 where

@@ -1,6 +1,5 @@
 -- The state that a history leaves.
 use Rattle.std.specs.Prelude.{ℕ, ◌==◌, true, false, cond, List, [], ◌∷◌, Option, Some, None, fold}
-use Rattle.sched_base.specs.declared.task.Task.{Task}
 use Rattle.policy_tree.specs.Meaning.{Meaning}
 use Rattle.round_model.specs.declared.entry.Entry.{Entry}
 use Rattle.round_model.specs.declared.entry.Entry.TheVariants as entry
@@ -10,7 +9,7 @@ use Rattle.round_model.specs.declared.state.Blocked.{Blocked}
 use Rattle.round_model.specs.declared.state.ModelCore.{ModelCore}
 use Rattle.round_model.specs.Cores.{Cores, opening_state}
 use Rattle.round_model.specs.Entries.{touches}
-use Rattle.round_model.specs.Moves.{admitted, blocked_of, handed, queued_of, received, released}
+use Rattle.round_model.specs.Moves.{admitted, blocked_of, handed_all, received_all, released, taken_from}
 use Rattle.round_model.specs.Programs.{entering_task, planned_of}
 use Rattle.round_model.specs.Work.{core_after_work}
 
@@ -35,19 +34,19 @@ woken p by at c (Some b) core =
     let left = cond (by == c) (released b.task.id core) core in
     cond (at == c) (admitted p false b.task left) left
 
--- the core c of a Steal: the thread leaves the one's queue and comes to the end of the other's
-abbrev pub stolen : (by from c : ℕ) → Option Task → ModelCore → ModelCore
-stolen by from c None core = core
-stolen by from c (Some t) core =
-    let left = cond (from == c) (handed t.id core) core in cond (by == c) (received t left) left
+-- the core c of a Steal: what the victim's queue has of these threads leaves it, and comes to the end of the thief's
+abbrev pub stolen : (by from c : ℕ) → List ℕ → (victim core : ModelCore) → ModelCore
+stolen by from c threads victim core =
+    let left = cond (from == c) (handed_all threads core) core in
+    cond (by == c) (received_all (taken_from threads victim.queue).found left) left
 
 -- what the entry leaves of a core that it touches
 unfoldable pub effect : Meaning → Plan → ℕ → Entry → Cores → ℕ → ModelCore
 effect p plan round (entry.Enter thread by at reads) m c = entered p (planned_of plan thread) (m c)
 effect p plan round (entry.Wake thread by at reads) m c = woken p by at c (blocked_of thread (m by)) (m c)
 effect p plan round (entry.Work by what) m c = core_after_work p plan round (m c)
-effect p plan round (entry.Steal by from thread reads) m c =
-    stolen by from c (queued_of thread (m from)) (m c)
+effect p plan round (entry.Steal by from threads reads) m c =
+    stolen by from c threads (m from) (m c)
 effect p plan round e m c = m c
 
 -- the cores after one entry of that round: those that it doesn't touch stay

@@ -27,7 +27,7 @@ parts_of (entry.Round number) = record { kind = round; core = None; reads = [] }
 parts_of (entry.Enter thread by at reads) = record { kind = enter; core = Some by; reads = reads }
 parts_of (entry.Wake thread by at reads) = record { kind = wake; core = Some by; reads = reads }
 parts_of (entry.Work by what) = record { kind = work; core = Some by; reads = [] }
-parts_of (entry.Steal by from thread reads) = record { kind = steal; core = Some by; reads = reads }
+parts_of (entry.Steal by from threads reads) = record { kind = steal; core = Some by; reads = reads }
 parts_of (entry.Fail by from reads) = record { kind = fail; core = Some by; reads = reads }
 parts_of (entry.Pass by reads) = record { kind = pass; core = Some by; reads = reads }
 
@@ -52,7 +52,7 @@ acts c e = is_core c (acting_core e)
 unfoldable pub touches : ℕ → Entry → Bool
 touches c (entry.Enter thread by at reads) = at == c
 touches c (entry.Wake thread by at reads) = (by == c) || (at == c)
-touches c (entry.Steal by from thread reads) = (by == c) || (from == c)
+touches c (entry.Steal by from threads reads) = (by == c) || (from == c)
 touches c (entry.Fail by from reads) = (by == c) || (from == c)
 touches c e = is_core c (acting_core e)
 
@@ -73,3 +73,8 @@ is_ended id (did.Ended thread) = thread == id
 abbrev pub ends : ℕ → Entry → Bool
 ends id (entry.Work by what) = is_ended id what
 ends id e = false
+
+-- the threads that are moved by the entry, in the order of their moves
+abbrev pub threads_moved : Entry → List ℕ
+threads_moved (entry.Steal by from threads reads) = threads
+threads_moved e = []

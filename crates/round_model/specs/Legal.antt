@@ -58,8 +58,8 @@ LegalNext p plan history (entry.Enter thread by at reads) =
 LegalNext p plan history (entry.Wake thread by at reads) =
     LegalInRound p plan history by (entry.Wake thread by at reads)
 LegalNext p plan history (entry.Work by did) = LegalInRound p plan history by (entry.Work by did)
-LegalNext p plan history (entry.Steal by from thread reads) =
-    LegalInRound p plan history by (entry.Steal by from thread reads)
+LegalNext p plan history (entry.Steal by from threads reads) =
+    LegalInRound p plan history by (entry.Steal by from threads reads)
 LegalNext p plan history (entry.Fail by from reads) =
     LegalInRound p plan history by (entry.Fail by from reads)
 LegalNext p plan history (entry.Pass by reads) = LegalInRound p plan history by (entry.Pass by reads)

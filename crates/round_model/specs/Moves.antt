@@ -1,5 +1,5 @@
 -- How threads come to a core and leave it.
-use Rattle.std.specs.Prelude.{ℕ, ◌==◌, Bool, cond, List, [], ◌∷◌, ◌++◌, find, fold, Option, Some}
+use Rattle.std.specs.Prelude.{ℕ, ◌==◌, Bool, cond, List, [], ◌∷◌, ◌++◌, find, fold, option_to_list, Option, Some}
 use Rattle.sched_base.specs.declared.task.Task.{Task}
 use Rattle.policy_tree.specs.declared.typed.Event.{Event}
 use Rattle.policy_tree.specs.declared.typed.Event.TheVariants as event
@@ -61,3 +61,23 @@ handed id core = record core { queue = without_first (is_task id) core.queue }
 -- the core with the thread at the end of its queue. No handler runs
 unfoldable pub received : Task → ModelCore → ModelCore
 received t core = record core { queue = core.queue ++ t ∷ [] }
+
+-- the queued tasks that a list of numbers names, in the order of the numbers, and the queue without them
+pub record Taken : Type 0 where
+  pub found : List Task
+  pub left : List Task
+
+-- What is named and not queued is passed over. Of equal numbers the earliest task is found
+abbrev pub taken_from : List ℕ → List Task → Taken
+taken_from [] queue = record { found = []; left = queue }
+taken_from (id ∷ ids) queue =
+    let rest = taken_from ids (without_first (is_task id) queue) in
+    record { found = option_to_list (find (is_task id) queue) ++ rest.found; left = rest.left }
+
+-- the core without the queued threads of these numbers
+unfoldable pub handed_all : List ℕ → ModelCore → ModelCore
+handed_all ids core = record core { queue = (taken_from ids core.queue).left }
+
+-- the core with these threads at the end of its queue, in this order. No handler runs
+unfoldable pub received_all : List Task → ModelCore → ModelCore
+received_all tasks core = record core { queue = core.queue ++ tasks }

@@ -61,7 +61,7 @@ Row p plan s (entry.Round number) = ⊥
 Row p plan s (entry.Enter thread by at reads) = LegalEnter p plan s thread by at reads
 Row p plan s (entry.Wake thread by at reads) = LegalWake p plan s thread by at reads
 Row p plan s (entry.Work by did) = LegalWork p plan s by did
-Row p plan s (entry.Steal by from thread reads) =
-    LegalAttempt p plan s by reads (entry.Steal by from thread reads)
+Row p plan s (entry.Steal by from threads reads) =
+    LegalAttempt p plan s by reads (entry.Steal by from threads reads)
 Row p plan s (entry.Fail by from reads) = LegalAttempt p plan s by reads (entry.Fail by from reads)
 Row p plan s (entry.Pass by reads) = LegalAttempt p plan s by reads (entry.Pass by reads)

@@ -8,6 +8,7 @@ use Rattle.policy_eval.specs.Obligations.{MeetsObligations}
 use Rattle.round_model.specs.declared.entry.Entry.{Entry}
 use Rattle.round_model.specs.declared.plan.Plan.{Plan}
 use Rattle.round_model.specs.After.{after}
+use Rattle.round_model.specs.Entries.{threads_moved}
 use Rattle.round_model.specs.Kinds.{is_steal}
 use Rattle.round_model.specs.Fits.{Fits}
 use Rattle.round_model.specs.Legal.{Legal}
@@ -38,10 +39,10 @@ module _ (p : Meaning) (plan : Plan) (history : List Entry) where
   BadRoundsSteal = (number : ℕ) → IsBad p plan history number → IsStill history number number →
       StealsIn number
 
-  -- each steal lowers the spread by at least 2
+  -- each steal lowers the spread by at least 2 for each thread that it moves
   abbrev pub StealsNarrow : Type 0
   StealsNarrow = (k : ℕ) (e : Entry) → get_elem? history k ≡ some e → IsTrue (is_steal e) →
-      spread_at (suc k) + 2 ≤ spread_at k
+      spread_at (suc k) + 2 * length (threads_moved e) ≤ spread_at k
 
   -- apart from steals and the entries that disturb a round, none changes a core's thread count or load
   abbrev pub StillKeepsLoads : Type 0

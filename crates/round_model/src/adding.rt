@@ -16,7 +16,7 @@ ghost use Rattle.round_model.specs.Code.Additions.{IsAdded, IsBegun, IsNoted};
 ghost use Rattle.round_model.specs.Code.Outcomes.{IsCountable};
 ghost use Rattle.round_model.specs.Code.Units.{IsSmallCore};
 
-use crate::changes::{enter, steal, wake, work};
+use crate::changes::{enter, wake, work};
 use crate::directory::Directory;
 use crate::entry::{Did, Entry};
 use crate::memory::ModelMemory;
@@ -25,6 +25,7 @@ use crate::past::Past;
 use crate::plan::Plan;
 use crate::rounds::{arrivals_of, clear_turns, keep_newest};
 use crate::state::State;
+use crate::stealing::steal;
 use policy_tree::Policy;
 use sched_base::{CoreId, MAX_CORES, MAX_ENTRIES, MAX_ROUNDS, MAX_THREADS};
 use std::alloc::Global;
@@ -142,9 +143,9 @@ fn change(
         Entry::Steal {
             by,
             from,
-            thread,
+            threads,
             ..
-        } => steal(alloc, state, by, from, thread),
+        } => steal(alloc, state, by, from, threads),
         Entry::Round { .. } | Entry::Fail { .. } | Entry::Pass { .. } => Ok(()),
     }
 }

@@ -1,16 +1,17 @@
 //! The outcome of an attempt.
 
-ghost use Rattle.std.specs.Prelude.{◌≡◌, ◌↔◌, ◌<◌, ℕ, All, IfSome, IsTrue, List, Some, length, option_map, slice_get};
+ghost use Rattle.std.specs.Prelude.{◌≡◌, ◌↔◌, ◌<◌, ◌∷◌, [], ℕ, All, IfSome, IsTrue, List, Some, length, slice_get};
 ghost use Rattle.policy_tree.specs.Meaning.{Meaning, meaning_of, order_tree};
 ghost use Rattle.policy_eval.specs.Fitting.{CoreFits};
 ghost use Rattle.policy_eval.specs.Orders.{best_of};
 ghost use Rattle.policy_eval.specs.Resolved.{IsResolved};
-ghost use Rattle.round_model.specs.Attempts.{attempt_on, attempt_with, present_values};
+ghost use Rattle.round_model.specs.Attempts.{attempt_on as attempt_by, attempt_with, moves_with, present_values};
+ghost use Rattle.round_model.specs.Attempts.{steal_or_fail};
 ghost use Rattle.round_model.specs.Bounds.{CoreInBounds};
 ghost use Rattle.round_model.specs.Choices.{may_steal as may_steal_by};
 ghost use Rattle.round_model.specs.Cores.{Cores, listed};
 ghost use Rattle.round_model.specs.Fits.{Fits};
-ghost use Rattle.round_model.specs.Code.Outcomes.{IsCountable, entry_of_attempt, entry_with};
+ghost use Rattle.round_model.specs.Code.Outcomes.{IsCountable, entry_of_attempt};
 ghost use Rattle.round_model.specs.Work.{before};
 ghost use Rattle.round_model.specs.declared.state.ModelCore.{ModelCore};
 
@@ -20,7 +21,7 @@ use crate::plan::Plan;
 use crate::state::State;
 use policy_eval::CoreValues;
 use policy_tree::Policy;
-use sched_base::{CoreId, ThreadId};
+use sched_base::{CoreId, Stolen};
 
 /// What comes of an attempt.
 #[derive(Clone, Copy, PartialEq, Eq)]
@@ -29,8 +30,8 @@ pub(crate) enum Attempt {
     Pass,
     /// Nothing is taken of the core that was chosen.
     Fail(CoreId),
-    /// The thread is taken of that core.
-    Steal(CoreId, ThreadId),
+    /// These threads are taken of that core, at least one.
+    Steal(CoreId, Stolen),
 }
 
 impl Attempt {
@@ -60,33 +61,36 @@ pub(crate) fn outcome(
 {
     match chosen {
         None => Attempt::Pass,
-        Some(victim) => match stealable(policy, plan, state, core, victim) {
-            None => Attempt::Fail(victim),
-            Some(thread) => Attempt::Steal(victim, thread),
-        },
+        Some(victim) => attempt_on(victim, stealable(policy, plan, state, core, victim)),
     }
 }
 
-/// The thread that the core may take of the victim: the best of its queue, where the filter holds of both.
-fn stealable(
-    policy: &Policy,
-    plan: &Plan,
-    state: &State,
-    core: CoreId,
-    victim: CoreId,
-) -> Option<ThreadId>
+/// What comes of an attempt on that core that moves these threads.
+fn attempt_on(victim: CoreId, threads: Stolen) -> Attempt
+    ensures { (core : ℕ) (reads : List ℕ) →
+        steal_or_fail core victim reads threads ≡ entry_of_attempt core reads result }
+{
+    if threads.is_empty() {
+        Attempt::Fail(victim)
+    } else {
+        Attempt::Steal(victim, threads)
+    }
+}
+
+/// The threads that the core may take of the victim: the best of its queue, where the filter holds of both.
+fn stealable(policy: &Policy, plan: &Plan, state: &State, core: CoreId, victim: CoreId) -> Stolen
     requires fits { Fits (meaning_of policy.now) plan.now }
     requires cores { length state.now ≡ plan.now.cores }
     requires bounds { All (CoreInBounds (meaning_of policy.now)) state.now }
     requires core { core < plan.now.cores }
     requires victim { victim < plan.now.cores }
     ensures { (m : Cores) (reads : List ℕ) → state.now ≡ listed plan.now.cores m →
-        attempt_on (meaning_of policy.now) plan.now m core reads victim ≡ entry_with core victim reads result }
+        attempt_by (meaning_of policy.now) plan.now m core reads victim ≡ steal_or_fail core victim reads result }
 {
     if filter_holds(policy, plan, state, core, victim) {
         best_queued(policy, state, victim)
     } else {
-        None
+        Stolen::empty()
     }
 }
 
@@ -105,18 +109,18 @@ fn filter_holds(policy: &Policy, plan: &Plan, state: &State, core: CoreId, victi
     may_steal(policy, &own, &other)
 }
 
-/// The number of the thread in the core's queue that the steal keys take.
-fn best_queued(policy: &Policy, state: &State, core: CoreId) -> Option<ThreadId>
+/// The thread in the core's queue that the steal keys take, alone.
+fn best_queued(policy: &Policy, state: &State, core: CoreId) -> Stolen
     requires policy { IsResolved (meaning_of policy.now) }
     requires bounds { All (CoreInBounds (meaning_of policy.now)) state.now }
     requires core { core < length state.now }
     ensures { (x : ModelCore) → slice_get state.now core ≡ Some x →
-        result ≡ option_map (λ t. t.id) (best_of (before (order_tree policy.now.steal)) x.queue) }
+        result ≡ moves_with (best_of (before (order_tree policy.now.steal)) x.queue) (λ t. t.id ∷ []) }
 {
     let queue = &state.get(core).queue;
     match best_place(&policy.steal, queue.as_slice()) {
-        None => None,
-        Some(at) => Some(queue.get(at).id),
+        None => Stolen::empty(),
+        Some(at) => Stolen::of(queue.get(at).id),
     }
 }
 

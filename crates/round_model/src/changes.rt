@@ -11,7 +11,7 @@ ghost use Rattle.round_model.specs.After.{moved};
 ghost use Rattle.round_model.specs.Bounds.{CoreInBounds};
 ghost use Rattle.round_model.specs.Cores.{Cores, listed};
 ghost use Rattle.round_model.specs.Fits.{Fits};
-ghost use Rattle.round_model.specs.Code.Kept.{Holds, IsKept};
+ghost use Rattle.round_model.specs.Code.Kept.{IsKept};
 ghost use Rattle.round_model.specs.Code.Lists.{Lists};
 ghost use Rattle.round_model.specs.Programs.{entering_task as task_entering, starting_attrs as attrs_at_start};
 ghost use Rattle.round_model.specs.Code.Units.{IsSmallCore};
@@ -19,7 +19,7 @@ ghost use Rattle.round_model.specs.Work.{IsOutcomeOfWork};
 
 use crate::directory::{Directory, planned};
 use crate::memory::ModelMemory;
-use crate::moves::{admit, blocked_task, hand_over, queued_task, receive, release, take_core};
+use crate::moves::{admit, blocked_task, release, take_core};
 use crate::plan::{Plan, Planned};
 use crate::state::State;
 use crate::unit::unit_of;
@@ -120,33 +120,6 @@ pub(crate) fn work(
     let done = unit.run(&mut core);
     let _idle = state.replace(by, core);
     done
-}
-
-/// The earliest queued thread of that number leaves the core `from` and comes to the core `by`.
-pub(crate) fn steal(
-    alloc: Global,
-    state: &mut State,
-    by: CoreId,
-    from: CoreId,
-    thread: ThreadId,
-) -> Result<(), ModelMemory>
-    requires room { All IsSmallCore state.old }
-    requires by { by < length state.old }
-    requires from { from < length state.old }
-    ensures ok { OnOk result ((n : ℕ) (m : Cores) (p : Meaning) (plan : Plan) (round : ℕ) (reads : List ℕ) →
-        state.old ≡ listed n m → by < n → from < n →
-        state.new ≡ listed n (moved p plan round (entry.Steal by from thread reads) m)) }
-    ensures kept { OnOk result ((p : Meaning) → All (Holds p) state.old → IsKept p 0 0 state.old state.new) }
-    ensures err { OnErr result (state.new ≡ state.old) }
-{
-    match queued_task(state.get(from), thread) {
-        None => Ok(()),
-        Some(task) => {
-            receive(alloc, state, by, task)?;
-            hand_over(alloc, state, from, thread);
-            Ok(())
-        }
-    }
 }
 
 /// The thread as it enters.

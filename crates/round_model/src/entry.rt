@@ -3,7 +3,7 @@
 ghost use Rattle.std.specs.Prelude.{◌≡◌};
 
 use lists::Items;
-use sched_base::{CoreId, Reads, ThreadId};
+use sched_base::{CoreId, Reads, Stolen, ThreadId};
 
 /// The entries in the order of their positions, from 0.
 pub type History = Items<Entry>;
@@ -49,11 +49,11 @@ pub enum Entry {
         by: CoreId,
         did: Did,
     },
-    /// A core takes a queued thread of another.
+    /// A core takes queued threads of another, in the order of their moves.
     Steal {
         by: CoreId,
         from: CoreId,
-        thread: ThreadId,
+        threads: Stolen,
         reads: Reads,
     },
     /// A core chose another, and takes nothing of it.
@@ -70,10 +70,27 @@ pub enum Entry {
 }
 
 impl Entry {
+    ghost use Rattle.round_model.specs.Attempts.{steal_or_fail as steals_or_fails};
     ghost use Rattle.round_model.specs.Entries.{acting_core as core_that_acts, acts as acts_in, reads_of};
     ghost use Rattle.round_model.specs.Entries.{touches as touches_core};
     ghost use Rattle.round_model.specs.Kinds.{is_attempt as makes_attempt, is_round as begins_round};
     ghost use Rattle.round_model.specs.Kinds.{is_work as runs_unit};
+
+    /// The entry of the core `by` for an attempt on the core `from` that moves these threads: a fail where there is none.
+    pub fn steal_or_fail(by: CoreId, from: CoreId, threads: Stolen, reads: Reads) -> Entry
+        ensures { result ≡ steals_or_fails by from reads threads }
+    {
+        if threads.is_empty() {
+            Entry::Fail { by, from, reads }
+        } else {
+            Entry::Steal {
+                by,
+                from,
+                threads,
+                reads,
+            }
+        }
+    }
 
     /// The core that acts in the entry, `None` where a round begins.
     pub fn acting_core(&self) -> Option<CoreId>

@@ -60,9 +60,9 @@ fn is_legal(policy: &Policy, plan: &Plan, past: &Past, entry: &Entry) -> bool
         Entry::Steal {
             by,
             from,
-            thread,
+            threads,
             reads,
-        } => may_attempt(policy, plan, past, by, reads, Attempt::Steal(from, thread)),
+        } => may_attempt(policy, plan, past, by, reads, Attempt::Steal(from, threads)),
         Entry::Fail { by, from, reads } => {
             may_attempt(policy, plan, past, by, reads, Attempt::Fail(from))
         }

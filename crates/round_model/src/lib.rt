@@ -23,6 +23,7 @@ mod progress;
 mod rounds;
 pub mod serial;
 pub mod state;
+mod stealing;
 pub mod turns;
 mod unit;
 pub mod windows;

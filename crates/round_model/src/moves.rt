@@ -10,8 +10,7 @@ ghost use Rattle.round_model.specs.Bounds.{CoreInBounds};
 ghost use Rattle.round_model.specs.Cores.{Cores, listed};
 ghost use Rattle.round_model.specs.declared.state.ModelCore.{ModelCore};
 ghost use Rattle.round_model.specs.Code.Kept.{IsKept};
-ghost use Rattle.round_model.specs.Moves.{admitted, blocked_of, handed, is_blocked_task, is_task, queued_of, received};
-ghost use Rattle.round_model.specs.Moves.{released, with_task};
+ghost use Rattle.round_model.specs.Moves.{admitted, blocked_of, is_blocked_task, released, with_task};
 ghost use Rattle.round_model.specs.Code.Units.{IsSmallCore};
 ghost use Rattle.round_model.specs.Code.Updates.{IsFirstPlace, updated};
 
@@ -70,24 +69,6 @@ fn put(
     done
 }
 
-/// The task comes to the end of the core's queue. No handler runs.
-pub(crate) fn receive(
-    alloc: Global,
-    state: &mut State,
-    at: CoreId,
-    task: Task,
-) -> Result<(), ModelMemory>
-    requires room { All IsSmallCore state.old }
-    requires at { at < length state.old }
-    ensures ok { OnOk result ((n : ℕ) (m : Cores) → state.old ≡ listed n m → at < n →
-        state.new ≡ listed n (updated m at (received task (m at)))) }
-    ensures len { length state.new ≡ length state.old }
-    ensures kept { OnOk result ((p : Meaning) → IsTask p task → IsKept p 0 1 state.old state.new) }
-    ensures err { OnErr result (state.new ≡ state.old) }
-{
-    put(alloc, state, at, task, Put::Queue)
-}
-
 /// The blocked thread of that number leaves the core's blocked list.
 pub(crate) fn release(alloc: Global, state: &mut State, at: CoreId, thread: ThreadId)
     requires { at < length state.old }
@@ -101,34 +82,12 @@ pub(crate) fn release(alloc: Global, state: &mut State, at: CoreId, thread: Thre
     let _idle = state.replace(at, core);
 }
 
-/// The earliest queued thread of that number leaves the core's queue.
-pub(crate) fn hand_over(alloc: Global, state: &mut State, at: CoreId, thread: ThreadId)
-    requires { at < length state.old }
-    ensures state { (n : ℕ) (m : Cores) → state.old ≡ listed n m → at < n →
-        state.new ≡ listed n (updated m at (handed thread (m at))) }
-    ensures kept { (p : Meaning) (core : ModelCore) → slice_get state.old at ≡ Some core →
-        IsSome (queued_of thread core) → IsKept p 1 0 state.old state.new }
-{
-    let mut core = take_core(alloc, state, at);
-    take_queued(&mut core, thread);
-    let _idle = state.replace(at, core);
-}
-
 #[tactic(auto, unfolding(crate::specs::Moves::released))]
 fn take_blocked(core: &mut ModelCore, thread: ThreadId)
     ensures { core.new ≡ released thread core.old }
 {
     if let Some(place) = blocked_place(core, thread) {
         let _blocked = core.blocked.remove(place);
-    }
-}
-
-#[tactic(auto, unfolding(crate::specs::Moves::handed))]
-fn take_queued(core: &mut ModelCore, thread: ThreadId)
-    ensures { core.new ≡ handed thread core.old }
-{
-    if let Some(place) = queued_place(core, thread) {
-        let _task = core.queue.remove(place);
     }
 }
 
@@ -156,32 +115,12 @@ fn take_in(core: &mut ModelCore, task: Task, place: Put) -> Result<(), ModelMemo
     Ok(())
 }
 
-/// The earliest queued task of that number.
-pub(crate) fn queued_task(core: &ModelCore, thread: ThreadId) -> Option<Task>
-    ensures { result ≡ queued_of thread core.now }
-{
-    let place = queued_place(core, thread)?;
-    Some(*core.queue.get(place))
-}
-
 /// The earliest blocked task of that number.
 pub(crate) fn blocked_task(core: &ModelCore, thread: ThreadId) -> Option<Task>
     ensures { result ≡ option_map (λ b. b.task) (blocked_of thread core.now) }
 {
     let place = blocked_place(core, thread)?;
     Some(core.blocked.get(place).task)
-}
-
-/// The place in the queue of the earliest task of that number.
-fn queued_place(core: &ModelCore, thread: ThreadId) -> Option<u32>
-    ensures { IsFirstPlace (is_task thread) core.now.queue result }
-{
-    for at in 0..core.queue.len() {
-        if core.queue.get(at).id == thread {
-            return Some(at);
-        }
-    }
-    None
 }
 
 /// The place in the blocked list of the earliest task of that number.

@@ -182,10 +182,10 @@ fn attempt_entry(policy: &Policy, plan: &Plan, past: &Past, core: CoreId, reads:
             from,
             reads,
         },
-        Attempt::Steal(from, thread) => Entry::Steal {
+        Attempt::Steal(from, threads) => Entry::Steal {
             by: core,
             from,
-            thread,
+            threads,
             reads,
         },
     }

@@ -6,7 +6,7 @@ use Rattle.policy_eval.specs.Sights.{core_values, event_values, pair_values, thr
 use Rattle.round_model.specs.After.{after_from, effect}
 use Rattle.round_model.specs.Cores.{opening_state}
 use Rattle.round_model.specs.Entries.{touches}
-use Rattle.round_model.specs.Moves.{core_after_event, handed, received, released}
+use Rattle.round_model.specs.Moves.{core_after_event, handed, handed_all, received, received_all, released}
 use Rattle.round_model.specs.Rounds.{IsStill}
 use Rattle.round_model.specs.Spread.{spread}
 use Rattle.round_model.specs.StillRounds.{spread_at}
@@ -26,11 +26,11 @@ use Rattle.model_tests.proofs.RoundRows.{eight_threads_rounds, stale_read_explai
 use Rattle.row_tests.specs.Rows.{EightThreadsReported, StaleReadReported, eight_threads_report, stale_read_report}
 
 stale_read_rounds : stale_read_report.rounds ≡ round_rows basic stale_read stale_read_history
-unfolding round_row spread touches effect after_from opening_state core_after_event handed received released worked holding_cases outcomes_of task_after_set pair_values core_values thread_values event_values
+unfolding round_row spread touches effect after_from opening_state core_after_event handed handed_all received received_all released worked holding_cases outcomes_of task_after_set pair_values core_values thread_values event_values
 stale_read_rounds = refl
 
 eight_threads_rows : eight_threads_report.rounds ≡ round_rows basic eight_threads eight_threads_history
-unfolding round_row spread touches effect after_from opening_state core_after_event handed received released worked holding_cases outcomes_of task_after_set pair_values core_values thread_values event_values
+unfolding round_row spread touches effect after_from opening_state core_after_event handed handed_all received received_all released worked holding_cases outcomes_of task_after_set pair_values core_values thread_values event_values
 eight_threads_rows = refl
 
 stale_read_totals : stale_read_report.totals ≡ totals_of stale_read_history stale_read_report.rounds
@@ -42,7 +42,7 @@ unfolding totals_of
 eight_threads_totals = refl
 
 -- where the first round isn't still, a stretch begins behind it
-behind_first : (h : List Entry) → ¬ IsStill h 1 1 → (first last : ℕ) → IsStillStretch h first last → 2 ≤ first
+pub behind_first : (h : List Entry) → ¬ IsStill h 1 1 → (first last : ℕ) → IsStillStretch h first last → 2 ≤ first
 behind_first h stirred first last is = by_order (cases_lt 1 first)
   where
     by_order : (1 < first) ⊎ (first ≤ 1) → 2 ≤ first
@@ -89,7 +89,7 @@ abbrev later_rounds : StillRow
 later_rounds = record { first = 2; last = 4; spread = 24; bad = 1 }
 
 later_spread : later_rounds.spread ≡ spread_at basic eight_threads eight_threads_history 17
-unfolding spread touches effect after_from opening_state core_after_event handed received released worked holding_cases outcomes_of task_after_set pair_values core_values thread_values event_values
+unfolding spread touches effect after_from opening_state core_after_event handed handed_all received received_all released worked holding_cases outcomes_of task_after_set pair_values core_values thread_values event_values
 later_spread = refl
 
 later_row : IsStillRow basic eight_threads eight_threads_history later_rounds

@@ -6,6 +6,7 @@ use model_tests::plans::two_cores;
 use model_tests::plays::play_of_two;
 use model_tests::steps::legal_length_of_two;
 use round_model::{Entry, History, ModelMemory, Played};
+use sched_base::Stolen;
 use std::alloc::Global;
 
 /// How many entries the round has with its steal.
@@ -19,16 +20,21 @@ const TAKES_THE_CURRENT: &[u8] =
 const TAKES_THE_WAITING: &[u8] =
     b"round 1\nenter 1 0 0 :\nenter 2 0 0 :\nwork 0 1 keep\npass 0 : 4 1\nwork 1 -\nsteal 1 0 2 : 5 6\n";
 
+/// The same round, whose core 1 takes both threads.
+const TAKES_BOTH: &[u8] =
+    b"round 1\nenter 1 0 0 :\nenter 2 0 0 :\nwork 0 1 keep\npass 0 : 4 1\nwork 1 -\nsteal 1 0 2 1 : 5 6\n";
+
 /// The same round, whose core 1 makes its attempt twice.
 const TAKES_IT_TWICE: &[u8] =
     b"round 1\nenter 1 0 0 :\nenter 2 0 0 :\nwork 0 1 keep\npass 0 : 4 1\nwork 1 -\nsteal 1 0 2 : 5 6\n\
     steal 1 0 2 : 5 6\n";
 
-/// The current thread isn't taken, the other one is, and there is one attempt a round.
+/// The current thread isn't taken, the other one is, alone, and there is one attempt a round.
 pub(crate) fn a_round_with_one_steal(alloc: Global) -> Result<bool, ModelMemory> {
     Ok(
         legal_in(alloc, TAKES_THE_CURRENT)? == Some(ENTRIES - 1)
             && legal_in(alloc, TAKES_THE_WAITING)? == Some(ENTRIES)
+            && legal_in(alloc, TAKES_BOTH)? == Some(ENTRIES - 1)
             && legal_in(alloc, TAKES_IT_TWICE)? == Some(ENTRIES),
     )
 }
@@ -65,15 +71,15 @@ fn has_one_steal(history: &History) -> bool {
     history.get(0).is_round() && attempt.is_attempt() && attempt.acts(0) && takes_the_other(last)
 }
 
-/// Whether core 1 takes thread 2 of core 0.
+/// Whether core 1 takes thread 2 of core 0, and no other.
 fn takes_the_other(entry: &Entry) -> bool {
-    matches!(
-        entry,
+    match entry {
         Entry::Steal {
             by: 1,
             from: 0,
-            thread: 2,
+            threads,
             ..
-        }
-    )
+        } => threads.is(Stolen::of(2)),
+        _ => false,
+    }
 }

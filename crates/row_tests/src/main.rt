@@ -1,5 +1,5 @@
-//! The worked rows of the model and of the report, played through the public calls, a line for each. The reports on two
-//! of the histories are contracts too.
+//! The worked rows of the model and of the reports, played through the public calls, a line for each. The reports on
+//! four of the histories are contracts too.
 #![tactic(auto)]
 
 mod bodies;
@@ -12,7 +12,9 @@ use crate::bodies::{
     spreads_of_the_eight_threads, windows_of_reads,
 };
 use crate::histories::{a_round_with_one_steal, serial_play_of_two_cores};
-use crate::reports::{a_failed_steal, a_put_that_fails, a_still_stretch, totals_alone};
+use crate::reports::{
+    a_core_that_waits, a_failed_steal, a_put_that_fails, a_still_stretch, totals_alone,
+};
 use std::alloc::AllocError;
 use std::io;
 
@@ -40,7 +42,8 @@ fn main(rt: HostRuntime) -> io::Result<()> {
     told(&rt, "a failed steal", a_failed_steal(alloc))?;
     told(&rt, "a still stretch", a_still_stretch(alloc))?;
     told(&rt, "a put that fails", a_put_that_fails(alloc))?;
-    told(&rt, "totals alone", totals_alone(alloc))
+    told(&rt, "totals alone", totals_alone(alloc))?;
+    told(&rt, "a core that waits", a_core_that_waits(alloc))
 }
 
 /// Prints whether a row came out as expected.

@@ -1,8 +1,11 @@
-//! The two worked reports as they are written.
+//! The worked reports as they are written.
 
 use lists::Items;
 use sched_io::{IoMemory, MemorySink};
-use sched_report::{FailRow, FullReport, RoundRow, StillRow, Totals, print_report, print_totals};
+use sched_report::{
+    CauseRow, FailRow, FullReport, RoundRow, StillRow, StretchRow, Totals, WasteReport,
+    print_report, print_totals, print_waste,
+};
 use std::alloc::{AllocError, Global};
 
 /// The report on three cores, two of which look at the first before either takes a thread of it.
@@ -108,4 +111,47 @@ pub(crate) fn totals_alone(alloc: Global) -> Result<bool, AllocError> {
     let report = stale_read(alloc)?;
     let text = b"rounds 1\nentries 9\nsteals 1\nfails 1\nbad 0\nwasted 0\n";
     Ok(print_totals(&mut out, &report.totals).is_ok() && out.bytes() == text.as_slice())
+}
+
+/// A report of a core that waits without a steal, of a failed steal that is explained and of one that isn't.
+fn waits_for_ever(alloc: Global) -> Result<WasteReport, AllocError> {
+    let rounds = [opens(1, 0, 0), opens(2, 2, 1), opens(3, 2, 1)];
+    let waits = StretchRow {
+        still: StillRow {
+            first: 2,
+            last: 3,
+            spread: 2,
+            bad: 2,
+        },
+        steals: 0,
+    };
+    let causes = [
+        CauseRow { at: 8, by: Some(7) },
+        CauseRow { at: 12, by: None },
+    ];
+    Ok(WasteReport {
+        rounds: Items::from_vec(Vec::from_slice(alloc, &rounds)?),
+        stretches: Items::from_vec(Vec::from_slice(alloc, &[waits])?),
+        causes: Items::from_vec(Vec::from_slice(alloc, &causes)?),
+        totals: Totals {
+            rounds: 3,
+            entries: 17,
+            steals: 0,
+            fails: 2,
+            bad: 2,
+            wasted: 2,
+        },
+    })
+}
+
+/// The report that tells of waste.
+pub(crate) fn a_core_that_waits(alloc: Global) -> Result<bool, AllocError> {
+    let mut out = sink(alloc, &[])?;
+    let waste = waits_for_ever(alloc)?;
+    let text = concat!(
+        "round 1 spread 0 idle 0\nround 2 spread 2 idle 1\nround 3 spread 2 idle 1\n",
+        "still 2 3 spread 2 bad 2 steals 0\nfail 8 by 7\nfail 12\n",
+        "rounds 3\nentries 17\nsteals 0\nfails 2\nbad 2\nwasted 2\n"
+    );
+    Ok(print_waste(&mut out, &waste).is_ok() && out.bytes() == text.as_bytes())
 }

@@ -18,6 +18,10 @@ use Rattle.run_queue.specs.Tasks.{IsSeenTask, before}
 use Rattle.run_queue.proofs.Counted.{contains_at, counted, counts, one_of, stands_at}
 use Rattle.run_queue.proofs.Places.{place_before, place_before-apart, place_before-less, place_before-more, pushed_cases, slice_get-remove}
 
+-- what stands for an item past the end of a heap
+abbrev pub no_item : Ranked
+no_item = record { node = 0; arrival = 0 }
+
 -- a cell of the line that has the node
 pub record HasCell (cells : List Cell) (node : ℕ) : Type 0 where
   pub place : ℕ

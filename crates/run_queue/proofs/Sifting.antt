@@ -217,7 +217,6 @@ module _ {X : Type 0} (ahead : X → X → Bool) (o : IsStrictWeakOrder ahead) w
   leads_first xs k c first not j child inside d = o.chain _ _ _ (first.other j child inside d) (not d)
 
 -- two items that were read, whatever stands for items past the end
-pub read_two : {X : Type 0} (test : X → X → Bool) (xs : List X) (i j : ℕ) (x y : X) (answer : Bool) → i < length xs → j < length xs → x ≡ get_or xs i x → y ≡ get_or xs j y
-    → test x y ≡ answer → (d : X) → test (get_or xs i d) (get_or xs j d) ≡ answer
-read_two test xs i j x y answer inside within is_x is_y is d =
-    ap₂ test (get_or_default xs i d x inside ∙ sym is_x) (get_or_default xs j d y within ∙ sym is_y) ∙ is
+pub read_two : {X : Type 0} (test : X → X → Bool) (xs : List X) (i j : ℕ) (e : X) (answer : Bool) → i < length xs → j < length xs
+    → test (get_or xs i e) (get_or xs j e) ≡ answer → (d : X) → test (get_or xs i d) (get_or xs j d) ≡ answer
+read_two test xs i j e answer inside within is d = ap₂ test (get_or_default xs i d e inside) (get_or_default xs j d e within) ∙ is

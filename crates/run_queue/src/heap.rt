@@ -68,10 +68,10 @@ fn mend(line: &Line, order: &Order, heap: &mut Vec<Ranked>, at: usize)
 }
 
 /// Where the item of that node stands.
-fn place_of(heap: &Vec<Ranked>, node: Index) -> usize
-    requires { HasItem heap.now.items node }
-    ensures inside { result < length heap.now.items }
-    ensures node { (d : Ranked) → (slice_index_or heap.now.items result d).node ≡ node }
+fn place_of(heap: &[Ranked], node: Index) -> usize
+    requires { HasItem heap.now node }
+    ensures inside { result < length heap.now }
+    ensures node { (d : Ranked) → (slice_index_or heap.now result d).node ≡ node }
 {
     for at in 0..heap.len() {
         if heap[at].node == node {

@@ -121,13 +121,22 @@ impl Queue {
         Some(task)
     }
 
-    /// The number of the best task by those keys, of equals the earliest. `None` where there is no task.
+    /// The best task by those keys, of equals the earliest. It stays queued. `None` where there is no task.
+    pub fn peek_for_steal(&self, order: &Order) -> Option<&Task>
+        requires { IsEvaluableOrder (order_tree order.now) }
+        ensures { option_map (λ t. t.now) result ≡ best_of (before (order_tree order.now)) self.now.tasks }
+    {
+        let spot = best_spot(&self.line, order)?;
+        Some(self.line.task(spot))
+    }
+
+    /// The number of that task.
     pub fn best_for_steal(&self, order: &Order) -> Option<ThreadId>
         requires { IsEvaluableOrder (order_tree order.now) }
         ensures { result ≡ option_map (λ t. t.id) (best_of (before (order_tree order.now)) self.now.tasks) }
     {
-        let spot = best_spot(&self.line, order)?;
-        Some(self.line.task(spot).id)
+        let best = self.peek_for_steal(order)?;
+        Some(best.id)
     }
 
     /// Takes out the earliest task of that number. `None` where there is none.

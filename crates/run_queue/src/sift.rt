@@ -50,17 +50,12 @@ pub(crate) fn sift_down(line: &Line, order: &Order, heap: &mut Vec<Ranked>, at: 
 }
 
 /// The parent of that place, if the item there is ahead of it.
-pub(crate) fn parent_behind(
-    line: &Line,
-    order: &Order,
-    heap: &Vec<Ranked>,
-    at: usize,
-) -> Option<usize>
+pub(crate) fn parent_behind(line: &Line, order: &Order, heap: &[Ranked], at: usize) -> Option<usize>
     requires scan { CanScan (order_tree order.now) (tasks_of line.now.cells) }
-    requires nodes { AllNodes line.now.cells heap.now.items }
-    requires inside { at < length heap.now.items }
-    ensures { MatchOption result (FollowsParent (ahead (order_tree order.now) line.now.cells) heap.now.items at)
-        (IsParentBehind (ahead (order_tree order.now) line.now.cells) heap.now.items at) }
+    requires nodes { AllNodes line.now.cells heap.now }
+    requires inside { at < length heap.now }
+    ensures { MatchOption result (FollowsParent (ahead (order_tree order.now) line.now.cells) heap.now at)
+        (IsParentBehind (ahead (order_tree order.now) line.now.cells) heap.now at) }
 {
     if at == 0 {
         return None;
@@ -73,12 +68,12 @@ pub(crate) fn parent_behind(
 }
 
 /// The first child of that place, if it is ahead of the item there.
-fn child_ahead(line: &Line, order: &Order, heap: &Vec<Ranked>, at: usize) -> Option<usize>
+fn child_ahead(line: &Line, order: &Order, heap: &[Ranked], at: usize) -> Option<usize>
     requires scan { CanScan (order_tree order.now) (tasks_of line.now.cells) }
-    requires nodes { AllNodes line.now.cells heap.now.items }
-    requires inside { at < length heap.now.items }
-    ensures { MatchOption result (LeadsChildren (ahead (order_tree order.now) line.now.cells) heap.now.items at)
-        (IsChildAhead (ahead (order_tree order.now) line.now.cells) heap.now.items at) }
+    requires nodes { AllNodes line.now.cells heap.now }
+    requires inside { at < length heap.now }
+    ensures { MatchOption result (LeadsChildren (ahead (order_tree order.now) line.now.cells) heap.now at)
+        (IsChildAhead (ahead (order_tree order.now) line.now.cells) heap.now at) }
 {
     let child = first_child(line, order, heap, at)?;
     if is_ahead(line, order, heap[child], heap[at]) {
@@ -88,12 +83,12 @@ fn child_ahead(line: &Line, order: &Order, heap: &Vec<Ranked>, at: usize) -> Opt
 }
 
 /// The child of that place that the other child isn't ahead of, if it has a child.
-fn first_child(line: &Line, order: &Order, heap: &Vec<Ranked>, at: usize) -> Option<usize>
+fn first_child(line: &Line, order: &Order, heap: &[Ranked], at: usize) -> Option<usize>
     requires scan { CanScan (order_tree order.now) (tasks_of line.now.cells) }
-    requires nodes { AllNodes line.now.cells heap.now.items }
-    requires inside { at < length heap.now.items }
-    ensures { MatchOption result (HasNoChild heap.now.items at)
-        (IsFirstChild (ahead (order_tree order.now) line.now.cells) heap.now.items at) }
+    requires nodes { AllNodes line.now.cells heap.now }
+    requires inside { at < length heap.now }
+    ensures { MatchOption result (HasNoChild heap.now at)
+        (IsFirstChild (ahead (order_tree order.now) line.now.cells) heap.now at) }
 {
     let left = 2 * at + 1;
     let right = left + 1;

@@ -1,3 +1,2 @@
 pub mod Joined
 pub mod Moments
-pub mod Orders

@@ -14,16 +14,16 @@ with_a_steal =
     entry.Round 1
     ∷ entry.Enter 1 0 0 []
     ∷ entry.Work 1 did.Nothing
-    ∷ entry.Steal 1 0 1 []
+    ∷ entry.Steal 1 0 (1 ∷ []) []
     ∷ entry.Pass 0 []
     ∷ entry.Round 2
     ∷ []
 
 abbrev pub first_log : List Logged
-first_log = logged 1 (entry.Enter 1 0 0 []) ∷ logged 3 (entry.Steal 1 0 1 []) ∷ logged 4 (entry.Pass 0 []) ∷ []
+first_log = logged 1 (entry.Enter 1 0 0 []) ∷ logged 3 (entry.Steal 1 0 (1 ∷ []) []) ∷ logged 4 (entry.Pass 0 []) ∷ []
 
 abbrev pub second_log : List Logged
-second_log = logged 2 (entry.Work 1 did.Nothing) ∷ logged 3 (entry.Steal 1 0 1 []) ∷ []
+second_log = logged 2 (entry.Work 1 did.Nothing) ∷ logged 3 (entry.Steal 1 0 (1 ∷ []) []) ∷ []
 
 abbrev pub rounds_log : List Logged
 rounds_log = logged 0 (entry.Round 1) ∷ logged 5 (entry.Round 2) ∷ []

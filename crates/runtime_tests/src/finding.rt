@@ -21,19 +21,6 @@ impl Finding {
             found => found,
         }
     }
-
-    /// The same of a check in that turn.
-    pub(crate) fn in_turn(self, turn: u32) -> Finding {
-        match self {
-            Finding::Not(fact) => Finding::NotIn(fact, turn),
-            found => found,
-        }
-    }
-
-    /// Whether all is as expected.
-    pub(crate) fn is_expected(self) -> bool {
-        matches!(self, Finding::Expected)
-    }
 }
 
 /// A fact, and whether it is so.

@@ -4,8 +4,8 @@ ghost use Rattle.std.specs.Prelude.{◌≤◌};
 ghost use Rattle.policy_tree.specs.Meaning.{meaning_of};
 ghost use Rattle.table_players.specs.Crowds.{IsTried};
 
+use crate::dice::rolled;
 use crate::finding::Finding;
-use crate::queues::rolled;
 use crate::rounds::{Steps, is_whole_and_legal, played};
 use policy_tree::Policy;
 use std::alloc::Global;

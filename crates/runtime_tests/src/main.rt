@@ -1,13 +1,13 @@
 //! Plays what a running core stands on through the public calls, and prints of each check whether it came out as
-//! expected: a pool, a queue, two cores, load words, merged logs, and the shared table with its players.
+//! expected: a pool, two cores, load words, merged logs, and the shared table with its players.
 #![tactic(auto)]
 
 mod cores;
+mod dice;
 mod finding;
 mod interleavings;
 mod merges;
 mod pools;
-mod queues;
 mod rounds;
 mod seat_threads;
 mod seats;
@@ -31,12 +31,6 @@ fn main(rt: HostRuntime) -> io::Result<()> {
 /// What stands below the shared table.
 fn below_the_table<R: Files + Print + Alloc>(rt: &R, alloc: Global) -> io::Result<()> {
     told(rt, "a pool of one node", pools::of_one_node(alloc))?;
-    told(
-        rt,
-        "a queue against a plain list",
-        queues::against_a_plain_list(alloc),
-    )?;
-    told(rt, "a queue that prefers", queues::that_prefers(alloc))?;
     words::at_their_edges(rt)?;
     told(
         rt,

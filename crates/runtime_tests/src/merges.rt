@@ -1,6 +1,6 @@
 //! Logs that are merged.
 
-ghost use Rattle.std.specs.Prelude.{◌≡◌, [], IfOk};
+ghost use Rattle.std.specs.Prelude.{◌≡◌, [], ◌∷◌, IfOk};
 ghost use Rattle.policy_tree.specs.Meaning.{meaning_of};
 ghost use Rattle.round_model.specs.declared.entry.Entry.TheVariants as model_entry;
 ghost use Rattle.model_tests.specs.Policies.{basic};
@@ -14,17 +14,17 @@ use history_merge::{HistoryMemory, merge};
 use model_tests::builders::basic_policy;
 use policy_tree::Policy;
 use round_model::{Did, Entry, Plan};
-use sched_base::Reads;
+use sched_base::{Reads, Stolen};
 use std::alloc::{AllocError, Global};
 
 /// Core 1 takes thread 1 of core 0.
 fn steal() -> Entry
-    ensures { result ≡ model_entry.Steal 1 0 1 [] }
+    ensures { result ≡ model_entry.Steal 1 0 (1 ∷ []) [] }
 {
     Entry::Steal {
         by: 1,
         from: 0,
-        thread: 1,
+        threads: Stolen::of(1),
         reads: Reads::empty(),
     }
 }

@@ -6,7 +6,7 @@ ghost use Rattle.table_players.specs.Crowds.{IsCrowd, IsTried};
 ghost use Rattle.table_players.specs.Games.{IsDealing, IsTable, PlayAll, table_in};
 ghost use Rattle.table_players.specs.Tables.{IsFree};
 
-use crate::queues::rolled;
+use crate::dice::rolled;
 use core_table::Seat;
 use policy_tree::Policy;
 use round_model::{History, Plan};

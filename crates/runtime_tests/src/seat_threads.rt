@@ -9,8 +9,8 @@ ghost use Rattle.table_players.specs.Crowds.{IsCrowd, IsTried};
 ghost use Rattle.table_players.specs.Games.{IsAt, IsDealing, IsTable, Plays, table_in};
 ghost use Rattle.table_players.specs.Tables.{IsFree};
 
+use crate::dice::rolled;
 use crate::finding::{Finding, all_hold};
-use crate::queues::rolled;
 use crate::rounds::is_whole_and_legal;
 use core_table::{Seat, Table};
 use policy_tree::Policy;

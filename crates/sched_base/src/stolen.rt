@@ -10,7 +10,7 @@ use std::marker::Model;
 ///
 /// A contract sees the list. The places of `ids` past its length are 0, so that the list gives the
 /// fields back. Other crates ask `len` and `get`, and leave the fields alone.
-#[derive(Clone, Copy)]
+#[derive(Clone, Copy, PartialEq, Eq)]
 pub struct Stolen {
     pub len: u32,
     pub ids: [u32; MAX_STOLEN],
@@ -44,6 +44,22 @@ impl Stolen {
             len: 0,
             ids: [0; MAX_STOLEN],
         }
+    }
+
+    /// The list of that thread alone.
+    pub fn of(thread: ThreadId) -> Stolen
+        ensures { result ≡ thread ∷ [] }
+    {
+        let mut stolen = Stolen::empty();
+        stolen.push(thread);
+        stolen
+    }
+
+    /// Whether the two are the same list.
+    pub fn is(self, other: Stolen) -> bool
+        ensures { IsTrue result ↔ (self ≡ other) }
+    {
+        self == other
     }
 
     /// One thread more, at the end.

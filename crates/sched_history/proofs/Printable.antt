@@ -11,8 +11,6 @@ use Rattle.policy_tree.specs.declared.typed.Put.{Put}
 use Rattle.policy_tree.specs.declared.typed.Put.TheVariants as put
 use Rattle.policy_tree.specs.Meaning.{Meaning, PlaceTree, here, least}
 use Rattle.policy_eval.specs.Orders.{best_of, better_of}
-use Rattle.policy_eval.specs.Sights.{pair_values}
-use Rattle.policy_eval.specs.Values.{holds}
 use Rattle.round_model.specs.declared.entry.Did.TheVariants as did
 use Rattle.round_model.specs.declared.entry.Entry.{Entry}
 use Rattle.round_model.specs.declared.entry.Entry.TheVariants as entry
@@ -22,9 +20,9 @@ use Rattle.round_model.specs.declared.plan.Planned.{Planned}
 use Rattle.round_model.specs.declared.state.Blocked.{Blocked}
 use Rattle.round_model.specs.declared.state.ModelCore.{ModelCore}
 use Rattle.round_model.specs.After.{after, round_of}
-use Rattle.round_model.specs.Attempts.{attempt_of, attempt_with, present_values, steal_or_fail}
+use Rattle.round_model.specs.Attempts.{attempt_of, attempt_with, first_of, moves_with, present_values, steal_or_fail}
 use Rattle.round_model.specs.Bursts.{HasBurst, HaveBursts, LiesIn}
-use Rattle.round_model.specs.Choices.{choice_of}
+use Rattle.round_model.specs.Choices.{choice_of, may_steal}
 use Rattle.round_model.specs.Cores.{Cores}
 use Rattle.round_model.specs.Fits.{Fits, ThreadFits}
 use Rattle.round_model.specs.Legal.{LegalNext}
@@ -40,7 +38,7 @@ use Rattle.round_model.proofs.Finding.{find-All, find-passes}
 use Rattle.round_model.proofs.Keeping.{All-append, All-one}
 use Rattle.round_model.proofs.Outcomes.{choice_there}
 use Rattle.round_model.proofs.There.{are_there}
-use Rattle.sched_history.specs.Ranges.{AreReads, IsCoreNumber, IsPrintable, IsThreadNumber, LegalIsPrintable, NamesThread}
+use Rattle.sched_history.specs.Ranges.{AreReads, AreStolen, IsCoreNumber, IsPrintable, IsThreadNumber, LegalIsPrintable, NamesThread}
 
 -- what holds of each task holds of the best
 best_All : {X : Type 0} (P : X → Type 0) (comes : X → X → Bool) (xs : List X) → All P xs → IfSome (best_of comes xs) P
@@ -110,14 +108,16 @@ module _ (p : Meaning) (plan : Plan) (fits : Fits p plan) where
       → IsPrintable (attempt_with p plan m a reads chosen)
   attempt_printable m a reads None have own read there = (core_small a own, read)
   attempt_printable m a reads (Some v) have own read there =
-      elim (holds (pair_values (present_values plan m a) (present_values plan m v)) p.filter) as (λ b. IsPrintable (cond b (steal_or_fail a v reads (best_of (before p.steal) (m v).queue)) (entry.Fail a v reads))) [
-        | true ↦ by_best (best_of (before p.steal) (m v).queue) (best_All (HasBurst plan) (before p.steal) (m v).queue (have v).queue)
-        | false ↦ (core_small a own, core_small v there, read)
-      ]
+      by_first (first_of p plan a v (m a) (m v)) (first_bursts (may_steal p (present_values plan m a) (present_values plan m v)))
     where
-      by_best : (best : Option Task) → IfSome best (HasBurst plan) → IsPrintable (steal_or_fail a v reads best)
-      by_best None has = (core_small a own, core_small v there, read)
-      by_best (Some t) has = (core_small a own, core_small v there, numbered t has, read)
+      first_bursts : (b : Bool) → IfSome (cond b (best_of (before p.steal) (m v).queue) None) (HasBurst plan)
+      first_bursts true = best_All (HasBurst plan) (before p.steal) (m v).queue (have v).queue
+      first_bursts false = tt
+
+      by_first : (first : Option Task) → IfSome first (HasBurst plan) → IsPrintable (steal_or_fail a v reads (moves_with first (λ t. t.id ∷ [])))
+      by_first None has = (core_small a own, core_small v there, read)
+      by_first (Some t) has =
+          (core_small a own, core_small v there, record { some = omega arith; few = omega arith; numbers = All-one IsThreadNumber t.id (numbered t has) }, read)
 
   -- what the reads of an attempt come to
   attempt_is_printable : (h : List Entry) (a : ℕ) (reads : List ℕ) (e : Entry) → length h ≤ MAX_ENTRIES → a < plan.cores → ReadsFit plan.cores (scene_of p plan h a).start (scene_of p plan h a).position reads
@@ -158,7 +158,7 @@ module _ (p : Meaning) (plan : Plan) (fits : Fits p plan) where
       )
   next_printable h (entry.Work by what) room legal =
       (core_small by legal.row.core, All-contains NamesThread (worked p plan (round_of h) (after p plan h by)).dids what (work_named (round_of h) (after p plan h by) (have_bursts p plan h by fits)) legal.row.outcome)
-  next_printable h (entry.Steal by from thread reads) room legal = attempt_is_printable h by reads (entry.Steal by from thread reads) room legal.row.core legal.row.read legal.row.outcome
+  next_printable h (entry.Steal by from threads reads) room legal = attempt_is_printable h by reads (entry.Steal by from threads reads) room legal.row.core legal.row.read legal.row.outcome
   next_printable h (entry.Fail by from reads) room legal = attempt_is_printable h by reads (entry.Fail by from reads) room legal.row.core legal.row.read legal.row.outcome
   next_printable h (entry.Pass by reads) room legal = attempt_is_printable h by reads (entry.Pass by reads) room legal.row.core legal.row.read legal.row.outcome
 

@@ -3,7 +3,7 @@ use Rattle.std.proofs.Common.{◌≡◌, ◌+◌, ◌*◌, ◌≤◌, ℕ, List,
 use Rattle.std.specs.Prelude.{codes}
 use Rattle.std.proofs.lemmas.Fmt.{length-decimal-le}
 use Rattle.std.proofs.lemmas.List.Elements.{All-head, All-tail}
-use Rattle.sched_history.specs.Ranges.{AreReads, IsCoreNumber, IsPosition, IsPrintable, IsRoundNumber, IsThreadNumber}
+use Rattle.sched_history.specs.Ranges.{AreReads, AreStolen, IsCoreNumber, IsPosition, IsPrintable, IsRoundNumber, IsThreadNumber}
 use Rattle.sched_history.specs.Spelling.{spaced, spaced_number, words_of_entry, words_of_work}
 use Rattle.round_model.specs.declared.entry.Did.{Did}
 use Rattle.round_model.specs.declared.entry.Did.TheVariants as did
@@ -49,6 +49,17 @@ positions-length (read ∷ reads) is =
     let rest = positions-length reads (All-tail IsPosition read reads is) in
     omega (arith, first, rest, length-spaced-cons read reads)
 
+-- five bytes a thread, and so 40 for the most of them
+numbers-length : (threads : List ℕ) → All IsThreadNumber threads → length (spaced threads) ≤ 5 * length threads
+numbers-length [] is = omega (arith, length-spaced-nil)
+numbers-length (thread ∷ threads) is =
+    let first = thread-length thread (All-head IsThreadNumber thread threads is) in
+    let rest = numbers-length threads (All-tail IsThreadNumber thread threads is) in
+    omega (arith, first, rest, length-spaced-cons thread threads)
+
+threads-length : (threads : List ℕ) → AreStolen threads → length (spaced threads) ≤ 40
+threads-length threads are = let each = numbers-length threads are.numbers in omega (arith, each, are.few)
+
 reads-length : (reads : List ℕ) → AreReads reads → length (spaced reads) ≤ 384
 reads-length reads are = let each = positions-length reads are.positions in omega (arith, each, are.few)
 
@@ -76,8 +87,8 @@ unit-length by (did.Queued thread) is = work-length by thread (codes " queue") i
 unit-length by (did.Blocked thread) is = work-length by thread (codes " block") is.0 is.1 (omega arith)
 unit-length by (did.Ended thread) is = work-length by thread (codes " end") is.0 is.1 (omega arith)
 
--- the longest words are those of an entry of three numbers, five letters and all reads
-pub length-words_of_entry : (e : Entry) → IsPrintable e → length (words_of_entry e) ≤ 402
+-- the longest words are those of a steal of all threads that one may move, with all reads
+pub length-words_of_entry : (e : Entry) → IsPrintable e → length (words_of_entry e) ≤ 437
 length-words_of_entry (entry.Round number) is = omega (arith, length-spaced-one number, round-length number is)
 length-words_of_entry (entry.Enter thread by at reads) is =
     omega (
@@ -100,14 +111,15 @@ length-words_of_entry (entry.Wake thread by at reads) is =
       reads-length reads is.3,
     )
 length-words_of_entry (entry.Work by what) is = let words = unit-length by what is in omega (arith, words)
-length-words_of_entry (entry.Steal by from thread reads) is =
+length-words_of_entry (entry.Steal by from threads reads) is =
     omega (
       arith,
-      length-with_reads (codes "steal") (by ∷ from ∷ thread ∷ []) reads,
-      length-spaced-three by from thread,
+      length-with_reads (codes "steal") (by ∷ from ∷ threads) reads,
+      length-spaced-cons by (from ∷ threads),
+      length-spaced-cons from threads,
       core-length by is.0,
       core-length from is.1,
-      thread-length thread is.2,
+      threads-length threads is.2,
       reads-length reads is.3,
     )
 length-words_of_entry (entry.Fail by from reads) is =

@@ -1,6 +1,6 @@
 -- The ranges of the numbers in a history's text.
 use Rattle.std.specs.Prelude.{ℕ, ◌<◌, ◌≤◌, List, length, All}
-use Rattle.sched_base.specs.declared.limits.TheConstants.{MAX_CORES, MAX_ENTRIES, MAX_ROUNDS, MAX_THREADS}
+use Rattle.sched_base.specs.declared.limits.TheConstants.{MAX_CORES, MAX_ENTRIES, MAX_ROUNDS, MAX_STOLEN, MAX_THREADS}
 use Rattle.policy_tree.specs.Meaning.{Meaning}
 use Rattle.round_model.specs.declared.entry.Did.{Did}
 use Rattle.round_model.specs.declared.entry.Did.TheVariants as did
@@ -28,6 +28,12 @@ pub record AreReads (reads : List ℕ) : Type 0 where
   pub few : length reads ≤ MAX_CORES
   pub positions : All IsPosition reads
 
+-- at least one thread, and no more than a steal may move
+pub record AreStolen (threads : List ℕ) : Type 0 where
+  pub some : 0 < length threads
+  pub few : length threads ≤ MAX_STOLEN
+  pub numbers : All IsThreadNumber threads
+
 -- the number of the thread of a unit of work, where there is one, is in its range
 abbrev pub NamesThread : Did → Type 0
 NamesThread did.Nothing = Unit {0}
@@ -43,7 +49,7 @@ IsPrintable (entry.Enter thread by at reads) = IsThreadNumber thread × IsCoreNu
     × AreReads reads
 IsPrintable (entry.Wake thread by at reads) = IsThreadNumber thread × IsCoreNumber by × IsCoreNumber at × AreReads reads
 IsPrintable (entry.Work by what) = IsCoreNumber by × NamesThread what
-IsPrintable (entry.Steal by from thread reads) = IsCoreNumber by × IsCoreNumber from × IsThreadNumber thread
+IsPrintable (entry.Steal by from threads reads) = IsCoreNumber by × IsCoreNumber from × AreStolen threads
     × AreReads reads
 IsPrintable (entry.Fail by from reads) = IsCoreNumber by × IsCoreNumber from × AreReads reads
 IsPrintable (entry.Pass by reads) = IsCoreNumber by × AreReads reads

@@ -30,8 +30,8 @@ words_of_entry (entry.Enter thread by at reads) =
 words_of_entry (entry.Wake thread by at reads) =
     codes "wake" ++ spaced (thread ∷ by ∷ at ∷ []) ++ codes " :" ++ spaced reads
 words_of_entry (entry.Work by what) = words_of_work by what
-words_of_entry (entry.Steal by from thread reads) =
-    codes "steal" ++ spaced (by ∷ from ∷ thread ∷ []) ++ codes " :" ++ spaced reads
+words_of_entry (entry.Steal by from threads reads) =
+    codes "steal" ++ spaced (by ∷ from ∷ threads) ++ codes " :" ++ spaced reads
 words_of_entry (entry.Fail by from reads) = codes "fail" ++ spaced (by ∷ from ∷ []) ++ codes " :" ++ spaced reads
 words_of_entry (entry.Pass by reads) = codes "pass" ++ spaced (by ∷ []) ++ codes " :" ++ spaced reads
 

@@ -1,13 +1,13 @@
 //! How an entry is written.
 
-ghost use Rattle.std.specs.Prelude.{◌≡◌, ◌+◌, ◌≤◌, [], ◌++◌, All, codes, length};
+ghost use Rattle.std.specs.Prelude.{◌≡◌, ◌+◌, ◌≤◌, [], ◌∷◌, ◌++◌, All, codes, length};
 ghost use Rattle.sched_io.specs.Puts.{Puts};
 ghost use Rattle.sched_history.specs.Ranges.{IsPrintable};
 ghost use Rattle.sched_history.specs.Spelling.{line_of_entry, lines_of_history, spaced, spaced_number, words_of_entry};
 ghost use Rattle.sched_history.specs.Spelling.{words_of_work};
 
 use round_model::{Did, Entry};
-use sched_base::{CoreId, Reads};
+use sched_base::{CoreId, Reads, Stolen};
 use sched_io::{LINE_ROOM, Line, NUMBER_ROOM, PutFault, Sink, put_all};
 
 /// Writes the text of the history, a line at a time.
@@ -56,9 +56,9 @@ fn add_entry(line: &mut Line, entry: &Entry)
         Entry::Steal {
             by,
             from,
-            thread,
+            threads,
             reads,
-        } => add_with_reads(line, b"steal", &[*by, *from, *thread], reads),
+        } => add_steal(line, *by, *from, threads, reads),
         Entry::Fail { by, from, reads } => add_with_reads(line, b"fail", &[*by, *from], reads),
         Entry::Pass { by, reads } => add_with_reads(line, b"pass", &[*by], reads),
     }
@@ -88,6 +88,29 @@ fn add_unit(line: &mut Line, numbers: &[u32], last: &[u8])
     line.add(last);
 }
 
+/// Adds the words of a steal: its cores and its threads, and the reads behind a colon.
+fn add_steal(line: &mut Line, by: CoreId, from: CoreId, threads: &Stolen, reads: &Reads)
+    requires { length line.old
+        + length (codes "steal" ++ spaced (by ∷ from ∷ threads.now) ++ codes " :" ++ spaced reads.now)
+        + NUMBER_ROOM ≤ LINE_ROOM }
+    ensures { line.new
+        ≡ line.old ++ codes "steal" ++ spaced (by ∷ from ∷ threads.now) ++ codes " :" ++ spaced reads.now }
+{
+    add_stolen(line, by, from, threads);
+    line.add(b" :");
+    add_reads(line, reads);
+}
+
+/// Adds the first word of a steal, its cores and its threads.
+fn add_stolen(line: &mut Line, by: CoreId, from: CoreId, threads: &Stolen)
+    requires { length line.old + length (codes "steal" ++ spaced (by ∷ from ∷ threads.now))
+        + NUMBER_ROOM ≤ LINE_ROOM }
+    ensures { line.new ≡ line.old ++ codes "steal" ++ spaced (by ∷ from ∷ threads.now) }
+{
+    add_numbered(line, b"steal", &[by, from]);
+    add_threads(line, threads);
+}
+
 /// Adds the words of an entry with reads: its first word, its numbers, and the reads behind a colon.
 fn add_with_reads(line: &mut Line, first: &[u8], numbers: &[u32], reads: &Reads)
     requires { length line.old + length (first.now ++ spaced numbers.now ++ codes " :" ++ spaced reads.now)
@@ -115,6 +138,16 @@ fn add_numbers(line: &mut Line, numbers: &[u32])
 {
     for number in numbers {
         add_spaced(line, *number);
+    }
+}
+
+/// Adds the threads that a steal moves.
+fn add_threads(line: &mut Line, threads: &Stolen)
+    requires { length line.old + length (spaced threads.now) + NUMBER_ROOM ≤ LINE_ROOM }
+    ensures { line.new ≡ line.old ++ spaced threads.now }
+{
+    for at in 0..threads.len() {
+        add_spaced(line, threads.get(at));
     }
 }
 

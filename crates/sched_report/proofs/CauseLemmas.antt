@@ -51,7 +51,7 @@ one_more n (entry.Round number) es rest all = all
 one_more n (entry.Enter thread by to reads) es rest all = all
 one_more n (entry.Wake thread by to reads) es rest all = all
 one_more n (entry.Work by what) es rest all = all
-one_more n (entry.Steal by from thread reads) es rest all = all
+one_more n (entry.Steal by from threads reads) es rest all = all
 one_more n (entry.Pass by reads) es rest all = all
 one_more n (entry.Fail by from reads) es rest all =
     All-cons (FailStands n (entry.Fail by from reads ∷ es)) n rest (record { place = 0; counted = omega arith; by = by; victim = from; reads = reads; there = refl }) all

@@ -48,7 +48,7 @@ quiet_round (entry.Round number) is = refl
 quiet_round (entry.Enter thread by at reads) is = absurd (false≢true is)
 quiet_round (entry.Wake thread by at reads) is = absurd (false≢true is)
 quiet_round (entry.Work by what) is = absurd (false≢true is)
-quiet_round (entry.Steal by from thread reads) is = refl
+quiet_round (entry.Steal by from threads reads) is = refl
 quiet_round (entry.Fail by from reads) is = refl
 quiet_round (entry.Pass by reads) is = refl
 
@@ -59,7 +59,7 @@ disturbed_in_round p plan h (entry.Round number) legal is = absurd (false≢true
 disturbed_in_round p plan h (entry.Enter thread by at reads) legal is = legal.begun
 disturbed_in_round p plan h (entry.Wake thread by at reads) legal is = legal.begun
 disturbed_in_round p plan h (entry.Work by what) legal is = legal.begun
-disturbed_in_round p plan h (entry.Steal by from thread reads) legal is = absurd (false≢true is)
+disturbed_in_round p plan h (entry.Steal by from threads reads) legal is = absurd (false≢true is)
 disturbed_in_round p plan h (entry.Fail by from reads) legal is = absurd (false≢true is)
 disturbed_in_round p plan h (entry.Pass by reads) legal is = absurd (false≢true is)
 

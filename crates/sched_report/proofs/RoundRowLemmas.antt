@@ -36,7 +36,7 @@ one_row plan m (entry.Round number) = refl
 one_row plan m (entry.Enter thread by at reads) = refl
 one_row plan m (entry.Wake thread by at reads) = refl
 one_row plan m (entry.Work by what) = refl
-one_row plan m (entry.Steal by from thread reads) = refl
+one_row plan m (entry.Steal by from threads reads) = refl
 one_row plan m (entry.Fail by from reads) = refl
 one_row plan m (entry.Pass by reads) = refl
 

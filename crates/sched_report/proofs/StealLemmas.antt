@@ -87,7 +87,7 @@ stolen_in_round p plan h (entry.Round number) legal is = absurd (false≢true is
 stolen_in_round p plan h (entry.Enter thread by at reads) legal is = absurd (false≢true is)
 stolen_in_round p plan h (entry.Wake thread by at reads) legal is = absurd (false≢true is)
 stolen_in_round p plan h (entry.Work by what) legal is = absurd (false≢true is)
-stolen_in_round p plan h (entry.Steal by from thread reads) legal is = legal.begun
+stolen_in_round p plan h (entry.Steal by from threads reads) legal is = legal.begun
 stolen_in_round p plan h (entry.Fail by from reads) legal is = absurd (false≢true is)
 stolen_in_round p plan h (entry.Pass by reads) legal is = absurd (false≢true is)
 
@@ -96,7 +96,7 @@ no_round (entry.Round number) is = absurd (false≢true is)
 no_round (entry.Enter thread by at reads) is = refl
 no_round (entry.Wake thread by at reads) is = refl
 no_round (entry.Work by what) is = refl
-no_round (entry.Steal by from thread reads) is = refl
+no_round (entry.Steal by from threads reads) is = refl
 no_round (entry.Fail by from reads) is = refl
 no_round (entry.Pass by reads) is = refl
 
@@ -105,7 +105,7 @@ no_steal (entry.Round number) is = refl
 no_steal (entry.Enter thread by at reads) is = refl
 no_steal (entry.Wake thread by at reads) is = refl
 no_steal (entry.Work by what) is = refl
-no_steal (entry.Steal by from thread reads) is = absurd (false≢true is)
+no_steal (entry.Steal by from threads reads) is = absurd (false≢true is)
 no_steal (entry.Fail by from reads) is = refl
 no_steal (entry.Pass by reads) is = refl
 

@@ -76,7 +76,7 @@ told_is plan m state (entry.Round number) is = ap (λ cores. row_told cores (ent
 told_is plan m state (entry.Enter thread by at reads) is = refl
 told_is plan m state (entry.Wake thread by at reads) is = refl
 told_is plan m state (entry.Work by what) is = refl
-told_is plan m state (entry.Steal by from thread reads) is = refl
+told_is plan m state (entry.Steal by from threads reads) is = refl
 told_is plan m state (entry.Fail by from reads) is = refl
 told_is plan m state (entry.Pass by reads) is = refl
 
@@ -189,7 +189,7 @@ module _ (p : Meaning) (plan : Plan) (history : List Entry) (at : ℕ) (inside :
     may_be_told (entry.Enter thread by to reads) is = tt
     may_be_told (entry.Wake thread by to reads) is = tt
     may_be_told (entry.Work by what) is = tt
-    may_be_told (entry.Steal by from thread reads) is = tt
+    may_be_told (entry.Steal by from threads reads) is = tt
     may_be_told (entry.Fail by from reads) is = fail_kept by from reads is
     may_be_told (entry.Pass by reads) is = tt
 
@@ -215,7 +215,7 @@ module _ (p : Meaning) (plan : Plan) (history : List Entry) (at : ℕ) (inside :
     fails_more (entry.Enter thread by to reads) old new is same = same_fails (entry.Enter thread by to reads) old new refl same
     fails_more (entry.Wake thread by to reads) old new is same = same_fails (entry.Wake thread by to reads) old new refl same
     fails_more (entry.Work by what) old new is same = same_fails (entry.Work by what) old new refl same
-    fails_more (entry.Steal by from thread reads) old new is same = same_fails (entry.Steal by from thread reads) old new refl same
+    fails_more (entry.Steal by from threads reads) old new is same = same_fails (entry.Steal by from threads reads) old new refl same
     fails_more (entry.Pass by reads) old new is same = same_fails (entry.Pass by reads) old new refl same
     fails_more (entry.Fail by from reads) old new is (row, same, told) =
         let failed = legal_fail p plan (take at history) by from reads (legal at (entry.Fail by from reads) is) in

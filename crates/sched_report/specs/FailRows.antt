@@ -1,5 +1,5 @@
 -- A row for each Fail of a history.
-use Rattle.std.specs.Prelude.{◌≡◌, ℕ, ◌≤◌, Bool, true, false, cond, List, Option, None, Some, All, filter_map, map}
+use Rattle.std.specs.Prelude.{◌≡◌, ℕ, ◌≤◌, cond, List, Option, None, Some, All, filter_map, map}
 use Rattle.std.specs.List.{enumerate_from}
 use Rattle.policy_tree.specs.Meaning.{Meaning}
 use Rattle.round_model.specs.declared.entry.Entry.{Entry}

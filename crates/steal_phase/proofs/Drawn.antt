@@ -8,8 +8,7 @@ use Rattle.round_model.specs.declared.entry.Entry.{Entry}
 use Rattle.round_model.specs.declared.entry.Entry.TheVariants as entry
 use Rattle.round_model.specs.declared.plan.Plan.{Plan}
 use Rattle.round_model.specs.After.{after}
-use Rattle.round_model.specs.Attempts.{attempt_of, attempt_with}
-use Rattle.round_model.specs.Code.Outcomes.{entry_with}
+use Rattle.round_model.specs.Attempts.{attempt_of, attempt_with, steal_or_fail}
 use Rattle.round_model.specs.Legal.{Legal}
 use Rattle.round_model.specs.Rows.{LegalAttempt, Row}
 use Rattle.round_model.specs.Scenes.{Scene, has_attempted, has_worked}
@@ -43,10 +42,10 @@ legal_by w look s e looked worked first viewed is = record {
   outcome = is ∙ ap (attempt_with (meaning_in w) w.plan s.cores look.by look.reads) (looked.choice ∙ sym (choice_is w s viewed look.reads looked.seen looked.read (meaning_in w) look.by looked.core));
 }
 
-row_with : (p : Meaning) (plan : Plan) (s : Scene) (a b : ℕ) (reads : List ℕ) (thread : Option ℕ) → LegalAttempt p plan s a reads (entry_with a b reads thread) → Row p plan s (entry_with a b reads thread)
+row_with : (p : Meaning) (plan : Plan) (s : Scene) (a b : ℕ) (reads threads : List ℕ) → LegalAttempt p plan s a reads (steal_or_fail a b reads threads) → Row p plan s (steal_or_fail a b reads threads)
 unfolding Row
-row_with p plan s a b reads None legal = legal
-row_with p plan s a b reads (Some thread) legal = legal
+row_with p plan s a b reads [] legal = legal
+row_with p plan s a b reads (id ∷ ids) legal = legal
 
 -- a seat that held no core knew less of the history
 pub agrees_before : (v : View) (h : List Entry) (notes more : List Note) (held : List HeldCore) → v.held ≡ [] → notes ≡ more ++ v.notes → Agrees (record v { notes = notes; held = held }) h → Agrees v h
@@ -112,58 +111,58 @@ pass_drawn v look y w u at may none is drawn =
     drawn_by v look e may (holding look.by y v) u at d (λ i. (meaning_in v, v.plan)) (agrees_one v may.ready.free look.by y may.looked.core d.history d.before)
     (sym (ap (attempt_with (meaning_in v) v.plan (after (meaning_in v) v.plan d.history) look.by look.reads) none))
 
--- thief and victim are held, and the thread is the best that may be taken
+-- thief and victim are held, and the threads are those that may be taken
 module _ (w : View) (look : Look) (from : ℕ) (y z : CoreView) (i j : ℕ) (thief : get_elem? w.held i ≡ some (taken w.plan.cores look.by y)) (victim : get_elem? w.held j ≡ some (taken w.plan.cores from z))
-    (thread : Option ℕ) (best : thread ≡ best_to_steal (meaning_in w) w.plan look.by y.core from z.core) (chosen : look.choice ≡ Some from) where
-  contest_local : Looked w look → has_worked (own_entries_in w) ≡ true → IsFalse (has_attempted (own_entries_in w)) → IsLocalIn w (entry_with look.by from look.reads thread)
+    (threads : List ℕ) (best : threads ≡ best_to_steal (meaning_in w) w.plan look.by y.core from z.core) (chosen : look.choice ≡ Some from) where
+  contest_local : Looked w look → has_worked (own_entries_in w) ≡ true → IsFalse (has_attempted (own_entries_in w)) → IsLocalIn w (steal_or_fail look.by from look.reads threads)
   contest_local looked worked first s viewed =
-      row_with (meaning_in w) w.plan s look.by from look.reads thread
-      (legal_by w look s (entry_with look.by from look.reads thread) looked worked first viewed
-      (attempt_is (meaning_in w) w.plan look.by from y.core z.core look.reads thread best s.cores (viewed.cores i (taken w.plan.cores look.by y) thief) (viewed.cores j (taken w.plan.cores from z) victim)
+      row_with (meaning_in w) w.plan s look.by from look.reads threads
+      (legal_by w look s (steal_or_fail look.by from look.reads threads) looked worked first viewed
+      (attempt_is (meaning_in w) w.plan look.by from y.core z.core look.reads threads best s.cores (viewed.cores i (taken w.plan.cores look.by y) thief) (viewed.cores j (taken w.plan.cores from z) victim)
       ∙ sym (ap (attempt_with (meaning_in w) w.plan s.cores look.by look.reads) chosen)))
 
-  contest_is : (h : List Entry) → Agrees w h → entry_with look.by from look.reads thread ≡ attempt_with (meaning_in w) w.plan (after (meaning_in w) w.plan h) look.by look.reads look.choice
+  contest_is : (h : List Entry) → Agrees w h → steal_or_fail look.by from look.reads threads ≡ attempt_with (meaning_in w) w.plan (after (meaning_in w) w.plan h) look.by look.reads look.choice
   contest_is h ag =
       let m = after (meaning_in w) w.plan h in
-      attempt_is (meaning_in w) w.plan look.by from y.core z.core look.reads thread best m
+      attempt_is (meaning_in w) w.plan look.by from y.core z.core look.reads threads best m
       (sym (ag.held i (taken w.plan.cores look.by y) thief).now.core) (sym (ag.held j (taken w.plan.cores from z) victim).now.core)
       ∙ sym (ap (attempt_with (meaning_in w) w.plan m look.by look.reads) chosen)
 
--- what holds once the two cores are held and the thread went over
-pub record Contested (v : View) (look : Look) (from : ℕ) (y z y_now z_now : CoreView) (thread : Option ℕ) : Type 0 where
-  pub moved : HasMovedTwo (entry_with look.by from look.reads thread) (holding_two look.by y from z v) look.by y_now from z_now
-  pub legal : IsLocalIn (holding_two look.by y from z v) (entry_with look.by from look.reads thread)
+-- what holds once the two cores are held and the threads went over
+pub record Contested (v : View) (look : Look) (from : ℕ) (y z y_now z_now : CoreView) (threads : List ℕ) : Type 0 where
+  pub moved : HasMovedTwo (steal_or_fail look.by from look.reads threads) (holding_two look.by y from z v) look.by y_now from z_now
+  pub legal : IsLocalIn (holding_two look.by y from z v) (steal_or_fail look.by from look.reads threads)
   pub attempt : (h : List Entry) → Agrees (holding_two look.by y from z v) h
-      → entry_with look.by from look.reads thread ≡ attempt_with (meaning_in v) v.plan (after (meaning_in v) v.plan h) look.by look.reads look.choice
+      → steal_or_fail look.by from look.reads threads ≡ attempt_with (meaning_in v) v.plan (after (meaning_in v) v.plan h) look.by look.reads look.choice
 
 -- the core that was chosen is another one
 pub victim_there : (v : View) (look : Look) (from : ℕ) → Looked v look → look.choice ≡ Some from → (from < v.plan.cores) × (from ≢ look.by)
 victim_there v look from looked chosen = subst (λ (o : Option ℕ). IfSome o (λ c. (c < v.plan.cores) × (c ≢ look.by))) chosen looked.other
 
-module _ (v : View) (look : Look) (from : ℕ) (may : MayAttempt v look) (chosen : look.choice ≡ Some from) (y z y_now z_now : CoreView) (thread : Option ℕ) where
+module _ (v : View) (look : Look) (from : ℕ) (may : MayAttempt v look) (chosen : look.choice ≡ Some from) (y z y_now z_now : CoreView) (threads : List ℕ) where
   other : (from < v.plan.cores) × (from ≢ look.by)
   other = victim_there v look from may.looked chosen
 
-  contested : thread ≡ best_to_steal (meaning_in v) v.plan look.by y.core from z.core → Steals thread y z y_now z_now → Contested v look from y z y_now z_now thread
+  contested : threads ≡ best_to_steal (meaning_in v) v.plan look.by y.core from z.core → Steals threads y z y_now z_now → Contested v look from y z y_now z_now threads
   contested best takes =
-      let w : View = holding_two look.by y from z v in let e : Entry = entry_with look.by from look.reads thread in
+      let w : View = holding_two look.by y from z v in let e : Entry = steal_or_fail look.by from look.reads threads in
       let thief : HeldCore = taken v.plan.cores look.by y in let victim : HeldCore = taken v.plan.cores from z in
       let here = first_place look.by from thief victim v.held in let there = second_place look.by from thief victim v.held in
       let apart : look.by ≢ from = λ same. other.1 (sym same) in
       record {
-        moved = moved_both v look.by from y z y_now z_now apart may.ready.free look.reads thread takes may.looked.core other.0;
-        legal = contest_local w look from y z here.0 there.0 here.1 there.1 thread best chosen (looked_two v look e may look.by from y z apart may.looked.core other.0) may.ready.worked may.ready.first;
-        attempt = contest_is w look from y z here.0 there.0 here.1 there.1 thread best chosen;
+        moved = moved_both v look.by from y z y_now z_now apart may.ready.free look.reads threads takes may.looked.core other.0;
+        legal = contest_local w look from y z here.0 there.0 here.1 there.1 threads best chosen (looked_two v look e may look.by from y z apart may.looked.core other.0) may.ready.worked may.ready.first;
+        attempt = contest_is w look from y z here.0 there.0 here.1 there.1 threads best chosen;
       }
 
-  pub contested_by : (p : Meaning) (plan : Plan) (a b : ℕ) → p ≡ meaning_in v → plan ≡ v.plan → a ≡ look.by → b ≡ from → thread ≡ best_to_steal p plan a y.core b z.core → Steals thread y z y_now z_now
-      → Contested v look from y z y_now z_now thread
+  pub contested_by : (p : Meaning) (plan : Plan) (a b : ℕ) → p ≡ meaning_in v → plan ≡ v.plan → a ≡ look.by → b ≡ from → threads ≡ best_to_steal p plan a y.core b z.core → Steals threads y z y_now z_now
+      → Contested v look from y z y_now z_now threads
   contested_by p plan a b is_p is_plan first second best takes =
-      contested (subst (λ (x : Meaning × Plan × ℕ × ℕ). thread ≡ best_to_steal x.0 x.1 x.2 y.core x.3 z.core) (λ i. (is_p i, is_plan i, first i, second i)) best) takes
+      contested (subst (λ (x : Meaning × Plan × ℕ × ℕ). threads ≡ best_to_steal x.0 x.1 x.2 y.core x.3 z.core) (λ i. (is_p i, is_plan i, first i, second i)) best) takes
 
-  pub contest_drawn : (w u : View) (at : ℕ) → Contested v look from y z y_now z_now thread → w ≡ holding_two look.by y from z v
-      → Draws (entry_with look.by from look.reads thread) w at u → IsDrawn look at (entry_with look.by from look.reads thread) v
+  pub contest_drawn : (w u : View) (at : ℕ) → Contested v look from y z y_now z_now threads → w ≡ holding_two look.by y from z v
+      → Draws (steal_or_fail look.by from look.reads threads) w at u → IsDrawn look at (steal_or_fail look.by from look.reads threads) v
   contest_drawn w u at contest is drawn =
-      let e : Entry = entry_with look.by from look.reads thread in let d = subst (λ (x : View). Draws e x at u) is drawn in
+      let e : Entry = steal_or_fail look.by from look.reads threads in let d = subst (λ (x : View). Draws e x at u) is drawn in
       drawn_by v look e may (holding_two look.by y from z v) u at d (λ i. (meaning_in v, v.plan))
       (agrees_two v may.ready.free look.by y from z d.history d.before) (contest.attempt d.history d.before)

@@ -1,5 +1,5 @@
 -- Two cores that a legal history leaves: what the calls on them ask.
-use Rattle.std.proofs.Common.{◌≡◌, ◌≢◌, ℕ, zero, suc, ◌<◌, ◌≤◌, Bool, true, false, cond, List, [], ◌∷◌, length, find, get_or, IsSome, Option, Some, None, option_map, option_to_list, is_some, refl, sym, ap, ◌∙◌, subst, arith}
+use Rattle.std.proofs.Common.{◌≡◌, ◌≢◌, ℕ, zero, suc, ◌<◌, ◌≤◌, Bool, true, false, cond, List, [], ◌∷◌, length, find, get_or, slice_index, IsSome, Option, Some, None, option_to_list, is_some, refl, sym, ap, ◌∙◌, subst, arith}
 use Rattle.std.proofs.lemmas.Bool.Decides.{nat_tests}
 use Rattle.std.proofs.lemmas.List.{length-append}
 use Rattle.sched_base.specs.declared.limits.TheConstants.{MAX_LOAD, MAX_THREADS}
@@ -13,13 +13,15 @@ use Rattle.round_model.specs.declared.plan.Plan.{Plan}
 use Rattle.round_model.specs.declared.state.ModelCore.{ModelCore}
 use Rattle.round_model.specs.Bounds.{CoreInBounds, standing_count}
 use Rattle.round_model.specs.BoundsLaws.{IsBounded}
+use Rattle.round_model.specs.Attempts.{moves_with}
 use Rattle.round_model.specs.Choices.{may_steal}
 use Rattle.round_model.specs.Cores.{seen_of}
-use Rattle.round_model.specs.Moves.{is_task, queued_of}
+use Rattle.round_model.specs.Moves.{handed, is_task, queued_of, received, received_all}
 use Rattle.round_model.specs.Reads.{values_of}
 use Rattle.round_model.specs.Work.{before}
 use Rattle.round_model.proofs.Bounded.{bounds_law}
 use Rattle.round_model.proofs.Keeping.{bounds_hold, queued_fits, standing_handed}
+use Rattle.round_model.proofs.Takings.{one_found, one_handed, one_received}
 use Rattle.core_state.specs.Views.{CoreView}
 use Rattle.core_state.proofs.Taking.{best_pair, best_there}
 use Rattle.run_queue.specs.Tasks.{IsSeenTask, others_of}
@@ -30,7 +32,8 @@ use Rattle.core_table.specs.Pairs.{holding_two}
 use Rattle.core_table.specs.Views.{meaning_in, taken}
 use Rattle.core_table.specs.Told.{IsCoreNow, IsKnown}
 use Rattle.core_table.proofs.TwoHeld.{first_place, second_place}
-use Rattle.steal_phase.specs.Taking.{AreTwo, best_to_steal}
+use Rattle.steal_phase.specs.Taking.{AreTwo, Steals, best_to_steal}
+use Rattle.steal_phase.proofs.Moving.{none_come, none_leave}
 
 -- what stands in a list is found by a test that it passes
 there_found : {X : Type 0} (test : X → Bool) (xs : List X) (x : X) (at : ℕ) → at < length xs → get_or xs at x ≡ x → test x ≡ true → IsSome (find test xs)
@@ -40,21 +43,45 @@ there_found test (y ∷ ys) x (suc at) inside is passes =
     elim (test y) as (λ b. IsSome (cond b (Some y) (find test ys))) [ true ↦ refl | false ↦ there_found test ys x at (omega arith) is passes ]
 
 -- so the best of a queue is queued
-best_queued : (first : Task → Task → Bool) (queue : List Task) (thread : ℕ) → option_map (λ (t : Task). t.id) (best_of first queue) ≡ Some thread → IsSome (find (is_task thread) queue)
-best_queued first queue thread is = by_best (best_of first queue) refl is
-  where
-    by_best : (o : Option Task) → best_of first queue ≡ o → option_map (λ (t : Task). t.id) o ≡ Some thread → IsSome (find (is_task thread) queue)
-    by_best None best e = absurd (cc)
-    by_best (Some t) best e =
-        let named : t.id ≡ thread = cc in let there = best_there first queue (t, others_of (best_and_rest first queue)) (best_pair first queue t best) in
-        there_found (is_task thread) queue t there.0 there.1 there.2 (grind (arith, nat_tests))
+best_queued : (first : Task → Task → Bool) (queue : List Task) (t : Task) → best_of first queue ≡ Some t → IsSome (find (is_task t.id) queue)
+best_queued first queue t best =
+    let there = best_there first queue (t, others_of (best_and_rest first queue)) (best_pair first queue t best) in
+    let own : is_task t.id t ≡ true = grind (arith, nat_tests) in
+    there_found (is_task t.id) queue t there.0 there.1 there.2 own
 
-pub stolen_queued : (p : Meaning) (plan : Plan) (a : ℕ) (x : ModelCore) (b : ℕ) (y : ModelCore) (thread : ℕ) → best_to_steal p plan a x b y ≡ Some thread → IsSome (queued_of thread y)
-stolen_queued p plan a x b y thread is = by_filter (may_steal p (values_of plan a (seen_of x)) (values_of plan b (seen_of y))) is
+-- a list that isn't empty has a first thread
+pub some_length : (threads : List ℕ) → threads ≢ [] → 0 < length threads
+some_length [] some = absurd (some refl)
+some_length (id ∷ ids) some = omega arith
+
+-- what is taken is one thread, which is queued
+pub one_stolen : (p : Meaning) (plan : Plan) (a : ℕ) (x : ModelCore) (b : ℕ) (y : ModelCore) (threads : List ℕ) → threads ≡ best_to_steal p plan a x b y → threads ≢ []
+    → (thread : ℕ) → thread ≡ slice_index threads 0 → (threads ≡ thread ∷ []) × IsSome (queued_of thread y)
+one_stolen p plan a x b y threads is some thread first =
+    by_best (may_steal p (values_of plan a (seen_of x)) (values_of plan b (seen_of y))) (best_of (before p.steal) y.queue) refl is
   where
-    by_filter : (may : Bool) → cond may (option_map (λ (t : Task). t.id) (best_of (before p.steal) y.queue)) None ≡ Some thread → IsSome (queued_of thread y)
-    by_filter true e = best_queued (before p.steal) y.queue thread e
-    by_filter false e = absurd (cc)
+    by_best : (may : Bool) (best : Option Task) → best_of (before p.steal) y.queue ≡ best → threads ≡ moves_with (cond may best None) (λ t. t.id ∷ [])
+        → (threads ≡ thread ∷ []) × IsSome (queued_of thread y)
+    by_best true None best e = absurd (some e)
+    by_best true (Some t) best e =
+        let named : t.id ≡ thread = sym (first ∙ ap (λ (ids : List ℕ). slice_index ids 0) e) in
+        (e ∙ ap (λ id. id ∷ []) named, subst (λ id. IsSome (queued_of id y)) named (best_queued (before p.steal) y.queue t best))
+    by_best false best queue e = absurd (some e)
+
+-- and it goes over
+pub steals_one : (threads : List ℕ) (thread : ℕ) (t : Task) (y z y_now z_now : CoreView) → threads ≡ thread ∷ [] → queued_of thread z.core ≡ Some t
+    → y_now ≡ record y { core = received t y.core } → z_now ≡ record z { core = handed thread z.core } → Steals threads y z y_now z_now
+steals_one threads thread t y z y_now z_now alone is gained lost = subst (λ (ids : List ℕ). Steals ids y z y_now z_now) (sym alone) (record {
+  gained = gained ∙ (λ k. record y { core = sym (ap (λ (found : List Task). received_all found y.core) (one_found thread t z.core is) ∙ one_received t y.core) k });
+  lost = lost ∙ (λ k. record z { core = sym (one_handed thread z.core) k });
+})
+
+-- where none is taken, both stay
+pub steals_none : (threads : List ℕ) (y z : CoreView) → threads ≡ [] → Steals threads y z y z
+steals_none threads y z none = subst (λ (ids : List ℕ). Steals ids y z y z) (sym none) (record {
+  gained = λ k. record y { core = sym (none_come y.core) k };
+  lost = λ k. record z { core = sym (none_leave z.core) k };
+})
 
 module _ (p : Meaning) (plan : Plan) (a : ℕ) (y : CoreView) (b : ℕ) (z : CoreView) (two : AreTwo p plan a y b z) where
   bounded : IsBounded p plan two.history

@@ -48,12 +48,12 @@ victim_in (Some core) = core
 
 -- the entry of an attempt that came to this
 abbrev pub entry_of : Look → Outcome → Entry
-entry_of look (outcome.Stole at thread) = entry.Steal look.by (victim_in look.choice) thread look.reads
+entry_of look (outcome.Stole at threads) = entry.Steal look.by (victim_in look.choice) threads look.reads
 entry_of look (outcome.Failed at) = entry.Fail look.by (victim_in look.choice) look.reads
 entry_of look (outcome.Passed at) = entry.Pass look.by look.reads
 
 abbrev pub position_of : Outcome → ℕ
-position_of (outcome.Stole at thread) = at
+position_of (outcome.Stole at threads) = at
 position_of (outcome.Failed at) = at
 position_of (outcome.Passed at) = at
 
@@ -87,12 +87,12 @@ TakesNothing p plan m a v =
     IsFalse (may_steal p (present_values plan m a) (present_values plan m v)) ⊎ ((m v).queue ≡ [])
 
 abbrev pub IsPassed : Outcome → Type 0
-IsPassed (outcome.Stole at thread) = ⊥
+IsPassed (outcome.Stole at threads) = ⊥
 IsPassed (outcome.Failed at) = ⊥
 IsPassed (outcome.Passed at) = Unit {0}
 
 abbrev pub IsFailed : Outcome → Type 0
-IsFailed (outcome.Stole at thread) = ⊥
+IsFailed (outcome.Stole at threads) = ⊥
 IsFailed (outcome.Failed at) = Unit {0}
 IsFailed (outcome.Passed at) = ⊥
 

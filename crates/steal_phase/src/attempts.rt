@@ -30,8 +30,10 @@ pub fn attempt<R: Wait>(
     let Some(from) = look.choice else {
         return Outcome::Passed(pass(table, rt, seat, look));
     };
-    match contest(table, rt, seat, policy, look, from) {
-        (at, None) => Outcome::Failed(at),
-        (at, Some(thread)) => Outcome::Stole(at, thread),
+    let (at, threads) = contest(table, rt, seat, policy, look, from);
+    if threads.is_empty() {
+        Outcome::Failed(at)
+    } else {
+        Outcome::Stole(at, threads)
     }
 }

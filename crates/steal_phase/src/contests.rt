@@ -2,7 +2,7 @@
 
 ghost use Rattle.std.specs.Prelude.{◌≡◌, None, Some};
 ghost use Rattle.round_model.specs.declared.entry.Entry.TheVariants as entry;
-ghost use Rattle.round_model.specs.Code.Outcomes.{entry_with};
+ghost use Rattle.round_model.specs.Attempts.{steal_or_fail};
 ghost use Rattle.core_table.specs.Public.{IsOf, policy_of, view_of};
 ghost use Rattle.steal_phase.specs.Attempts.{HasAdded, IsDrawn, MayAttempt};
 
@@ -10,7 +10,7 @@ use crate::taking::take_best;
 use core_table::{Seat, Table};
 use policy_tree::Policy;
 use round_model::Entry;
-use sched_base::{CoreId, Pos, ThreadId};
+use sched_base::{CoreId, Pos, Stolen};
 use select_phase::Look;
 use std::sync::Wait;
 
@@ -34,7 +34,7 @@ pub(crate) fn pass<R: Wait>(table: &Table, rt: &R, seat: &mut Seat, look: Look) 
     at
 }
 
-/// The attempt on the core that was chosen: its position, and the thread that was taken.
+/// The attempt on the core that was chosen: its position, and the threads that were taken.
 pub(crate) fn contest<R: Wait>(
     table: &Table,
     rt: &R,
@@ -42,36 +42,21 @@ pub(crate) fn contest<R: Wait>(
     policy: &Policy,
     look: Look,
     from: CoreId,
-) -> (Pos, Option<ThreadId>)
+) -> (Pos, Stolen)
     requires seat { IsOf table.now seat.old }
     requires policy { policy.now ≡ policy_of table.now }
     requires may { MayAttempt (view_of seat.old) look }
     requires choice { look.choice ≡ Some from }
     ensures seat { IsOf table.now seat.new }
-    ensures added { HasAdded look.by result.0 (entry_with look.by from look.reads result.1)
+    ensures added { HasAdded look.by result.0 (steal_or_fail look.by from look.reads result.1)
         (view_of seat.old) (view_of seat.new) }
-    ensures drawn { IsDrawn look result.0 (entry_with look.by from look.reads result.1) (view_of seat.old) }
+    ensures drawn { IsDrawn look result.0 (steal_or_fail look.by from look.reads result.1) (view_of seat.old) }
 {
     let mut held = table.hold_two(rt, seat, look.by, from);
     let stolen = take_best(table, policy, &mut held.first, &mut held.second);
-    let at = table.draw_two(seat, &mut held, entry_of(look, from, stolen));
+    let entry = Entry::steal_or_fail(look.by, from, stolen, look.reads);
+    let at = table.draw_two(seat, &mut held, entry);
     table.publish_two(seat, &held);
     table.release_two(seat, held);
     (at, stolen)
-}
-
-/// The entry of an attempt on that core, by what was taken.
-fn entry_of(look: Look, from: CoreId, stolen: Option<ThreadId>) -> Entry
-    ensures { result ≡ entry_with look.by from look.reads stolen }
-{
-    let Look { by, reads, .. } = look;
-    match stolen {
-        None => Entry::Fail { by, from, reads },
-        Some(thread) => Entry::Steal {
-            by,
-            from,
-            thread,
-            reads,
-        },
-    }
 }

@@ -1,4 +1,4 @@
-//! The best thread of one held core goes over to another, where the filter holds of both as they are.
+//! Threads of one held core go over to another, where the filter holds of both as they are.
 
 ghost use Rattle.std.specs.Prelude.{◌≡◌, ◌<◌, ◌≤◌};
 ghost use Rattle.sched_base.specs.declared.limits.TheConstants.{MAX_LOAD, MAX_THREADS};
@@ -13,7 +13,7 @@ use core_table::{Held, Table};
 use policy_eval::CoreValues;
 use policy_tree::Policy;
 use round_model::may_steal;
-use sched_base::ThreadId;
+use sched_base::Stolen;
 
 /// What the filter sees of the held core.
 fn present(table: &Table, held: &Held) -> CoreValues
@@ -42,36 +42,41 @@ fn filter_holds(table: &Table, policy: &Policy, thief: &Held, victim: &Held) -> 
     may_steal(policy, &own, &other)
 }
 
-/// The thread that the thief may take of the victim.
-fn best_thread(table: &Table, policy: &Policy, thief: &Held, victim: &Held) -> Option<ThreadId>
+/// The threads that the thief may take of the victim: the best of its queue, where the filter holds.
+fn best_thread(table: &Table, policy: &Policy, thief: &Held, victim: &Held) -> Stolen
     requires { AreTwo (meaning_of policy.now) (plan_of table.now)
         thief.now.core thief.now.state victim.now.core victim.now.state }
     ensures { result ≡ best_to_steal (meaning_of policy.now) (plan_of table.now)
         thief.now.core thief.now.state.core victim.now.core victim.now.state.core }
 {
-    if filter_holds(table, policy, thief, victim) {
-        victim.state.queue().best_for_steal(&policy.steal)
-    } else {
-        None
+    if !filter_holds(table, policy, thief, victim) {
+        return Stolen::empty();
+    }
+    match victim.state.queue().best_for_steal(&policy.steal) {
+        None => Stolen::empty(),
+        Some(thread) => Stolen::of(thread),
     }
 }
 
-/// The thief takes that thread, if there is one.
+/// The thief takes these threads, if there are any.
 pub(crate) fn take_best(
     table: &Table,
     policy: &Policy,
     thief: &mut Held,
     victim: &mut Held,
-) -> Option<ThreadId>
+) -> Stolen
     requires { AreTwo (meaning_of policy.now) (plan_of table.now)
         thief.old.core thief.old.state victim.old.core victim.old.state }
     ensures cores { (thief.new.core ≡ thief.old.core) × (victim.new.core ≡ victim.old.core) }
-    ensures thread { result ≡ best_to_steal (meaning_of policy.now) (plan_of table.now)
+    ensures threads { result ≡ best_to_steal (meaning_of policy.now) (plan_of table.now)
         thief.old.core thief.old.state.core victim.old.core victim.old.state.core }
     ensures taken { Steals result thief.old.state victim.old.state thief.new.state victim.new.state }
 {
-    let thread = best_thread(table, policy, thief, victim)?;
-    let task = victim.state.hand_over(thread);
+    let stolen = best_thread(table, policy, thief, victim);
+    if stolen.is_empty() {
+        return stolen;
+    }
+    let task = victim.state.hand_over(stolen.get(0));
     thief.state.receive(task);
-    Some(thread)
+    stolen
 }

@@ -53,7 +53,7 @@ wake_is (entry.Round number) e is = absurd (cc)
 wake_is (entry.Enter thread by at reads) e is = absurd (cc)
 wake_is (entry.Wake thread by at reads) e is = let same : entry.Wake thread by at reads ≡ e = cc in (same, record { thread = thread; by = by; at = at; reads = reads; is = sym same })
 wake_is (entry.Work by what) e is = absurd (cc)
-wake_is (entry.Steal by from thread reads) e is = absurd (cc)
+wake_is (entry.Steal by from threads reads) e is = absurd (cc)
 wake_is (entry.Fail by from reads) e is = absurd (cc)
 wake_is (entry.Pass by reads) e is = absurd (cc)
 

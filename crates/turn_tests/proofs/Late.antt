@@ -55,7 +55,7 @@ kind_of (entry.Round number) = inl refl
 kind_of (entry.Enter thread by at reads) = inr (by, refl)
 kind_of (entry.Wake thread by at reads) = inr (by, refl)
 kind_of (entry.Work by what) = inr (by, refl)
-kind_of (entry.Steal by from thread reads) = inr (by, refl)
+kind_of (entry.Steal by from threads reads) = inr (by, refl)
 kind_of (entry.Fail by from reads) = inr (by, refl)
 kind_of (entry.Pass by reads) = inr (by, refl)
 
@@ -73,7 +73,7 @@ module _ (p : Meaning) (plan : Plan) (fits : Fits p plan) (a : ℕ) where
   unit_late h (entry.Enter thread by at reads) work own legal = absurd (cc)
   unit_late h (entry.Wake thread by at reads) work own legal = absurd (cc)
   unit_late h (entry.Work by what) work own legal = subst (λ (c : ℕ). HasLetIn plan h c × HasWoken p plan h c) (same_core by a own) (legal.row.entered, legal.row.woken)
-  unit_late h (entry.Steal by from thread reads) work own legal = absurd (cc)
+  unit_late h (entry.Steal by from threads reads) work own legal = absurd (cc)
   unit_late h (entry.Fail by from reads) work own legal = absurd (cc)
   unit_late h (entry.Pass by reads) work own legal = absurd (cc)
 
@@ -84,7 +84,7 @@ module _ (p : Meaning) (plan : Plan) (fits : Fits p plan) (a : ℕ) where
   attempt_late h (entry.Enter thread by at reads) tries own legal = absurd (cc)
   attempt_late h (entry.Wake thread by at reads) tries own legal = absurd (cc)
   attempt_late h (entry.Work by what) tries own legal = absurd (cc)
-  attempt_late h (entry.Steal by from thread reads) tries own legal = subst (λ (c : ℕ). has_worked (own_entries h c) ≡ true) (same_core by a own) legal.row.worked
+  attempt_late h (entry.Steal by from threads reads) tries own legal = subst (λ (c : ℕ). has_worked (own_entries h c) ≡ true) (same_core by a own) legal.row.worked
   attempt_late h (entry.Fail by from reads) tries own legal = subst (λ (c : ℕ). has_worked (own_entries h c) ≡ true) (same_core by a own) legal.row.worked
   attempt_late h (entry.Pass by reads) tries own legal = subst (λ (c : ℕ). has_worked (own_entries h c) ≡ true) (same_core by a own) legal.row.worked
 

@@ -1,9 +1,5 @@
 -- What an attempt comes to, by its entry.
-use Rattle.std.proofs.Common.{◌≡◌, ℕ, ◌<◌, Bool, true, false, cond, length, Option, Some, None, refl, sym, ap, ◌∙◌, subst}
-use Rattle.sched_base.specs.declared.task.Task.{Task}
-use Rattle.policy_eval.specs.Orders.{best_of}
-use Rattle.policy_eval.specs.Sights.{pair_values}
-use Rattle.policy_eval.specs.Values.{holds}
+use Rattle.std.proofs.Common.{◌≡◌, ◌≢◌, ℕ, ◌<◌, List, [], ◌∷◌, length, Option, Some, None, refl, sym, ◌∙◌, subst}
 use Rattle.policy_tree.specs.Meaning.{Meaning}
 use Rattle.round_model.specs.declared.entry.Entry.{Entry}
 use Rattle.round_model.specs.declared.entry.Entry.TheVariants as entry
@@ -11,19 +7,17 @@ use Rattle.round_model.specs.declared.plan.Plan.{Plan}
 use Rattle.round_model.specs.declared.turns.NextStep.{NextStep}
 use Rattle.round_model.specs.declared.turns.NextStep.TheVariants as next
 use Rattle.round_model.specs.After.{after}
-use Rattle.round_model.specs.Attempts.{attempt_with, present_values, steal_or_fail}
-use Rattle.round_model.specs.Code.Outcomes.{entry_with}
+use Rattle.round_model.specs.Attempts.{attempt_with, moves_of, steal_or_fail}
 use Rattle.round_model.specs.Code.Turns.{ActsBy, MayAdd}
 use Rattle.round_model.specs.Cores.{Cores}
-use Rattle.round_model.specs.Work.{before}
 use Rattle.round_model.proofs.Grows.{legal_grows}
 use Rattle.round_model.proofs.OwedTotals.{room_for}
 use Rattle.core_table.specs.declared.views.View.{View}
 use Rattle.core_table.proofs.Positions.{above}
 use Rattle.core_calls.specs.Calls.{Tries}
 use Rattle.select_phase.specs.declared.looks.Look.{Look}
-use Rattle.steal_phase.specs.Attempts.{HasAdded, IsDrawn, MayAttempt, victim_in}
-use Rattle.steal_phase.proofs.Ending.{fails_at, passes, steals_at}
+use Rattle.steal_phase.specs.Attempts.{HasAdded, IsDrawn, MayAttempt}
+use Rattle.steal_phase.proofs.Ending.{failed_entry, fails_at, passes, steals_at, stolen_entry}
 use Rattle.turn_tests.specs.declared.memory_calls.MemoryCalls.{MemoryCalls}
 use Rattle.turn_tests.specs.Memory.{HasGrown, IsReady, core_of, history_of, meaning_in_memory, plan_of, view_of}
 use Rattle.turn_tests.specs.Steps.{IsNextStep, outcome_in}
@@ -33,19 +27,14 @@ use Rattle.turn_tests.proofs.Stepping.{by_is, tried_entry, tries_by}
 -- an attempt passes, or is one on the core that was chosen
 data Form (look : Look) (e : Entry) : Type 0 where
   passed : look.choice ≡ None → e ≡ entry.Pass look.by look.reads → Form look e
-  tried : (from : ℕ) (thread : Option ℕ) → look.choice ≡ Some from → e ≡ entry_with look.by from look.reads thread → Form look e
+  tried : (from : ℕ) (threads : List ℕ) → look.choice ≡ Some from → e ≡ steal_or_fail look.by from look.reads threads → Form look e
 
 form_of : (look : Look) (p : Meaning) (plan : Plan) (m : Cores) (e : Entry) → e ≡ attempt_with p plan m look.by look.reads look.choice → Form look e
 form_of look p plan m e is = by_choice look.choice refl is
   where
-    by_filter : (v : ℕ) → look.choice ≡ Some v → (may : Bool) (found : Option Task) → e ≡ cond may (steal_or_fail look.by v look.reads found) (entry.Fail look.by v look.reads) → Form look e
-    by_filter v chosen true None same = tried v None chosen same
-    by_filter v chosen true (Some t) same = tried v (Some t.id) chosen same
-    by_filter v chosen false found same = tried v None chosen same
-
     by_choice : (choice : Option ℕ) → look.choice ≡ choice → e ≡ attempt_with p plan m look.by look.reads choice → Form look e
     by_choice None none same = passed none same
-    by_choice (Some v) chosen same = by_filter v chosen (holds (pair_values (present_values plan m look.by) (present_values plan m v)) p.filter) (best_of (before p.steal) (m v).queue) same
+    by_choice (Some v) chosen same = tried v (moves_of p plan look.by v None (m look.by) (m v)) chosen same
 
 -- the outcome says what the entry does
 module _ (look : Look) (at : ℕ) (e : Entry) (v w : View) (drawn : IsDrawn look at e v) (added : HasAdded look.by at e v w) where
@@ -54,14 +43,17 @@ module _ (look : Look) (at : ℕ) (e : Entry) (v w : View) (drawn : IsDrawn look
     added = subst (λ (x : Entry). HasAdded look.by at x v w) is added;
     attempted = passes look at v none (subst (λ (x : Entry). IsDrawn look at x v) is drawn);
   })
-  has_tried (tried from None chosen is) = subst (λ (x : Entry). Tries look (outcome_in at x) v w) (sym is) (record {
-    added = subst (λ (x : Entry). HasAdded look.by at x v w) (is ∙ ap (λ (o : Option ℕ). entry.Fail look.by (victim_in o) look.reads) (sym chosen)) added;
-    attempted = fails_at look at from v chosen (subst (λ (x : Entry). IsDrawn look at x v) is drawn);
+  has_tried (tried from [] chosen is) = subst (λ (x : Entry). Tries look (outcome_in at x) v w) (sym is) (record {
+    added = subst (λ (x : Entry). HasAdded look.by at x v w) (is ∙ failed_entry look at from v chosen [] refl) added;
+    attempted = fails_at look at from v chosen [] refl (subst (λ (x : Entry). IsDrawn look at x v) is drawn);
   })
-  has_tried (tried from (Some thread) chosen is) = subst (λ (x : Entry). Tries look (outcome_in at x) v w) (sym is) (record {
-    added = subst (λ (x : Entry). HasAdded look.by at x v w) (is ∙ ap (λ (o : Option ℕ). entry.Steal look.by (victim_in o) thread look.reads) (sym chosen)) added;
-    attempted = steals_at look at from v chosen thread (subst (λ (x : Entry). IsDrawn look at x v) is drawn);
+  has_tried (tried from (id ∷ ids) chosen is) = subst (λ (x : Entry). Tries look (outcome_in at x) v w) (sym is) (record {
+    added = subst (λ (x : Entry). HasAdded look.by at x v w) (is ∙ stolen_entry look at from v chosen (id ∷ ids) some) added;
+    attempted = steals_at look at from v chosen (id ∷ ids) some (subst (λ (x : Entry). IsDrawn look at x v) is drawn);
   })
+    where
+      some : id ∷ ids ≢ []
+      some none = absurd (cc)
 
 -- so it is of the core in memory
 pub tries_at : (it : MemoryCalls) (ready : IsReady it) (look : Look) → MayAttempt (view_of it) look → (step : NextStep) (e : Entry) → step ≡ next.Adds e

@@ -43,6 +43,6 @@ did_in next.Over = None
 
 -- what an attempt came to
 abbrev pub outcome_in : ℕ → Entry → Outcome
-outcome_in at (entry.Steal by from thread reads) = outcome.Stole at thread
+outcome_in at (entry.Steal by from threads reads) = outcome.Stole at threads
 outcome_in at (entry.Fail by from reads) = outcome.Failed at
 outcome_in at e = outcome.Passed at

@@ -12,7 +12,7 @@ pub(crate) fn outcome(at: Pos, entry: &Entry) -> Outcome
     ensures { result ≡ outcome_in at entry.now }
 {
     match *entry {
-        Entry::Steal { thread, .. } => Outcome::Stole(at, thread),
+        Entry::Steal { threads, .. } => Outcome::Stole(at, threads),
         Entry::Fail { .. } => Outcome::Failed(at),
         _ => Outcome::Passed(at),
     }

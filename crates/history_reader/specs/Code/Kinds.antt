@@ -14,7 +14,7 @@ kind_of (entry.Round number) = kind.Round
 kind_of (entry.Enter thread by at reads) = kind.Enter
 kind_of (entry.Wake thread by at reads) = kind.Wake
 kind_of (entry.Work by what) = kind.Work
-kind_of (entry.Steal by from thread reads) = kind.Steal
+kind_of (entry.Steal by from threads reads) = kind.Steal
 kind_of (entry.Fail by from reads) = kind.Fail
 kind_of (entry.Pass by reads) = kind.Pass
 
@@ -48,8 +48,8 @@ rest_of (entry.Enter thread by at reads) =
 rest_of (entry.Wake thread by at reads) =
     spaced_number thread ++ (spaced_number by ++ (spaced_number at ++ rest_of_reads reads))
 rest_of (entry.Work by what) = spaced_number by ++ rest_of_did what
-rest_of (entry.Steal by from thread reads) =
-    spaced_number by ++ (spaced_number from ++ (spaced_number thread ++ rest_of_reads reads))
+rest_of (entry.Steal by from threads reads) =
+    spaced_number by ++ (spaced_number from ++ (spaced threads ++ rest_of_reads reads))
 rest_of (entry.Fail by from reads) = spaced_number by ++ (spaced_number from ++ rest_of_reads reads)
 rest_of (entry.Pass by reads) = spaced_number by ++ rest_of_reads reads
 

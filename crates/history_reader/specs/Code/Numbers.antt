@@ -1,6 +1,8 @@
 -- Numbers behind a space. They serve the code alone.
-use Rattle.std.specs.Prelude.{◌≡◌, ℕ, ◌≤◌, List, ◌++◌}
-use Rattle.sched_history.specs.Spelling.{spaced_number}
+use Rattle.std.specs.Prelude.{◌≡◌, ℕ, ◌≤◌, List, ◌++◌, All, length}
+use Rattle.sched_base.specs.declared.limits.TheConstants.{MAX_STOLEN}
+use Rattle.sched_history.specs.Ranges.{AreStolen, IsThreadNumber}
+use Rattle.sched_history.specs.Spelling.{spaced, spaced_number}
 use Rattle.history_reader.specs.Code.Cuts.{StartsWith}
 
 abbrev pub IsWithin : ℕ → ℕ → ℕ → Type 0
@@ -14,3 +16,12 @@ pub record BeginsWithNumber (IsRight : ℕ → Type 0) (text : List ℕ) (number
 
 abbrev pub BeginsWithNoNumber : (ℕ → Type 0) → List ℕ → Type 0
 BeginsWithNoNumber IsRight text = (number : ℕ) (behind : List ℕ) → BeginsWithNumber IsRight text number behind → ⊥
+
+-- The text begins with these threads. Where it is that of threads and then of no thread, then of these and of what stands
+-- behind them.
+pub record BeginsWithThreads (text threads behind : List ℕ) : Type 0 where
+  pub text_is : text ≡ spaced threads ++ behind
+  pub few : length threads ≤ MAX_STOLEN
+  pub numbers : All IsThreadNumber threads
+  pub only : (all tail : List ℕ) → AreStolen all → StartsWith 32 tail → BeginsWithNoNumber IsThreadNumber tail
+      → text ≡ spaced all ++ tail → (all ≡ threads) × (behind ≡ tail)

@@ -1,5 +1,5 @@
 -- Attempts and reads, as they are computed from a past.
-use Rattle.std.specs.Prelude.{◌≡◌, ℕ, ◌+◌, ◌≤◌, ◌<◌, List, length, Option, Some, None, MatchOption, slice_index}
+use Rattle.std.specs.Prelude.{◌≡◌, ℕ, ◌+◌, ◌≤◌, ◌<◌, List, length, Option, Some, MatchOption, slice_index}
 use Rattle.sched_base.specs.declared.limits.TheConstants.{MAX_THREADS}
 use Rattle.policy_tree.specs.Meaning.{Meaning}
 use Rattle.policy_eval.specs.declared.env.CoreValues.{CoreValues}
@@ -22,12 +22,7 @@ use Rattle.round_model.specs.Scenes.{scene_of}
 abbrev pub entry_of_attempt : ℕ → List ℕ → Attempt → Entry
 entry_of_attempt a reads attempt.Pass = entry.Pass a reads
 entry_of_attempt a reads (attempt.Fail from) = entry.Fail a from reads
-entry_of_attempt a reads (attempt.Steal from thread) = entry.Steal a from thread reads
-
--- the entry of an attempt on that core, with the thread that may be taken
-abbrev pub entry_with : (a from : ℕ) → List ℕ → Option ℕ → Entry
-entry_with a from reads None = entry.Fail a from reads
-entry_with a from reads (Some thread) = entry.Steal a from thread reads
+entry_of_attempt a reads (attempt.Steal from threads) = entry.Steal a from threads reads
 
 -- the core's threads can be counted
 abbrev pub IsCountable : ModelCore → Type 0

@@ -1,5 +1,5 @@
 -- The entries that may be added to a past.
-use Rattle.std.specs.Prelude.{ℕ, ◌<◌, List, length}
+use Rattle.std.specs.Prelude.{◌≢◌, ℕ, ◌<◌, List, length}
 use Rattle.sched_base.specs.declared.limits.TheConstants.{MAX_ENTRIES}
 use Rattle.policy_tree.specs.Meaning.{Meaning}
 use Rattle.round_model.specs.declared.entry.Entry.{Entry}
@@ -18,12 +18,12 @@ pub record IsNextAfter (p : Meaning) (plan : Plan) (past : Past) (e : Entry) : T
   pub legal : LegalNext p plan history e
   pub room : length history < MAX_ENTRIES
 
--- the cores that the entry changes are among so many
+-- the cores that the entry changes are among so many, and no core steals from itself
 abbrev pub AreThere : ℕ → Entry → Type 0
 AreThere n (entry.Enter thread by at reads) = at < n
 AreThere n (entry.Wake thread by at reads) = (by < n) × (at < n)
 AreThere n (entry.Work by what) = by < n
-AreThere n (entry.Steal by from thread reads) = (by < n) × (from < n)
+AreThere n (entry.Steal by from threads reads) = (by < n) × ((from < n) × (by ≢ from))
 AreThere n e = Unit {0}
 
 -- what the entry says of a unit is what the unit comes to

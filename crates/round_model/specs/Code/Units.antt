@@ -1,5 +1,6 @@
 -- A unit of work, as it is computed before anything changes.
 use Rattle.std.specs.Prelude.{◌≡◌, ℕ, ◌+◌, ◌<◌, ◌^◌, ◌++◌, List, [], ◌∷◌, length, remove, Option, Some, None, IsSome}
+use Rattle.sched_base.specs.declared.limits.TheConstants.{MAX_STOLEN}
 use Rattle.sched_base.specs.declared.task.Task.{Task}
 use Rattle.policy_tree.specs.declared.typed.Put.{Put}
 use Rattle.policy_tree.specs.declared.typed.Put.TheVariants as put
@@ -15,9 +16,9 @@ use Rattle.round_model.specs.Moves.{with_task}
 use Rattle.round_model.specs.Programs.{burst_of}
 use Rattle.round_model.specs.Work.{Worked, did_of, elected, worked}
 
--- there is room for a task more in each list of the core
+-- there is room in each list of the core for a task more, and in its queue for as many as one steal moves
 pub record IsSmallCore (core : ModelCore) : Type 0 where
-  pub queue : length core.queue + 1 < 2 ^ 32
+  pub queue : length core.queue + MAX_STOLEN < 2 ^ 32
   pub blocked : length core.blocked + 1 < 2 ^ 32
 
 -- the core without the task that runs: the current one, or the one in that place of the queue

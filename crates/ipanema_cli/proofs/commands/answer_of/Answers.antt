@@ -1,4 +1,4 @@
--- What `check` and `explain` load is the one file of their command.
+-- What `check`, `explain` and `prove` load is the one file of their command.
 use Rattle.std.proofs.Common.{ap, subst, sym}
 use Rattle.command_words.specs.Asks.{asked}
 use Rattle.ipanema_cli.specs.Loads.{FirstAreLoaded}
@@ -22,3 +22,8 @@ pub returns-in-Explain-clause-loads : goal.returns-in-Explain-clause-loads
 returns-in-Explain-clause-loads g c =
     subst (λ request. FirstAreLoaded (asked request) (g.F.Files.told c.args.files.now) (g.F.Files.requested c.args.files.now) (g.F.Files.requested c.explain.new.files))
     (sym c.in-Explain.is) (record { count = 1; loaded = c.explain.ensures.loads; goes_on = tt })
+
+pub returns-in-Prove-clause-loads : goal.returns-in-Prove-clause-loads
+returns-in-Prove-clause-loads g c =
+    subst (λ request. FirstAreLoaded (asked request) (g.F.Files.told c.args.files.now) (g.F.Files.requested c.args.files.now) (g.F.Files.requested c.prove_policy.new.files))
+    (sym c.in-Prove.is) (record { count = 1; loaded = c.prove_policy.ensures.loads; goes_on = tt })

@@ -1,7 +1,8 @@
-use Rattle.std.proofs.Common.{◌≡◌, sym, ap, ◌∙◌, option_map, slice_get, Some, arith}
+use Rattle.std.proofs.Common.{◌≡◌, [], ◌∷◌, sym, ap, ◌∙◌, slice_get, Some, arith}
 use Rattle.policy_tree.specs.Meaning.{meaning_of}
 use Rattle.policy_eval.specs.Orders.{best_of}
 use Rattle.round_model.specs.declared.state.ModelCore.{ModelCore}
+use Rattle.round_model.specs.Attempts.{moves_with}
 use Rattle.round_model.specs.Work.{before}
 use Rattle.round_model.proofs.Elections.{item_at}
 use Rattle.round_model.proofs.Outcomes.{attempt_taken}
@@ -15,4 +16,4 @@ returns-then-filter_holds c m reads is =
     let same = listed_at plan.cores m c.args.state.now victim there.0 is there.1 c.requires.victim in
     attempt_taken p plan m c.args.core reads victim c.best_queued.result
     (sym (c.filter_holds.ensures m is) ∙ c.if-filter_holds.true)
-    (c.best_queued.ensures there.0 there.1 ∙ ap (λ (core : ModelCore). option_map (λ t. t.id) (best_of (before p.steal) core.queue)) same)
+    (c.best_queued.ensures there.0 there.1 ∙ ap (λ (core : ModelCore). moves_with (best_of (before p.steal) core.queue) (λ t. t.id ∷ [])) same)

@@ -20,5 +20,5 @@ returns-in-Fail-clause-legal c history stands begun owes =
 pub returns-in-Steal-clause-legal : goal.returns-in-Steal-clause-legal
 returns-in-Steal-clause-legal c history stands begun owes =
     let p = meaning_of c.args.policy.now in let plan = c.args.plan.now in
-    attempt_may p plan history c.args.core c.args.reads (attempt.Steal c.in-Steal.from c.in-Steal.thread) (read_fit p plan c.args.past.now history c.args.reads stands c.requires.read)
+    attempt_may p plan history c.args.core c.args.reads (attempt.Steal c.in-Steal.from c.in-Steal.threads) (read_fit p plan c.args.past.now history c.args.reads stands c.requires.read)
     (c.attempt.ensures history stands ∙ ap (entry_of_attempt c.args.core c.args.reads) c.in-Steal.is) begun c.requires.core owes

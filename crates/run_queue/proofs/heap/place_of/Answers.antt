@@ -4,5 +4,5 @@ use Rattle.run_queue.proofs.heap.place_of.Goals as goal
 
 pub unreachable-requires : goal.unreachable-requires
 unreachable-requires c =
-    let inside = c.requires.1.1 in let len = c.len-at-end.ensures in let ok = c.args.heap.now.ok.0 in
+    let inside = c.requires.1.1 in
     c.loop-at.invariant (c.requires.1.0) c.requires.0 (omega arith) (ap (λ (item : Ranked). item.node) (c.requires.1.2) ∙ c.requires.2)
