@@ -7,7 +7,7 @@ import sys
 from collections import namedtuple
 from pathlib import Path
 
-from histories import Refused, read_report
+from histories import Refused, read_report, read_waste
 
 PROGRAM = Path(__file__).resolve().parent.parent / "ipanema"
 WHOLE, STOPPED, NOT_WHOLE = 0, 8, 9
@@ -64,6 +64,22 @@ def report_of(policy, trace, history, verdict):
     if verdict.word != "whole":
         return None
     return read_report(ask((WHOLE,), "report", policy, trace, history))
+
+
+def played(policy, trace):
+    """The history that is played of the trace, or None where the policy isn't accepted."""
+    text = ask({WHOLE, STOPPED} | VERDICTS, "play", policy, trace)
+    return None if text.endswith((b"refused\n", b"undecided\n")) else text
+
+
+def simulated(policy, trace):
+    """The same under a policy that needn't be accepted."""
+    return ask((WHOLE, STOPPED), "simulate", policy, trace)
+
+
+def waste_of(policy, trace):
+    """What that history wastes."""
+    return read_waste(ask((WHOLE, STOPPED), "waste", policy, trace))
 
 
 # ---- the files

@@ -33,11 +33,13 @@ REPORT_FORMS = {
     "bad": "bad <count>",
     "wasted": "wasted <count>",
 }
+# What `waste` writes: how many steals a stretch has, and failed steals that no entry explains.
+WASTE_FORMS = {**REPORT_FORMS, "still": f"{REPORT_FORMS['still']} steals <steals>", "unexplained": "fail <position>"}
 TOTALS = ["rounds", "entries", "steals", "fails", "bad", "wasted"]
 
 # A line has the values of the words in angle brackets by their names.
 Line = namedtuple("Line", "kind text values")
-Report = namedtuple("Report", "rounds stills fails totals")
+Report = namedtuple("Report", "rounds stills fails unexplained totals")
 
 
 class Refused(Exception):
@@ -96,8 +98,16 @@ def read_history(data):
 
 def read_report(data):
     """The rounds, the still stretches, the fails and the totals of a report."""
-    lines = read_lines(data, "report", REPORT_FORMS)
-    kinds = [line.kind for line in lines]
+    return report_in(read_lines(data, "report", REPORT_FORMS))
+
+
+def read_waste(data):
+    """The same of what `waste` writes, with the failed steals that no entry explains."""
+    return report_in(read_lines(data, "report", WASTE_FORMS))
+
+
+def report_in(lines):
+    kinds = [line.kind.replace("unexplained", "fail") for line in lines]
     order = ["round", "still", "fail"]
     body = kinds[:-len(TOTALS)]
     if kinds[-len(TOTALS):] != TOTALS or any(kind not in order for kind in body):
@@ -111,7 +121,8 @@ def read_report(data):
     stills = [line for line in lines if line.kind == "still"]
     if any(not line.values["round"] <= line.values["last"] <= totals["rounds"] for line in stills):
         raise Refused("a stretch of still rounds goes from one of its rounds to the same or a later one")
-    return Report(rounds, stills, [line for line in lines if line.kind == "fail"], totals)
+    fails, unexplained = ([line for line in lines if line.kind == kind] for kind in ("fail", "unexplained"))
+    return Report(rounds, stills, fails, unexplained, totals)
 
 
 def threads_of(values):

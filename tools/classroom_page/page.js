@@ -80,19 +80,25 @@ function drawCores(at) {
   part("cores").replaceChildren();
   const pending = pendingLooks(at);
   stateAt(at).forEach((core, number) => {
-    const card = drawCore(part("cores"), core, number, entry);
+    const card = drawCore(part("cores"), core, number, entry, isWasted(core, at));
     pending.filter((look) => look.victim === number).forEach((look) => drawEye(card, look));
   });
 }
 
-function drawCore(parent, core, number, entry) {
+// Whether a core without a thread is wasted: another one has several, as was so when the round began.
+function isWasted(core, at) {
+  const round = facts.rounds[rounds[at] - 1];
+  return countOf(core) === 0 && round !== undefined && round.idle > 0 && stateAt(at).some((other) => countOf(other) > 1);
+}
+
+function drawCore(parent, core, number, entry, wasted) {
   const roles = Object.entries(ROLES[entry.kind]).filter(([name]) => entry[name] === number);
-  const card = add(parent, "div", roles.length ? "core acts" : "core");
+  const card = add(parent, "div", `core${roles.length ? " acts" : ""}${wasted ? " wasted" : ""}`);
   card.dataset.core = number;
   const head = add(card, "div", "head");
   add(head, "span", "title", `core ${number}`);
   roles.slice(0, 1).forEach(([, words]) => add(head, "span", "role", words));
-  add(head, "span", "load", loadWord(core));
+  add(head, "span", "load", wasted ? "idle, and a thread waits" : loadWord(core));
   drawLoad(drawThreads(card, "runs", core.running === null ? [] : [core.running], entry), core);
   drawThreads(card, "queue", core.queue, entry);
   if (core.blocked.length) drawThreads(card, "blocked", core.blocked, entry);

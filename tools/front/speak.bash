@@ -1,7 +1,7 @@
 # What the front adds to the program's answers, on standard error alone: its status and its output stay as they are. To be read by a
 # script of bash that has set `front`, the folder of this file. Sentences on a fault need python3; without it they are left out.
 
-commands=(check explain prove verify play run replay report make bench)
+commands=(check explain prove verify play run simulate waste replay report make bench)
 obligations=(B1 B2 B3 B4 {H1,H2}.{enqueue,tick,yield,block})
 
 say() {
@@ -17,6 +17,8 @@ usage_of() {
     verify) say '  ipanema verify POLICY CERTS             do these certificates prove the policy? no solver is asked' ;;
     play) say '  ipanema play POLICY TRACE               play the trace, core after core, and write the history' ;;
     run) say '  ipanema run POLICY TRACE                play it with all cores side by side' ;;
+    simulate) say '  ipanema simulate POLICY TRACE           play it core after core, also where the policy may waste cores' ;;
+    waste) say '  ipanema waste POLICY TRACE              what did that history waste, and why did its steals fail?' ;;
     replay) say '  ipanema replay POLICY TRACE HISTORY     is that history whole?' ;;
     report) say '  ipanema report POLICY TRACE HISTORY     what did that history waste, and why did its steals fail?' ;;
     make) say '  ipanema make SEED SIZE                  write a made trace of SIZE threads, 1 to 1023, drawn from a number SEED' ;;
@@ -128,6 +130,11 @@ say_file() {
   say "ipanema: a file wasn't read, and now each can be; call it again"
 }
 
+# Status 1 or 3 of a command that wants right handlers.
+say_not_playable() {
+  say "ipanema: an obligation of a handler, \`H1\` or \`H2\`, doesn't hold or is undecided, so nothing was played; \`ipanema explain ${2@Q} NAME\` says more of a line above"
+}
+
 # Status 1 or 3 of a command that wants an accepted policy.
 say_not_accepted() {
   local what='played' verdict='refused'
@@ -171,6 +178,7 @@ answer() {
       7,*) say_words "$@" ;;
       4,*) say_file "$@" ;;
       2,* | 10,*) say_fault "$status" "$program" "$@" ;;
+      [13],simulate | [13],waste) say_not_playable "$@" ;;
       [13],prove | [13],play | [13],run | [13],replay | [13],report) say_not_accepted "$status" "$@" ;;
     esac
   } >/dev/null

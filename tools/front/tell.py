@@ -16,6 +16,7 @@ import line_text as lines
 
 FILES = {"check": ["policy"], "explain": ["policy"], "play": ["policy", "trace"], "run": ["policy", "trace"]}
 FILES.update({"prove": ["policy"], "verify": ["policy", "certs"]})
+FILES.update(dict.fromkeys(["simulate", "waste"], ["policy", "trace"]))
 FILES.update(dict.fromkeys(["replay", "report"], ["policy", "trace", "history"]))
 LONGEST = {"policy": 65536, "trace": 4194304, "history": 33554432, "certs": 33554432}
 SECONDS = 60

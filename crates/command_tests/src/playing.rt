@@ -20,13 +20,14 @@ use std::thread::Threads;
 use std::{fs, io};
 
 /// The tables, in the order in which they are played.
-const TABLES: [&str; 11] = [
+const TABLES: [&str; 12] = [
     "statuses.cases",
     "words.cases",
     "check.cases",
     "certs.cases",
     "play.cases",
     "faults.cases",
+    "simulate.cases",
     "run.cases",
     "histories.cases",
     "made.cases",

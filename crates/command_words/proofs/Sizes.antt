@@ -5,7 +5,7 @@ use Rattle.std.specs.List.{list_all}
 use Rattle.std.specs.Str.{bytes_eq}
 use Rattle.obligations.specs.declared.names.ObName.{ObName}
 use Rattle.command_words.specs.Command.{Asked, asked_by, asked_plainly, bench, check, explain, is_plain, make, name_of, play}
-use Rattle.command_words.specs.Command.{prove, replay, report, run, verify}
+use Rattle.command_words.specs.Command.{prove, replay, report, run, simulate, verify, waste}
 use Rattle.command_words.specs.Numbers.{is_size, seed_in, size_in}
 
 -- if a trace is to be made, its size is one, and if one is to be played too
@@ -84,6 +84,14 @@ ran : (policy trace : List ℕ) → IsSized (Some (run policy trace))
 ran policy trace =
     record { made = λ s n e. absurd (let bad = e in cc); benched = λ s n e. absurd (let bad = e in cc) }
 
+simulated : (policy trace : List ℕ) → IsSized (Some (simulate policy trace))
+simulated policy trace =
+    record { made = λ s n e. absurd (let bad = e in cc); benched = λ s n e. absurd (let bad = e in cc) }
+
+wasted : (policy trace : List ℕ) → IsSized (Some (waste policy trace))
+wasted policy trace =
+    record { made = λ s n e. absurd (let bad = e in cc); benched = λ s n e. absurd (let bad = e in cc) }
+
 replayed : (policy trace history : List ℕ) → IsSized (Some (replay policy trace history))
 replayed policy trace history =
     record { made = λ s n e. absurd (let bad = e in cc); benched = λ s n e. absurd (let bad = e in cc) }
@@ -107,8 +115,10 @@ plainly (verb ∷ a ∷ b ∷ []) =
     (either (bytes_eq (codes "verify") verb) _ _ (verified a b)
     (either (bytes_eq (codes "play") verb) _ _ (played a b)
     (either (bytes_eq (codes "run") verb) _ _ (ran a b)
+    (either (bytes_eq (codes "simulate") verb) _ _ (simulated a b)
+    (either (bytes_eq (codes "waste") verb) _ _ (wasted a b)
     (either (bytes_eq (codes "make") verb) _ _ (made (seed_in a) b)
-    (either (bytes_eq (codes "bench") verb) _ _ (benched (seed_in a) b) nothing)))))
+    (either (bytes_eq (codes "bench") verb) _ _ (benched (seed_in a) b) nothing)))))))
 plainly (verb ∷ a ∷ b ∷ c ∷ []) =
     either (bytes_eq (codes "replay") verb) _ _ (replayed a b c)
     (either (bytes_eq (codes "report") verb) _ _ (reported a b c) nothing)

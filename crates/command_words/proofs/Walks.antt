@@ -81,6 +81,20 @@ run (one a) = simp a.plain
 run (two a b) = simp (a.plain, b.plain)
 run (three a b c) = simp (a.plain, b.plain, c.plain)
 
+simulate : (behind : Behind) → AgreesAt (codes "simulate" ∷ texts behind)
+unfolding clap_on_literals
+simulate none = refl
+simulate (one a) = simp a.plain
+simulate (two a b) = simp (a.plain, b.plain)
+simulate (three a b c) = simp (a.plain, b.plain, c.plain)
+
+waste : (behind : Behind) → AgreesAt (codes "waste" ∷ texts behind)
+unfolding clap_on_literals
+waste none = refl
+waste (one a) = simp a.plain
+waste (two a b) = simp (a.plain, b.plain)
+waste (three a b c) = simp (a.plain, b.plain, c.plain)
+
 replay : (behind : Behind) → AgreesAt (codes "replay" ∷ texts behind)
 unfolding clap_on_literals
 replay none = refl
@@ -117,16 +131,18 @@ other : (v : Word) (behind : Behind)
     → bytes_eq (codes "verify") (text v) ≡ false
     → bytes_eq (codes "play") (text v) ≡ false
     → bytes_eq (codes "run") (text v) ≡ false
+    → bytes_eq (codes "simulate") (text v) ≡ false
+    → bytes_eq (codes "waste") (text v) ≡ false
     → bytes_eq (codes "replay") (text v) ≡ false
     → bytes_eq (codes "report") (text v) ≡ false
     → bytes_eq (codes "make") (text v) ≡ false
     → bytes_eq (codes "bench") (text v) ≡ false
     → AgreesAt (text v ∷ texts behind)
 unfolding clap_on_literals
-other v none a b c d e f g h i j = simp (v.plain, a, b, c, d, e, f, g, h, i, j)
-other v (one w) a b c d e f g h i j = simp (v.plain, w.plain, a, b, c, d, e, f, g, h, i, j)
-other v (two w x) a b c d e f g h i j = simp (v.plain, w.plain, x.plain, a, b, c, d, e, f, g, h, i, j)
-other v (three w x y) a b c d e f g h i j = simp (v.plain, w.plain, x.plain, y.plain, a, b, c, d, e, f, g, h, i, j)
+other v none a b c d e f g h i j k l = simp (v.plain, a, b, c, d, e, f, g, h, i, j, k, l)
+other v (one w) a b c d e f g h i j k l = simp (v.plain, w.plain, a, b, c, d, e, f, g, h, i, j, k, l)
+other v (two w x) a b c d e f g h i j k l = simp (v.plain, w.plain, x.plain, a, b, c, d, e, f, g, h, i, j, k, l)
+other v (three w x y) a b c d e f g h i j k l = simp (v.plain, w.plain, x.plain, y.plain, a, b, c, d, e, f, g, h, i, j, k, l)
 
 -- the verb is this one, or it isn't
 at_verb : (verb word : Text) (P : Text → Type 0) → P verb → (bytes_eq verb word ≡ false → P word) → P word
@@ -145,11 +161,13 @@ with_verb v behind =
     at_verb (codes "verify") (text v) P (verify behind) (λ d.
     at_verb (codes "play") (text v) P (play behind) (λ e.
     at_verb (codes "run") (text v) P (run behind) (λ f.
-    at_verb (codes "replay") (text v) P (replay behind) (λ g.
-    at_verb (codes "report") (text v) P (report behind) (λ h.
-    at_verb (codes "make") (text v) P (make behind) (λ i.
-    at_verb (codes "bench") (text v) P (bench behind) (λ j.
-    other v behind a b c d e f g h i j))))))))))
+    at_verb (codes "simulate") (text v) P (simulate behind) (λ g.
+    at_verb (codes "waste") (text v) P (waste behind) (λ h.
+    at_verb (codes "replay") (text v) P (replay behind) (λ i.
+    at_verb (codes "report") (text v) P (report behind) (λ j.
+    at_verb (codes "make") (text v) P (make behind) (λ k.
+    at_verb (codes "bench") (text v) P (bench behind) (λ l.
+    other v behind a b c d e f g h i j k l))))))))))))
 
 no_words : AgreesAt []
 unfolding clap_on_literals

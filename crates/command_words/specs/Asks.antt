@@ -1,9 +1,10 @@
 -- What a request asks for.
 use Rattle.std.specs.Prelude.{Option, Some, None}
-use Rattle.command_words.specs.Command.{Asked, bench, check, explain, make, play, prove, replay, report, run, verify}
+use Rattle.command_words.specs.Command.{Asked, bench, check, explain, make, play, prove, replay, report, run, simulate}
+use Rattle.command_words.specs.Command.{verify, waste}
 use Rattle.command_words.specs.declared.request.Request.{Request}
 use Rattle.command_words.specs.declared.request.Request.TheVariants.{Bench, Check, Explain, Make, Play, Replay, Report}
-use Rattle.command_words.specs.declared.request.Request.TheVariants.{Prove, Run, Unknown, Verify}
+use Rattle.command_words.specs.declared.request.Request.TheVariants.{Prove, Run, Simulate, Unknown, Verify, Waste}
 
 abbrev pub asked : Request → Option Asked
 asked (Check policy) = Some (check policy.now)
@@ -12,6 +13,8 @@ asked (Prove policy) = Some (prove policy.now)
 asked (Verify policy certs) = Some (verify policy.now certs.now)
 asked (Play policy trace) = Some (play policy.now trace.now)
 asked (Run policy trace) = Some (run policy.now trace.now)
+asked (Simulate policy trace) = Some (simulate policy.now trace.now)
+asked (Waste policy trace) = Some (waste policy.now trace.now)
 asked (Replay policy trace history) = Some (replay policy.now trace.now history.now)
 asked (Report policy trace history) = Some (report policy.now trace.now history.now)
 asked (Make seed size) = Some (make seed size)

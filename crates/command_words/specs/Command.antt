@@ -21,6 +21,10 @@ pub data Asked : Type 0 where
   play : (policy trace : List ℕ) → Asked
   -- to play it by all cores side by side
   run : (policy trace : List ℕ) → Asked
+  -- to play it serially under a policy of which only the handlers need be right
+  simulate : (policy trace : List ℕ) → Asked
+  -- to report what that history wasted
+  waste : (policy trace : List ℕ) → Asked
   -- to judge the history in the third file by the policy and the trace in the others
   replay : (policy trace history : List ℕ) → Asked
   -- to report of the history in the third file under the policy and the trace in the others
@@ -65,6 +69,8 @@ asked_by_two verb first second =
     else if bytes_eq (codes "verify") verb then Some (verify first second)
     else if bytes_eq (codes "play") verb then Some (play first second)
     else if bytes_eq (codes "run") verb then Some (run first second)
+    else if bytes_eq (codes "simulate") verb then Some (simulate first second)
+    else if bytes_eq (codes "waste") verb then Some (waste first second)
     else if bytes_eq (codes "make") verb then made_by first second
     else if bytes_eq (codes "bench") verb then benched_by first second
     else None

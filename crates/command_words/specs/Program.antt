@@ -6,7 +6,7 @@ use Rattle.clap.specs.Words.{App, Row, Rule, Shape, Text, first_of, new_rule}
 use Rattle.clap.specs.Simple.{new_shape}
 use Rattle.clap.specs.declared.builder.ArgAction.TheVariants.{Set}
 use Rattle.command_words.specs.Command.{Asked, benched_by, check, explain, made_by, name_of, play, prove, replay}
-use Rattle.command_words.specs.Command.{report, run, verify}
+use Rattle.command_words.specs.Command.{report, run, simulate, verify, waste}
 
 -- a word that has to be there
 abbrev pub wanted : Text → Rule
@@ -37,6 +37,8 @@ commands =
     ∷ command_of (codes "verify") (codes "POLICY" ∷ codes "CERTS" ∷ [])
     ∷ command_of (codes "play") (codes "POLICY" ∷ codes "TRACE" ∷ [])
     ∷ command_of (codes "run") (codes "POLICY" ∷ codes "TRACE" ∷ [])
+    ∷ command_of (codes "simulate") (codes "POLICY" ∷ codes "TRACE" ∷ [])
+    ∷ command_of (codes "waste") (codes "POLICY" ∷ codes "TRACE" ∷ [])
     ∷ command_of (codes "replay") (codes "POLICY" ∷ codes "TRACE" ∷ codes "HISTORY" ∷ [])
     ∷ command_of (codes "report") (codes "POLICY" ∷ codes "TRACE" ∷ codes "HISTORY" ∷ [])
     ∷ command_of (codes "make") (codes "SEED" ∷ codes "SIZE" ∷ [])
@@ -62,6 +64,9 @@ asked_in verb rows =
     Some (verify (word_in rows (codes "POLICY")) (word_in rows (codes "CERTS")))
     else if bytes_eq verb (codes "play") then Some (play (word_in rows (codes "POLICY")) (word_in rows (codes "TRACE")))
     else if bytes_eq verb (codes "run") then Some (run (word_in rows (codes "POLICY")) (word_in rows (codes "TRACE")))
+    else if bytes_eq verb (codes "simulate") then
+    Some (simulate (word_in rows (codes "POLICY")) (word_in rows (codes "TRACE")))
+    else if bytes_eq verb (codes "waste") then Some (waste (word_in rows (codes "POLICY")) (word_in rows (codes "TRACE")))
     else if bytes_eq verb (codes "replay") then
     Some (replay (word_in rows (codes "POLICY")) (word_in rows (codes "TRACE")) (word_in rows (codes "HISTORY")))
     else if bytes_eq verb (codes "report") then

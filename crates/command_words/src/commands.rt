@@ -20,6 +20,7 @@ pub(crate) fn program<'a>(alloc: Global) -> Result<Command<'a>, AllocError>
     let program = with_command(program, alloc, "explain", &["POLICY", "NAME"])?;
     let program = with_command(program, alloc, "verify", &["POLICY", "CERTS"])?;
     let program = with_two(program, alloc, "play", "run", &["POLICY", "TRACE"])?;
+    let program = with_two(program, alloc, "simulate", "waste", &["POLICY", "TRACE"])?;
     let program = with_two(
         program,
         alloc,

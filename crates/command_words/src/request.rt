@@ -45,6 +45,16 @@ pub enum Request<'a> {
         policy: &'a str,
         trace: &'a str,
     },
+    /// To play it serially, under a policy of which only the handlers need be right.
+    Simulate {
+        policy: &'a str,
+        trace: &'a str,
+    },
+    /// To report what that history wasted.
+    Waste {
+        policy: &'a str,
+        trace: &'a str,
+    },
     /// To judge the history in the third file by the policy and the trace in the others.
     Replay {
         policy: &'a str,
@@ -120,6 +130,14 @@ fn request_in<'a>(verb: &str, words: &ArgMatches<'a>) -> Request<'a>
             trace: word_in(words, "TRACE"),
         },
         "run" => Request::Run {
+            policy: word_in(words, "POLICY"),
+            trace: word_in(words, "TRACE"),
+        },
+        "simulate" => Request::Simulate {
+            policy: word_in(words, "POLICY"),
+            trace: word_in(words, "TRACE"),
+        },
+        "waste" => Request::Waste {
             policy: word_in(words, "POLICY"),
             trace: word_in(words, "TRACE"),
         },

@@ -1,9 +1,9 @@
 -- What a wake and a steal make of the cores: a thread leaves one core and comes to another, which may be the same.
-use Rattle.std.proofs.Common.{◌≡◌, ℕ, eqb, Bool, cond, true, false, ◌||◌, List, [], ◌∷◌, Some, refl, sym, ap, ◌∙◌, arith}
+use Rattle.std.proofs.Common.{◌≡◌, ◌≢◌, ℕ, eqb, Bool, cond, true, false, ◌||◌, List, [], ◌∷◌, Some, refl, sym, ap, ◌∙◌, arith}
 use Rattle.std.proofs.lemmas.Bool.Decides.{nat_tests}
+use Rattle.std.proofs.lemmas.List.{append-nil}
 use Rattle.sched_base.specs.declared.task.Task.{Task}
 use Rattle.policy_tree.specs.Meaning.{Meaning}
-use Rattle.round_model.specs.declared.entry.Entry.{Entry}
 use Rattle.round_model.specs.declared.entry.Entry.TheVariants as entry
 use Rattle.round_model.specs.declared.plan.Plan.{Plan}
 use Rattle.round_model.specs.declared.state.Blocked.{Blocked}
@@ -12,11 +12,11 @@ use Rattle.round_model.specs.After.{effect, moved, woken}
 use Rattle.round_model.specs.Code.Updates.{updated}
 use Rattle.round_model.specs.Cores.{Cores}
 use Rattle.round_model.specs.Entries.{touches}
-use Rattle.round_model.specs.Kinds.{is_attempt}
-use Rattle.round_model.specs.Moves.{admitted, blocked_of, handed, handed_all, is_blocked_task, queued_of, received, received_all, released}
+use Rattle.round_model.specs.Attempts.{steal_or_fail}
+use Rattle.round_model.specs.Moves.{admitted, blocked_of, handed_all, is_blocked_task, received_all, released}
 use Rattle.round_model.proofs.Finding.{find-passes}
-use Rattle.round_model.proofs.Moved.{unmoved_fail, unmoved_pass}
-use Rattle.round_model.proofs.Takings.{one_found}
+use Rattle.round_model.proofs.Moved.{moved_steal, unmoved_fail}
+use Rattle.core_moves.specs.Code.Steals.{taken_over}
 
 -- a change of one core and then of another
 two_changes : (m : Cores) (a b : ℕ) (f g : ModelCore → ModelCore) (c : ℕ)
@@ -46,6 +46,24 @@ where_second x true f g core = refl
 where_second true false f g core = refl
 where_second false false f g core = refl
 
+-- where none comes and none leaves, both stay
+none_come : (core : ModelCore) → received_all [] core ≡ core
+unfolding received_all
+none_come core = ap (λ (queue : List Task). let come : ModelCore = record core { queue = queue } in come) (append-nil core.queue)
+
+none_leave : (core : ModelCore) → handed_all [] core ≡ core
+unfolding handed_all
+none_leave core = refl
+
+same_once : (n : Cores) (a : ℕ) (x : ModelCore) → x ≡ n a → (c : ℕ) → updated n a x c ≡ n c
+same_once n a x is c = elim (eqb a c) as (λ b. eqb a c ≡ b → cond b x (n c) ≡ n c) [
+  | true ↦ λ here. let same : a ≡ c = grind (arith, nat_tests) in is ∙ ap n same
+  | false ↦ λ elsewhere. refl
+] refl
+
+same_twice : (m : Cores) (a b : ℕ) (x y : ModelCore) → x ≡ m a → y ≡ m b → (c : ℕ) → updated (updated m a x) b y c ≡ m c
+same_twice m a b x y first second c = same_once (updated m a x) b y (second ∙ sym (same_once m a x first b)) c ∙ same_once m a x first c
+
 module _ (p : Meaning) (plan : Plan) (round : ℕ) (m : Cores) where
   -- a thread wakes
   pub wakes : (thread by at : ℕ) (reads : List ℕ) (b : Blocked) (t : Task) → blocked_of thread (m by) ≡ Some b → b.task ≡ t → (c : ℕ)
@@ -60,23 +78,7 @@ module _ (p : Meaning) (plan : Plan) (round : ℕ) (m : Cores) where
       ∙ (ap (λ id. let left : ModelCore = cond (eqb by c) (released id (m c)) (m c) in cond (eqb by c || eqb at c) (cond (eqb at c) (admitted p false b.task left) left) (m c)) (sym named)
       ∙ ap (λ o. cond (eqb by c || eqb at c) (woken p by at c o (m c)) (m c)) (sym is))))
 
-  -- a thread is stolen
-  pub steals : (by from thread : ℕ) (reads : List ℕ) (t : Task) → queued_of thread (m from) ≡ Some t → (c : ℕ)
-      → updated (updated m from (handed thread (m from))) by (received t (updated m from (handed thread (m from)) by)) c
-      ≡ moved p plan round (entry.Steal by from (thread ∷ []) reads) m c
-  unfolding touches effect handed handed_all received received_all
-  steals by from thread reads t is c =
-      two_changes m from by (handed thread) (received t) c
-      ∙ (where_second (eqb from c) (eqb by c) (handed thread) (received t) (m c)
-      ∙ ap (λ (found : List Task). let left : ModelCore = cond (eqb from c) (handed_all (thread ∷ []) (m c)) (m c) in
-      cond (eqb by c || eqb from c) (cond (eqb by c) (received_all found left) left) (m c)) (sym (one_found thread t (m from) is)))
-
-  -- an attempt that takes nothing
-  pub takes_nothing : (e : Entry) → is_attempt e ≡ true → ((by from : ℕ) (threads reads : List ℕ) → e ≡ entry.Steal by from threads reads → ⊥) → (c : ℕ) → m c ≡ moved p plan round e m c
-  takes_nothing (entry.Round number) kind none c = absurd (cc)
-  takes_nothing (entry.Enter thread by at reads) kind none c = absurd (cc)
-  takes_nothing (entry.Wake thread by at reads) kind none c = absurd (cc)
-  takes_nothing (entry.Work by what) kind none c = absurd (cc)
-  takes_nothing (entry.Steal by from threads reads) kind none c = absurd (none by from threads reads refl)
-  takes_nothing (entry.Fail by from reads) kind none c = unmoved_fail p plan round m by from reads c
-  takes_nothing (entry.Pass by reads) kind none c = unmoved_pass p plan round m by reads c
+  -- threads go over, or none does
+  pub attempts : (by from : ℕ) (threads reads : List ℕ) → by ≢ from → (c : ℕ) → taken_over m by from threads c ≡ moved p plan round (steal_or_fail by from reads threads) m c
+  attempts by from [] reads apart c = same_twice m by from (received_all [] (m by)) (handed_all [] (m from)) (none_come (m by)) (none_leave (m from)) c ∙ unmoved_fail p plan round m by from reads c
+  attempts by from (id ∷ ids) reads apart c = moved_steal p plan round m by from (id ∷ ids) reads apart c

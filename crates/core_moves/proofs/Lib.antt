@@ -8,3 +8,4 @@ pub mod Shown
 pub mod Stealing
 pub mod Waking
 pub mod Working
+pub mod Between

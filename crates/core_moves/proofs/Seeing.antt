@@ -1,22 +1,18 @@
 -- What a core sees of the cores that a legal history left.
-use Rattle.std.proofs.Common.{◌≡◌, ℕ, ◌<◌, ◌≤◌, true, List, All, length, take, option_map, option_to_list, slice_get, Option, Some, sym, ap, ◌∙◌, subst, arith}
+use Rattle.std.proofs.Common.{◌≡◌, ℕ, ◌<◌, ◌≤◌, List, All, length, take, sym, ◌∙◌, subst, arith}
 use Rattle.sched_base.specs.declared.limits.TheConstants.{MAX_CORES, MAX_ENTRIES}
-use Rattle.sched_base.specs.declared.task.Task.{Task}
 use Rattle.policy_tree.specs.Meaning.{Meaning}
 use Rattle.policy_eval.specs.declared.env.CoreValues.{CoreValues}
 use Rattle.policy_eval.specs.Fitting.{CoreFits}
 use Rattle.policy_eval.specs.Obligations.{MeetsHandlerObligations}
-use Rattle.policy_eval.specs.Orders.{best_of}
 use Rattle.round_model.specs.declared.entry.Entry.{Entry}
 use Rattle.round_model.specs.declared.plan.Plan.{Plan}
 use Rattle.round_model.specs.After.{after}
-use Rattle.round_model.specs.Attempts.{attempt_on, present_values, steal_or_fail}
-use Rattle.round_model.specs.Choices.{may_steal, values_in}
+use Rattle.round_model.specs.Choices.{values_in}
 use Rattle.round_model.specs.Cores.{seen_of}
 use Rattle.round_model.specs.Fits.{Fits}
 use Rattle.round_model.specs.Reads.{values_of}
-use Rattle.round_model.specs.Work.{before}
-use Rattle.round_model.proofs.Outcomes.{attempt_best, values_All}
+use Rattle.round_model.proofs.Outcomes.{values_All}
 use Rattle.core_state.specs.Logs.{after_last}
 use Rattle.core_state.specs.Views.{CoreView}
 use Rattle.core_state.proofs.Quiet.{last_within}
@@ -26,7 +22,7 @@ use Rattle.core_moves.specs.Cores.{AreCoresOf, AreReached, CoresView, shown}
 use Rattle.core_moves.specs.Sights.{values_now}
 use Rattle.core_moves.proofs.Fresh.{value_now}
 use Rattle.core_moves.proofs.Reached.{countable, seen_fits}
-use Rattle.core_moves.proofs.Shown.{all_shown, holds_shown, shown_at, shown_count, shown_some}
+use Rattle.core_moves.proofs.Shown.{all_shown, holds_shown, shown_count, shown_some}
 
 -- the core was seen as it is
 abbrev pub IsSeenAt : Plan → List CoreView → ℕ → CoreValues → Type 0
@@ -37,16 +33,6 @@ module _ (p : Meaning) (plan : Plan) (v : CoresView) where
   pub seen_is : (h : List Entry) → AreCoresOf p plan h v → (c : ℕ) (seen : CoreValues) → c < plan.cores → IsSeenAt plan v.cores c seen
       → seen ≡ values_of plan c (seen_of (after p plan h c))
   seen_is h are c seen there is = is (shown p plan h (after p plan h) c) (shown_some p plan h (after p plan h) v are c there)
-
-  -- the attempt takes the best thread of the victim that was seen, if there is one
-  pub attempt_seen : (h : List Entry) → AreCoresOf p plan h v → (a c : ℕ) (y : CoreView) → c < plan.cores → slice_get v.cores c ≡ Some y
-      → may_steal p (present_values plan (after p plan h) a) (present_values plan (after p plan h) c) ≡ true
-      → (taken : Option ℕ) → taken ≡ option_map (λ (t : Task). t.id) (best_of (before p.steal) y.core.queue)
-      → (threads reads : List ℕ) → threads ≡ option_to_list taken → attempt_on p plan (after p plan h) a reads c ≡ steal_or_fail a c reads threads
-  attempt_seen h are a c y there at passes taken is threads reads same =
-      attempt_best p plan (after p plan h) a reads c taken passes
-      (is ∙ ap (λ (z : CoreView). option_map (λ (t : Task). t.id) (best_of (before p.steal) z.core.queue)) (shown_at p plan h (after p plan h) v are c y there at))
-      ∙ ap (steal_or_fail a c reads) (sym same)
 
   -- and what a core reads that looks just now
   pub seen_now : (h : List Entry) → AreCoresOf p plan h v → (a c : ℕ) (seen : CoreValues) → c < plan.cores → IsSeenAt plan v.cores c seen → seen ≡ values_now p plan h a c

@@ -1,94 +1,70 @@
--- A thread is stolen: what each step asks, and what they come to.
-use Rattle.std.proofs.Common.{◌≡◌, ℕ, ◌<◌, List, [], ◌∷◌, ◌++◌, IsSome, Some, length, slice_index, sym, ap, ◌∙◌, subst, arith}
+-- Threads go over from one core to another: what the call asks, and what it comes to.
+use Rattle.std.proofs.Common.{◌≡◌, ◌≢◌, ℕ, ◌<◌, ℤ, true, List, [], ◌∷◌, ◌++◌, get_or, get_or-set_other, set, refl, sym, ap, ◌∙◌, subst}
 use Rattle.sched_base.specs.declared.task.Task.{Task}
 use Rattle.policy_tree.specs.Meaning.{Meaning}
 use Rattle.policy_eval.specs.Obligations.{MeetsHandlerObligations}
-use Rattle.policy_eval.proofs.Wide.{thread_wide}
 use Rattle.round_model.specs.declared.entry.Entry.{Entry}
-use Rattle.round_model.specs.declared.entry.Entry.TheVariants as entry
 use Rattle.round_model.specs.declared.plan.Plan.{Plan}
+use Rattle.round_model.specs.declared.state.ModelCore.{ModelCore}
 use Rattle.round_model.specs.After.{after, round_of}
+use Rattle.round_model.specs.Attempts.{moves_of, steal_or_fail}
 use Rattle.round_model.specs.Code.Updates.{updated}
-use Rattle.round_model.specs.Cores.{Cores}
+use Rattle.round_model.specs.Cores.{Cores, consts_of}
 use Rattle.round_model.specs.Fits.{Fits}
-use Rattle.round_model.specs.Moves.{handed, queued_of, received}
+use Rattle.round_model.specs.Kinds.{is_attempt}
+use Rattle.round_model.specs.Moves.{handed_all, received_all, taken_from}
 use Rattle.round_model.proofs.Grows.{one_more}
-use Rattle.round_model.proofs.Keeping.{holds_handed, queued_fits, standing_handed}
-use Rattle.round_model.proofs.There.{are_there}
-use Rattle.run_queue.specs.Tasks.{IsSeenTask}
-use Rattle.core_moves.specs.Code.Changes.{Becomes, HoldsAt}
-use Rattle.core_moves.specs.Cores.{CoresView, Shows, shown}
-use Rattle.core_moves.specs.Moves.{MayMove}
-use Rattle.core_moves.proofs.Effects.{steals}
-use Rattle.core_moves.proofs.Found.{steal_queued}
-use Rattle.core_moves.proofs.Reached.{can_admit, core_holds}
-use Rattle.core_moves.proofs.Shown.{holds_shown, shown_count, shown_same, shown_some}
+use Rattle.round_model.proofs.Keeping.{updated_other}
+use Rattle.core_state.specs.Views.{CoreView}
+use Rattle.batch_moves.specs.Sides.{MayTake}
+use Rattle.batch_moves.proofs.Reached.{may_take}
+use Rattle.core_moves.specs.Code.Steals.{HoldsOfTwo, TakesBetween, taken_over}
+use Rattle.core_moves.specs.Cores.{AreCoresOf, AreReached, CoresView, Shows, shown}
+use Rattle.core_moves.proofs.Effects.{attempts}
+use Rattle.core_moves.proofs.Shown.{shown_at, shown_item, shown_put, shown_same, shown_some}
 
--- a steal that may come moves one thread
-pub one_stolen : (p : Meaning) (plan : Plan) (h : List Entry) (by from : ℕ) (threads reads : List ℕ) (old : CoresView) → MayMove p plan h (entry.Steal by from threads reads) old
-    → (first : ℕ) → first ≡ slice_index threads 0 → threads ≡ first ∷ []
-one_stolen p plan h by from threads reads old may first is =
-    let one = steal_queued p plan h by from threads reads may.next in
-    one.1 ∙ ap (λ id. id ∷ []) (sym (is ∙ ap (λ (ids : List ℕ). slice_index ids 0) one.1))
+-- an attempt on a core that was chosen is one
+pub tries : (by from : ℕ) (reads threads : List ℕ) → is_attempt (steal_or_fail by from reads threads) ≡ true
+tries by from reads [] = refl
+tries by from reads (id ∷ ids) = refl
 
-pub some_stolen : (p : Meaning) (plan : Plan) (h : List Entry) (by from : ℕ) (threads reads : List ℕ) (old : CoresView) (e : Entry) → e ≡ entry.Steal by from threads reads
-    → MayMove p plan h e old → 0 < length threads
-some_stolen p plan h by from threads reads old e is may =
-    let named = subst (λ (x : Entry). MayMove p plan h x old) is may in
-    let count = ap length (steal_queued p plan h by from threads reads named.next).1 in omega (arith, count)
+module _ (p : Meaning) (plan : Plan) (v : CoresView) (a b : ℕ) (first : a < plan.cores) (second : b < plan.cores) (apart : a ≢ b) where
+  -- threads may go over between two cores that a legal history left
+  pub may_take_two : Fits p plan → MeetsHandlerObligations p → AreReached p plan v → HoldsOfTwo v.cores a b (MayTake p)
+  may_take_two fits handlers reached y z at there =
+      let h = reached.0 in let m : Cores = after p plan h in
+      let own = shown_at p plan h m v reached.1.are a y first at in let other = shown_at p plan h m v reached.1.are b z second there in
+      may_take p plan fits handlers h reached.1.legal a b y z first second apart
+      (ap (λ (y : CoreView). y.core) own) (ap (λ (y : CoreView). y.room) own) (ap (λ (y : CoreView). y.core) other)
 
-pub one_may : (p : Meaning) (plan : Plan) (h : List Entry) (by from : ℕ) (threads reads : List ℕ) (old : CoresView) (e : Entry) → e ≡ entry.Steal by from threads reads
-    → MayMove p plan h e old → (first : ℕ) → first ≡ slice_index threads 0 → MayMove p plan h (entry.Steal by from (first ∷ []) reads) old
-one_may p plan h by from threads reads old e is may first at =
-    let named = subst (λ (x : Entry). MayMove p plan h x old) is may in
-    subst (λ (ids : List ℕ). MayMove p plan h (entry.Steal by from ids reads) old) (one_stolen p plan h by from threads reads old named first at) named
+  module _ (own other : List ℤ) (threads : List ℕ) (cores : List CoreView) (takes : TakesBetween p own other a b threads v.cores cores) where
+    -- which threads those are
+    pub threads_are : own ≡ consts_of plan a → other ≡ consts_of plan b → (h : List Entry) → AreCoresOf p plan h v
+        → threads ≡ moves_of p plan a b p.batch (after p plan h a) (after p plan h b)
+    threads_are own_is other_is h are =
+        let m : Cores = after p plan h in
+        (takes (shown p plan h m a) (shown p plan h m b) (shown_some p plan h m v are a first) (shown_some p plan h m v are b second)).moves plan a b own_is other_is
 
-module _ (p : Meaning) (plan : Plan) (h : List Entry) (by from thread : ℕ) (reads : List ℕ) (old : CoresView)
-    (may : MayMove p plan h (entry.Steal by from (thread ∷ []) reads) old) where
-  there : (by < plan.cores) × (from < plan.cores)
-  there = let all = are_there p plan h (entry.Steal by from (thread ∷ []) reads) may.next in (all.0, all.1.0)
+    -- the cores are those where they went over
+    pub shown_over : (new : CoresView) → new ≡ record v { cores = cores } → (h : List Entry) (m : Cores) → Shows p plan h m v → Shows p plan h (taken_over m a b threads) new
+    shown_over new is h m shows =
+        let y : CoreView = shown p plan h m a in let z : CoreView = shown p plan h m b in
+        let found : List Task = (taken_from threads (m b).queue).found in
+        let come : ModelCore = received_all found (m a) in let left : ModelCore = handed_all threads (m b) in
+        let y_now : CoreView = record y { core = come } in let z_now : CoreView = record z { core = left } in
+        let taken = takes y z (shown_some p plan h m v shows a first) (shown_some p plan h m v shows b second) in
+        let mid : CoresView = record v { cores = set v.cores a y_now } in
+        let one : Shows p plan h (updated m a come) mid =
+        shown_put p plan h m v mid shows a first y y_now (sym (shown_item p plan h m v shows a y first)) (received_all found) refl refl in
+        let there : z ≡ get_or (set v.cores a y_now) b z = sym (get_or-set_other v.cores a b y_now z (λ same. apart (sym same)) ∙ shown_item p plan h m v shows b z second) in
+        let two = shown_put p plan h (updated m a come) mid new one b second z z_now there (handed_all threads) refl (is ∙ ap (λ (list : List CoreView). let u : CoresView = record v { cores = list } in u) taken.cores) in
+        subst (λ (x : ModelCore). Shows p plan h (updated (updated m a come) b (handed_all threads x)) new) (updated_other m a b come apart) two
 
-  queued_there : IsSome (queued_of thread (after p plan h from))
-  queued_there =
-      let one = steal_queued p plan h by from (thread ∷ []) reads may.next in
-      let same : thread ≡ one.0 = let alone = one.1 in cc in
-      subst (λ id. IsSome (queued_of id (after p plan h from))) (sym same) one.2
-
-  pub from_in : from < length old.cores
-  from_in = let count = shown_count p plan h (after p plan h) old may.are in let inside = there.1 in omega arith
-
-  pub is_queued : HoldsAt old.cores from (λ y. IsSome (queued_of thread y.core))
-  is_queued = holds_shown p plan h (after p plan h) old may.are (λ y. IsSome (queued_of thread y.core)) from there.1 queued_there
-
-  module _ (mid : CoresView) (t : Task) (taken : HoldsAt old.cores from (λ y. queued_of thread y.core ≡ Some t)) (left : Becomes p from (handed thread) old mid) where
-    without : Cores
-    without = updated (after p plan h) from (handed thread (after p plan h from))
-
-    shows_mid : Shows p plan h without mid
-    unfolding without
-    shows_mid = left plan h (after p plan h) there.1 may.are
-
-    task_is : queued_of thread (after p plan h from) ≡ Some t
-    task_is = taken (shown p plan h (after p plan h) from) (shown_some p plan h (after p plan h) old may.are from there.1)
-
-    pub by_in : by < length mid.cores
-    by_in = let count = shown_count p plan h without mid shows_mid in let inside = there.0 in omega arith
-
-    pub task_seen : Fits p plan → MeetsHandlerObligations p → IsSeenTask t
-    task_seen fits handlers = thread_wide p fits.policy t (queued_fits p thread t (after p plan h from) (core_holds p plan fits handlers h may.legal from there.1) task_is)
-
-    pub has_room : Fits p plan → MeetsHandlerObligations p → HoldsAt mid.cores by (λ y. length y.core.queue < y.room)
-    unfolding without
-    has_room fits handlers =
-        holds_shown p plan h without mid shows_mid (λ y. length y.core.queue < y.room) by there.0
-        (can_admit p plan fits handlers h may.legal from by (handed thread) there.1 there.0 (standing_handed p thread (after p plan h from) queued_there)
-        (holds_handed p thread (after p plan h from) (core_holds p plan fits handlers h may.legal from there.1))).room.queue
-
-    -- the cores are those behind the steal, and its entry isn't logged yet
-    pub ends : (last : CoresView) → Becomes p by (received t) mid last → Shows p plan h (after p plan (h ++ entry.Steal by from (thread ∷ []) reads ∷ [])) last
-    unfolding without
-    ends last came =
-        let e : Entry = entry.Steal by from (thread ∷ []) reads in
-        shown_same p plan h (updated without by (received t (without by))) (after p plan (h ++ e ∷ [])) last
-        (λ c inside. steals p plan (round_of h) (after p plan h) by from thread reads t task_is c ∙ sym (ap (λ (k : Cores). k c) (one_more p plan h e)))
-        (came plan h without there.0 shows_mid)
+  -- those behind the attempt, which isn't logged yet
+  pub moved_over : (threads reads : List ℕ) (new : CoresView) (h : List Entry) → Shows p plan h (taken_over (after p plan h) a b threads) new
+      → (e : Entry) → e ≡ steal_or_fail a b reads threads → Shows p plan h (after p plan (h ++ e ∷ [])) new
+  moved_over threads reads new h shows e is =
+      let m : Cores = after p plan h in let tried : Entry = steal_or_fail a b reads threads in
+      subst (λ (x : Entry). Shows p plan h (after p plan (h ++ x ∷ [])) new) (sym is)
+      (shown_same p plan h (taken_over m a b threads) (after p plan (h ++ tried ∷ [])) new
+      (λ c inside. attempts p plan (round_of h) m a b threads reads apart c ∙ sym (ap (λ (k : Cores). k c) (one_more p plan h tried))) shows)

@@ -8,9 +8,8 @@ ghost use Rattle.policy_eval.specs.Obligations.{MeetsHandlerObligations};
 ghost use Rattle.policy_eval.specs.Resolved.{IsResolved};
 ghost use Rattle.round_model.specs.Fits.{Fits};
 ghost use Rattle.round_model.specs.Kinds.{is_round};
-ghost use Rattle.round_model.specs.Moves.{admitted, blocked_of, handed, queued_of, received, released};
+ghost use Rattle.round_model.specs.Moves.{admitted, blocked_of, released};
 ghost use Rattle.round_model.specs.Work.{IsOutcomeOfWork, core_after_work};
-ghost use Rattle.run_queue.specs.Tasks.{IsSeenTask};
 ghost use Rattle.core_moves.specs.Code.Changes.{AreNoted, Becomes, CanAdmit, CanLog, CanRun, HoldsAt, Notes};
 
 use crate::cores::Cores;
@@ -41,26 +40,6 @@ impl Cores {
         ensures core { (p : Meaning) → Becomes p core (released thread) self.old self.new }
     {
         self.cores[core as usize].release_blocked(thread)
-    }
-
-    /// Takes the queued thread out of the core.
-    pub(crate) fn hand_over(&mut self, core: CoreId, thread: ThreadId) -> Task
-        requires core { core < length self.old.cores }
-        requires there { HoldsAt self.old.cores core (λ y. IsSome (queued_of thread y.core)) }
-        ensures task { HoldsAt self.old.cores core (λ y. queued_of thread y.core ≡ Some result) }
-        ensures core { (p : Meaning) → Becomes p core (handed thread) self.old self.new }
-    {
-        self.cores[core as usize].hand_over(thread)
-    }
-
-    /// The task comes to the end of the core's queue.
-    pub(crate) fn receive(&mut self, core: CoreId, task: Task)
-        requires core { core < length self.old.cores }
-        requires room { HoldsAt self.old.cores core (λ y. length y.core.queue < y.room) }
-        requires task { IsSeenTask task }
-        ensures { (p : Meaning) → Becomes p core (received task) self.old self.new }
-    {
-        self.cores[core as usize].receive(task);
     }
 
     /// The core runs one unit in that round. It says what became of the thread that ran.

@@ -8,5 +8,6 @@ mod changes;
 pub mod cores;
 pub mod moves;
 pub mod sights;
+mod steals;
 
 pub use crate::cores::Cores;

@@ -1,14 +1,17 @@
 //! How each kind of entry moves the cores.
 
-ghost use Rattle.std.specs.Prelude.{IsTrue};
+ghost use Rattle.std.specs.Prelude.{◌≡◌, ◌≢◌, ◌<◌, [], ◌∷◌, ◌++◌, IfSome, IsTrue};
 ghost use Rattle.policy_tree.specs.Meaning.{Meaning, meaning_of};
 ghost use Rattle.policy_eval.specs.Obligations.{MeetsHandlerObligations};
 ghost use Rattle.round_model.specs.declared.entry.Entry.TheVariants as entry;
 ghost use Rattle.round_model.specs.declared.plan.Plan.{Plan};
+ghost use Rattle.round_model.specs.After.{after};
+ghost use Rattle.round_model.specs.Attempts.{attempt_with};
 ghost use Rattle.round_model.specs.Fits.{Fits};
 ghost use Rattle.round_model.specs.Kinds.{is_attempt};
-ghost use Rattle.core_moves.specs.Code.Changes.{MovesCores};
+ghost use Rattle.core_moves.specs.Cores.{AreCoresOf, AreReached, Shows};
 ghost use Rattle.core_moves.specs.Moves.{Admits, AdmitsNext, AdmitsWork, Moved, Worked};
+ghost use Rattle.core_moves.specs.Sights.{OfEach};
 
 use crate::cores::Cores;
 use core_state::Logged;
@@ -93,33 +96,58 @@ impl Cores {
         did
     }
 
-    /// A core makes its attempt of the round: a steal, a fail or a pass.
-    pub fn attempt(&mut self, entry: &Entry)
-        requires kind { IsTrue (is_attempt entry.now) }
-        requires next { Admits entry.now self.old }
-        ensures { (p : Meaning) (plan : Plan) → Moved p plan entry.now self.old self.new }
+    /// The core makes its attempt of the round by that choice and what it has read. The cores as they are decide what
+    /// comes of it: a steal, a fail or a pass. It tells that entry.
+    pub fn attempt(
+        &mut self,
+        policy: &Policy,
+        plan: &Plan,
+        core: CoreId,
+        choice: Option<CoreId>,
+        reads: Reads,
+    ) -> Entry
+        requires fits { Fits (meaning_of policy.now) plan.now }
+        requires handlers { MeetsHandlerObligations (meaning_of policy.now) }
+        requires reached { AreReached (meaning_of policy.now) plan.now self.old }
+        requires room { self.old.entries < plan.now.limit }
+        requires core { core < plan.now.cores }
+        requires choice { IfSome choice (λ v. (v < plan.now.cores) × (core ≢ v)) }
+        ensures entry { OfEach (meaning_of policy.now) plan.now self.old (λ history. result ≡ attempt_with
+            (meaning_of policy.now) plan.now (after (meaning_of policy.now) plan.now history) core reads choice) }
+        ensures cores { OfEach (meaning_of policy.now) plan.now self.old (λ history.
+            AreCoresOf (meaning_of policy.now) plan.now (history ++ result ∷ []) self.new) }
     {
-        self.take_stolen(entry);
-        self.note(entry);
+        let entry = self.move_by(policy, plan, core, choice, reads);
+        self.note(&entry);
+        entry
     }
 
-    /// The thread that the attempt takes, if it takes one, goes over to the core that makes it. A steal moves one.
-    fn take_stolen(&mut self, entry: &Entry)
-        requires kind { IsTrue (is_attempt entry.now) }
-        requires next { Admits entry.now self.old }
-        ensures { MovesCores entry.now self.old self.new }
+    /// The threads that the attempt takes, if it takes any, go over to the core that makes it. Its entry isn't logged.
+    fn move_by(
+        &mut self,
+        policy: &Policy,
+        plan: &Plan,
+        core: CoreId,
+        choice: Option<CoreId>,
+        reads: Reads,
+    ) -> Entry
+        requires fits { Fits (meaning_of policy.now) plan.now }
+        requires handlers { MeetsHandlerObligations (meaning_of policy.now) }
+        requires reached { AreReached (meaning_of policy.now) plan.now self.old }
+        requires core { core < plan.now.cores }
+        requires choice { IfSome choice (λ v. (v < plan.now.cores) × (core ≢ v)) }
+        ensures kind { IsTrue (is_attempt result) }
+        ensures entry { OfEach (meaning_of policy.now) plan.now self.old (λ history. result ≡ attempt_with
+            (meaning_of policy.now) plan.now (after (meaning_of policy.now) plan.now history) core reads choice) }
+        ensures cores { OfEach (meaning_of policy.now) plan.now self.old (λ history. Shows (meaning_of policy.now)
+            plan.now history (after (meaning_of policy.now) plan.now (history ++ result ∷ [])) self.new) }
     {
-        match entry {
-            Entry::Steal {
-                by,
-                from,
-                threads,
-                ..
-            } => {
-                let task = self.hand_over(*from, threads.get(0));
-                self.receive(*by, task);
+        match choice {
+            None => Entry::Pass { by: core, reads },
+            Some(from) => {
+                let threads = self.steal(policy, plan, core, from);
+                Entry::steal_or_fail(core, from, threads, reads)
             }
-            _ => {}
         }
     }
 }

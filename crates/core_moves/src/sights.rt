@@ -5,8 +5,7 @@ ghost use Rattle.policy_tree.specs.Meaning.{Meaning, meaning_of};
 ghost use Rattle.policy_eval.specs.Obligations.{MeetsHandlerObligations};
 ghost use Rattle.round_model.specs.declared.plan.Plan.{Plan};
 ghost use Rattle.round_model.specs.After.{after};
-ghost use Rattle.round_model.specs.Attempts.{attempt_on, present_values, steal_or_fail};
-ghost use Rattle.round_model.specs.Choices.{choice_of, may_steal as may_steal_by, target_of, values_in};
+ghost use Rattle.round_model.specs.Choices.{choice_of, target_of, values_in};
 ghost use Rattle.round_model.specs.Cores.{seen_of};
 ghost use Rattle.round_model.specs.Fits.{Fits};
 ghost use Rattle.round_model.specs.Reads.{values_of as values_by};
@@ -20,8 +19,8 @@ use core_state::end_of;
 use policy_eval::CoreValues;
 use policy_tree::Policy;
 use round_model::state::CountAndLoad;
-use round_model::{Plan, choice, may_steal, target, values_of};
-use sched_base::{CoreId, MAX_CORES, Reads, Stolen, ThreadId};
+use round_model::{Plan, choice, target, values_of};
+use sched_base::{CoreId, MAX_CORES, Reads, ThreadId};
 
 impl Cores {
     /// What a core that looks just now reads: of each core the position behind the last entry that touched it, or the
@@ -72,42 +71,6 @@ impl Cores {
     {
         let values = self.values(plan);
         target(policy, &values[..plan.cores as usize], core)
-    }
-
-    /// The threads that the core may take of the victim, as both are: the best of its queue, where the filter holds.
-    pub fn stealable(&self, policy: &Policy, plan: &Plan, core: CoreId, victim: CoreId) -> Stolen
-        requires fits { Fits (meaning_of policy.now) plan.now }
-        requires handlers { MeetsHandlerObligations (meaning_of policy.now) }
-        requires reached { AreReached (meaning_of policy.now) plan.now self.now }
-        requires core { core < plan.now.cores }
-        requires victim { victim < plan.now.cores }
-        ensures { OfEach (meaning_of policy.now) plan.now self.now (λ history. (reads : List ℕ) → attempt_on
-            (meaning_of policy.now) plan.now (after (meaning_of policy.now) plan.now history) core reads victim
-            ≡ steal_or_fail core victim reads result) }
-    {
-        if !self.filter_holds(policy, plan, core, victim) {
-            return Stolen::empty();
-        }
-        match self.core(victim).queue().best_for_steal(&policy.steal) {
-            None => Stolen::empty(),
-            Some(thread) => Stolen::of(thread),
-        }
-    }
-
-    /// Whether the core may take of the victim, as both are.
-    fn filter_holds(&self, policy: &Policy, plan: &Plan, core: CoreId, victim: CoreId) -> bool
-        requires fits { Fits (meaning_of policy.now) plan.now }
-        requires handlers { MeetsHandlerObligations (meaning_of policy.now) }
-        requires reached { AreReached (meaning_of policy.now) plan.now self.now }
-        requires core { core < plan.now.cores }
-        requires victim { victim < plan.now.cores }
-        ensures { OfEach (meaning_of policy.now) plan.now self.now (λ history. result ≡ may_steal_by
-            (meaning_of policy.now) (present_values plan.now (after (meaning_of policy.now) plan.now history) core)
-            (present_values plan.now (after (meaning_of policy.now) plan.now history) victim)) }
-    {
-        let own = self.present(plan, core);
-        let other = self.present(plan, victim);
-        may_steal(policy, &own, &other)
     }
 
     /// What is to be seen of each core of the plan as it is.

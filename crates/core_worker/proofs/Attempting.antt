@@ -1,21 +1,28 @@
 -- What an attempt is, and what it is not.
-use Rattle.std.proofs.Common.{◌≡◌, ℕ, true, false, List, [], ◌∷◌, Some, refl}
+use Rattle.std.proofs.Common.{◌≡◌, ◌≢◌, ℕ, ◌<◌, true, false, List, [], ◌∷◌, IfSome, Option, Some, None, refl, sym, subst}
+use Rattle.policy_tree.specs.Meaning.{Meaning}
+use Rattle.policy_eval.specs.declared.env.CoreValues.{CoreValues}
 use Rattle.round_model.specs.declared.entry.Entry.{Entry}
 use Rattle.round_model.specs.declared.entry.Entry.TheVariants as entry
 use Rattle.round_model.specs.declared.past.Arrival.{Arrival}
+use Rattle.round_model.specs.declared.plan.Plan.{Plan}
 use Rattle.round_model.specs.Code.Additions.{arrivals_after}
-use Rattle.round_model.specs.Attempts.{steal_or_fail}
-use Rattle.round_model.specs.Entries.{acting_core, ends}
+use Rattle.round_model.specs.Attempts.{attempt_with, moves_of}
+use Rattle.round_model.specs.Choices.{choice_of}
+use Rattle.round_model.specs.Cores.{Cores}
+use Rattle.round_model.specs.Entries.{ends}
 use Rattle.round_model.specs.Kinds.{is_attempt, is_work}
+use Rattle.round_model.proofs.Outcomes.{choice_other}
+use Rattle.core_moves.proofs.Stealing.{tries}
 
--- one on a core that was chosen is an attempt of the core that makes it
-pub tries : (by from : ℕ) (reads threads : List ℕ) → is_attempt (steal_or_fail by from reads threads) ≡ true
-tries by from reads [] = refl
-tries by from reads (id ∷ ids) = refl
+-- an attempt is one of the core that makes it
+pub attempts : (p : Meaning) (plan : Plan) (m : Cores) (a : ℕ) (reads : List ℕ) (chosen : Option ℕ) → is_attempt (attempt_with p plan m a reads chosen) ≡ true
+attempts p plan m a reads None = refl
+attempts p plan m a reads (Some v) = tries a v reads (moves_of p plan a v p.batch (m a) (m v))
 
-pub tries_itself : (by from : ℕ) (reads threads : List ℕ) → acting_core (steal_or_fail by from reads threads) ≡ Some by
-tries_itself by from reads [] = refl
-tries_itself by from reads (id ∷ ids) = refl
+-- a core is never its own choice
+pub chosen_apart : (p : Meaning) (n : ℕ) (values : ℕ → CoreValues) (a : ℕ) (choice : Option ℕ) → choice ≡ choice_of p n values a → IfSome choice (λ v. (v < n) × (a ≢ v))
+chosen_apart p n values a choice is = subst (λ (o : Option ℕ). IfSome o (λ v. (v < n) × (a ≢ v))) (sym is) (choice_other p n values a)
 
 -- an attempt is no unit of work
 pub no_work : (e : Entry) → is_attempt e ≡ true → is_work e ≡ false

@@ -1,24 +1,19 @@
-//! What a core decides by the cores as they are: where it places a thread, and what its attempt comes to.
+//! Where a core places a thread, by the cores as they are.
 
-ghost use Rattle.std.specs.Prelude.{◌≡◌, ◌<◌, IsTrue, Some};
+ghost use Rattle.std.specs.Prelude.{◌≡◌, ◌<◌, Some};
 ghost use Rattle.policy_tree.specs.Meaning.{meaning_of};
 ghost use Rattle.policy_eval.specs.Obligations.{MeetsHandlerObligations};
-ghost use Rattle.round_model.specs.After.{after};
-ghost use Rattle.round_model.specs.Attempts.{attempt_with};
 ghost use Rattle.round_model.specs.Choices.{target_of};
 ghost use Rattle.round_model.specs.Code.Outcomes.{values_at};
 ghost use Rattle.round_model.specs.Code.Turns.{placement_by};
-ghost use Rattle.round_model.specs.Entries.{acting_core};
 ghost use Rattle.round_model.specs.Fits.{Fits};
-ghost use Rattle.round_model.specs.Kinds.{is_attempt};
 ghost use Rattle.round_model.specs.Serial.{SerialState};
 ghost use Rattle.core_moves.specs.Sights.{reads_now};
-ghost use Rattle.core_worker.specs.Runs.{HasLooked, IsAt, IsMoment};
+ghost use Rattle.core_worker.specs.Runs.{IsAt, IsMoment};
 
 use crate::run::Run;
-use crate::turn::Look;
 use policy_tree::{PlaceRule, Policy};
-use round_model::{Entry, Plan};
+use round_model::Plan;
 use sched_base::{CoreId, Reads};
 
 impl Run {
@@ -40,35 +35,6 @@ impl Run {
                 self.cores.target(policy, plan, core),
                 self.cores.fresh_reads(plan),
             ),
-        }
-    }
-
-    /// The attempt of the core by that look: the cores as they are decide what comes of its choice.
-    pub(crate) fn attempt_entry(
-        &self,
-        policy: &Policy,
-        plan: &Plan,
-        core: CoreId,
-        look: Look,
-    ) -> Entry
-        requires fits { Fits (meaning_of policy.now) plan.now }
-        requires handlers { MeetsHandlerObligations (meaning_of policy.now) }
-        requires at { IsAt (meaning_of policy.now) plan.now
-            (HasLooked (meaning_of policy.now) plan.now core look) self.now }
-        requires core { core < plan.now.cores }
-        ensures kind { IsTrue (is_attempt result) }
-        ensures acts { acting_core result ≡ Some core }
-        ensures attempt { (s : SerialState) → IsMoment (meaning_of policy.now) plan.now self.now s →
-            result ≡ attempt_with (meaning_of policy.now) plan.now (after (meaning_of policy.now) plan.now s.history)
-            core look.reads look.choice }
-    {
-        let reads = look.reads;
-        match look.choice {
-            None => Entry::Pass { by: core, reads },
-            Some(from) => {
-                let threads = self.cores.stealable(policy, plan, core, from);
-                Entry::steal_or_fail(core, from, threads, reads)
-            }
         }
     }
 }

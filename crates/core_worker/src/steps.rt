@@ -135,8 +135,8 @@ impl Run {
         ensures { Steps (meaning_of policy.now) plan.now core (HasLooked (meaning_of policy.now) plan.now core look)
             self.old self.new }
     {
-        let entry = self.attempt_entry(policy, plan, core, look);
-        self.cores.attempt(&entry);
+        self.cores
+            .attempt(policy, plan, core, look.choice, look.reads);
         self.turns.attempted[core as usize] = true;
     }
 }

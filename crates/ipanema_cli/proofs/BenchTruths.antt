@@ -81,6 +81,7 @@ benches seed size before after code (answer.Explained told) is writes = absurd i
 benches seed size before after code (answer.Proved certs) is writes = absurd is
 benches seed size before after code (answer.Verified v) is writes = absurd is
 benches seed size before after code (answer.Played outcome) is writes = absurd is
+benches seed size before after code (answer.Simulated outcome) is writes = absurd is
 benches seed size before after code (answer.Judged outcome) is writes = absurd is
 benches seed size before after code (answer.Made text) is writes = absurd is
 benches seed size before after code (answer.Benched told) is writes = elim (code_among _ _ _ _ writes) [

@@ -26,11 +26,17 @@ use Rattle.history_replay.specs.declared.refusal.HistoryRefusal.TheVariants as n
 use Rattle.history_replay.specs.Judges.{IsReplayOf, IsReportOf}
 use Rattle.trace_play.specs.Plays as plays
 use Rattle.trace_run.specs.Runs.{IsRunOf}
+use Rattle.round_model.specs.declared.serial.Played.TheVariants as played
+use Rattle.trace_simulation.specs.declared.answer.PlayedWaste.TheVariants as wasted
+use Rattle.trace_simulation.specs.declared.answer.SimulationAnswer.{SimulationAnswer}
+use Rattle.trace_simulation.specs.declared.answer.SimulationAnswer.TheVariants as simulation
+use Rattle.trace_simulation.specs.Simulations.{IsSimulationOf, IsWasteOf}
 use Rattle.ipanema_cli.specs.Answers.{AnswersCheck, AnswersExplain, AnswersJudging, AnswersPlay, AnswersProve, AnswersVerify, IsAnswer, Judging, Playing, output_of, status_of}
-use Rattle.command_words.specs.Command.{Asked, bench, check, explain, make, play, prove, replay, report, run, verify}
+use Rattle.command_words.specs.Command.{Asked, bench, check, explain, make, play, prove, replay, report, run, simulate, verify, waste}
 use Rattle.ipanema_cli.specs.Ends.{Ends, answered, unread, no_memory}
 use Rattle.ipanema_cli.specs.Causes.{HasCause, Judges, OneOf, Plays, SaysCrowded, SaysTooLong, Verifies}
-use Rattle.ipanema_cli.specs.Status.{check_status, code_of, outcome_status, refusal_status, verify_status}
+use Rattle.ipanema_cli.specs.Simulations.{AnswersSimulation, Simulating}
+use Rattle.ipanema_cli.specs.Status.{check_status, code_of, outcome_status, refusal_status, simulation_status, verify_status}
 use Rattle.ipanema_cli.specs.Loads.{IsFileOf, IsOneOfThree}
 use Rattle.ipanema_cli.specs.Stops.{IsUnread}
 use Rattle.ipanema_cli.specs.Texts.{MayRead, room_of, too_long_line}
@@ -57,6 +63,14 @@ verify_low (verified.Wrong name place) n a b c d e = d (sym e)
 verify_low (verified.Unjudged (refusal.Faulty fault)) n a b c d e = b (sym e)
 verify_low (verified.Unjudged (refusal.Crowded name)) n a b c d e = c (sym e)
 
+-- what a trace comes to that is simulated has none but the numbers 0, 2 and 8
+simulation_low : (s : SimulationAnswer) (n : ℕ) → n ≢ 0 → n ≢ 2 → n ≢ 8 → code_of (simulation_status s) ≡ n → ⊥
+simulation_low (simulation.Broken fault) n a b c e = b (sym e)
+simulation_low (simulation.Played (played.Whole history)) n a b c e = a (sym e)
+simulation_low (simulation.Played (played.Full history)) n a b c e = c (sym e)
+simulation_low (simulation.Wasted (wasted.Whole told)) n a b c e = a (sym e)
+simulation_low (simulation.Wasted (wasted.Full told)) n a b c e = c (sym e)
+
 -- the number 7 is that of one answer
 seven : (a : Answer) → code_of (status_of a) ≡ 7 → a ≡ answer.BadWords
 seven (answer.Checked (checked.Judged (verdict.Accepted policy))) e = absurd (omega arith)
@@ -72,6 +86,7 @@ seven (answer.Verified v) e = absurd (verify_low v 7 (λ h. omega arith) (λ h. 
 seven (answer.Played (play_answer.Broken fault)) e = absurd (omega arith)
 seven (answer.Played (play_answer.Played (cores.Whole closed))) e = absurd (omega arith)
 seven (answer.Played (play_answer.Played (cores.Full closed))) e = absurd (omega arith)
+seven (answer.Simulated s) e = absurd (simulation_low s 7 (λ h. omega arith) (λ h. omega arith) (λ h. omega arith) e)
 seven (answer.Judged (judged.Whole count)) e = absurd (omega arith)
 seven (answer.Judged (judged.Reported told)) e = absurd (omega arith)
 seven (answer.Judged (judged.Refused (no_history.Trace fault))) e = absurd (omega arith)
@@ -83,8 +98,8 @@ seven (answer.Benched told) e = absurd (omega arith)
 seven (answer.TooLong which) e = absurd (omega arith)
 seven answer.BadWords e = refl
 
--- the number 8 is that of a trace that was played, 9 that of a history that was judged, and 11 that of certificates
-eight : (a : Answer) → code_of (status_of a) ≡ 8 → (outcome : PlayAnswer) × (a ≡ answer.Played outcome)
+-- the number 8 is that of a trace that was played or simulated, 9 that of a history that was judged, and 11 that of certificates
+eight : (a : Answer) → code_of (status_of a) ≡ 8 → ((outcome : PlayAnswer) × (a ≡ answer.Played outcome)) ⊎ ((s : SimulationAnswer) × (a ≡ answer.Simulated s))
 eight (answer.Checked (checked.Judged (verdict.Accepted policy))) e = absurd (omega arith)
 eight (answer.Checked (checked.Judged (verdict.Refused answers policy))) e = absurd (omega arith)
 eight (answer.Checked (checked.Judged (verdict.Undecided answers policy))) e = absurd (omega arith)
@@ -95,7 +110,8 @@ eight (answer.Explained (explained.Unjudged (refusal.Faulty fault))) e = absurd 
 eight (answer.Explained (explained.Unjudged (refusal.Crowded name))) e = absurd (omega arith)
 eight (answer.Proved certs) e = absurd (omega arith)
 eight (answer.Verified v) e = absurd (verify_low v 8 (λ h. omega arith) (λ h. omega arith) (λ h. omega arith) (λ h. omega arith) e)
-eight (answer.Played outcome) e = (outcome, refl)
+eight (answer.Played outcome) e = inl (outcome, refl)
+eight (answer.Simulated s) e = inr (s, refl)
 eight (answer.Judged (judged.Whole count)) e = absurd (omega arith)
 eight (answer.Judged (judged.Reported told)) e = absurd (omega arith)
 eight (answer.Judged (judged.Refused (no_history.Trace fault))) e = absurd (omega arith)
@@ -121,6 +137,7 @@ nine (answer.Verified v) e = absurd (verify_low v 9 (λ h. omega arith) (λ h. o
 nine (answer.Played (play_answer.Broken fault)) e = absurd (omega arith)
 nine (answer.Played (play_answer.Played (cores.Whole closed))) e = absurd (omega arith)
 nine (answer.Played (play_answer.Played (cores.Full closed))) e = absurd (omega arith)
+nine (answer.Simulated s) e = absurd (simulation_low s 9 (λ h. omega arith) (λ h. omega arith) (λ h. omega arith) e)
 nine (answer.Judged h) e = (h, refl)
 nine (answer.Made text) e = absurd (omega arith)
 nine (answer.Benched told) e = absurd (omega arith)
@@ -141,6 +158,7 @@ eleven (answer.Verified v) e = (v, refl)
 eleven (answer.Played (play_answer.Broken fault)) e = absurd (omega arith)
 eleven (answer.Played (play_answer.Played (cores.Whole closed))) e = absurd (omega arith)
 eleven (answer.Played (play_answer.Played (cores.Full closed))) e = absurd (omega arith)
+eleven (answer.Simulated s) e = absurd (simulation_low s 11 (λ h. omega arith) (λ h. omega arith) (λ h. omega arith) e)
 eleven (answer.Judged (judged.Whole count)) e = absurd (omega arith)
 eleven (answer.Judged (judged.Reported told)) e = absurd (omega arith)
 eleven (answer.Judged (judged.Refused (no_history.Trace fault))) e = absurd (omega arith)
@@ -159,11 +177,28 @@ played_for (Some (explain policy name)) told outcome is = absurd is
 played_for (Some (prove policy)) told outcome is = absurd is
 played_for (Some (verify policy certs)) told outcome is = absurd is
 played_for (Some (play policy trace)) told outcome is = (policy, trace, inl refl)
-played_for (Some (run policy trace)) told outcome is = (policy, trace, inr refl)
+played_for (Some (run policy trace)) told outcome is = (policy, trace, inr (inl refl))
+played_for (Some (simulate policy trace)) told outcome is = absurd is
+played_for (Some (waste policy trace)) told outcome is = absurd is
 played_for (Some (replay policy trace history)) told outcome is = absurd is
 played_for (Some (report policy trace history)) told outcome is = absurd is
 played_for (Some (make seed size)) told outcome is = absurd is
 played_for (Some (bench seed size)) told outcome is = absurd is
+
+simulated_for : (asked : Option Asked) (told : List ℕ → Told) (s : SimulationAnswer) → IsAnswer asked told (answer.Simulated s) → Plays asked
+simulated_for None told s is = absurd is
+simulated_for (Some (check policy)) told s is = absurd is
+simulated_for (Some (explain policy name)) told s is = absurd is
+simulated_for (Some (prove policy)) told s is = absurd is
+simulated_for (Some (verify policy certs)) told s is = absurd is
+simulated_for (Some (play policy trace)) told s is = absurd is
+simulated_for (Some (run policy trace)) told s is = absurd is
+simulated_for (Some (simulate policy trace)) told s is = (policy, trace, inr (inr (inl refl)))
+simulated_for (Some (waste policy trace)) told s is = (policy, trace, inr (inr (inr refl)))
+simulated_for (Some (replay policy trace history)) told s is = absurd is
+simulated_for (Some (report policy trace history)) told s is = absurd is
+simulated_for (Some (make seed size)) told s is = absurd is
+simulated_for (Some (bench seed size)) told s is = absurd is
 
 judged_for : (asked : Option Asked) (told : List ℕ → Told) (h : HistoryAnswer) → IsAnswer asked told (answer.Judged h) → Judges asked
 judged_for None told h is = absurd is
@@ -173,6 +208,8 @@ judged_for (Some (prove policy)) told h is = absurd is
 judged_for (Some (verify policy certs)) told h is = absurd is
 judged_for (Some (play policy trace)) told h is = absurd is
 judged_for (Some (run policy trace)) told h is = absurd is
+judged_for (Some (simulate policy trace)) told h is = absurd is
+judged_for (Some (waste policy trace)) told h is = absurd is
 judged_for (Some (replay policy trace history)) told h is = (policy, trace, history, inl refl)
 judged_for (Some (report policy trace history)) told h is = (policy, trace, history, inr refl)
 judged_for (Some (make seed size)) told h is = absurd is
@@ -186,6 +223,8 @@ verified_for (Some (prove policy)) told v is = absurd is
 verified_for (Some (verify policy certs)) told v is = (policy, certs, refl)
 verified_for (Some (play policy trace)) told v is = absurd is
 verified_for (Some (run policy trace)) told v is = absurd is
+verified_for (Some (simulate policy trace)) told v is = absurd is
+verified_for (Some (waste policy trace)) told v is = absurd is
 verified_for (Some (replay policy trace history)) told v is = absurd is
 verified_for (Some (report policy trace history)) told v is = absurd is
 verified_for (Some (make seed size)) told v is = absurd is
@@ -200,6 +239,8 @@ for_no_command (Some (prove policy)) told is = absurd is
 for_no_command (Some (verify policy certs)) told is = absurd is
 for_no_command (Some (play policy trace)) told is = absurd is
 for_no_command (Some (run policy trace)) told is = absurd is
+for_no_command (Some (simulate policy trace)) told is = absurd is
+for_no_command (Some (waste policy trace)) told is = absurd is
 for_no_command (Some (replay policy trace history)) told is = absurd is
 for_no_command (Some (report policy trace history)) told is = absurd is
 for_no_command (Some (make seed size)) told is = absurd is
@@ -212,6 +253,7 @@ no_command_code told (answer.Explained e) is = absurd is
 no_command_code told (answer.Proved certs) is = absurd is
 no_command_code told (answer.Verified v) is = absurd is
 no_command_code told (answer.Played outcome) is = absurd is
+no_command_code told (answer.Simulated outcome) is = absurd is
 no_command_code told (answer.Judged h) is = absurd is
 no_command_code told (answer.Made text) is = absurd is
 no_command_code told (answer.Benched outcome) is = absurd is
@@ -230,6 +272,7 @@ long_for_check policy (answer.Explained e) held is tells long = absurd is
 long_for_check policy (answer.Proved certs) held is tells long = absurd is
 long_for_check policy (answer.Verified v) held is tells long = absurd is
 long_for_check policy (answer.Played outcome) held is tells long = absurd is
+long_for_check policy (answer.Simulated outcome) held is tells long = absurd is
 long_for_check policy (answer.Judged h) held is tells long = absurd is
 long_for_check policy (answer.Made text) held is tells long = absurd is
 long_for_check policy (answer.Benched told) held is tells long = absurd is
@@ -242,6 +285,7 @@ long_for_explain policy name (answer.Explained e) held (text, read, is) tells lo
 long_for_explain policy name (answer.Proved certs) held is tells long = absurd is
 long_for_explain policy name (answer.Verified v) held is tells long = absurd is
 long_for_explain policy name (answer.Played outcome) held is tells long = absurd is
+long_for_explain policy name (answer.Simulated outcome) held is tells long = absurd is
 long_for_explain policy name (answer.Judged h) held is tells long = absurd is
 long_for_explain policy name (answer.Made text) held is tells long = absurd is
 long_for_explain policy name (answer.Benched told) held is tells long = absurd is
@@ -254,6 +298,7 @@ long_for_prove policy (answer.Explained e) held is tells long = absurd is
 long_for_prove policy (answer.Proved certs) held is tells long = absurd (not_read kind.Policy policy is.text held is.read tells long)
 long_for_prove policy (answer.Verified v) held is tells long = absurd is
 long_for_prove policy (answer.Played outcome) held is tells long = absurd is
+long_for_prove policy (answer.Simulated outcome) held is tells long = absurd is
 long_for_prove policy (answer.Judged h) held is tells long = absurd is
 long_for_prove policy (answer.Made text) held is tells long = absurd is
 long_for_prove policy (answer.Benched told) held is tells long = absurd is
@@ -266,6 +311,7 @@ long_policy_for_verify policy certs (answer.Explained e) held is tells long = ab
 long_policy_for_verify policy certs (answer.Proved text) held is tells long = absurd is
 long_policy_for_verify policy certs (answer.Verified v) held is tells long = absurd (not_read kind.Policy policy is.text held is.policy_read tells long)
 long_policy_for_verify policy certs (answer.Played outcome) held is tells long = absurd is
+long_policy_for_verify policy certs (answer.Simulated outcome) held is tells long = absurd is
 long_policy_for_verify policy certs (answer.Judged h) held is tells long = absurd is
 long_policy_for_verify policy certs (answer.Made text) held is tells long = absurd is
 long_policy_for_verify policy certs (answer.Benched told) held is tells long = absurd is
@@ -278,6 +324,7 @@ long_certs_for_verify policy certs (answer.Explained e) held is tells long = abs
 long_certs_for_verify policy certs (answer.Proved text) held is tells long = absurd is
 long_certs_for_verify policy certs (answer.Verified v) held is tells long = absurd (not_read kind.Certificates certs is.file held is.certs_read tells long)
 long_certs_for_verify policy certs (answer.Played outcome) held is tells long = absurd is
+long_certs_for_verify policy certs (answer.Simulated outcome) held is tells long = absurd is
 long_certs_for_verify policy certs (answer.Judged h) held is tells long = absurd is
 long_certs_for_verify policy certs (answer.Made text) held is tells long = absurd is
 long_certs_for_verify policy certs (answer.Benched told) held is tells long = absurd is
@@ -290,6 +337,7 @@ long_for_play Is policy trace (answer.Explained e) held is tells long = absurd i
 long_for_play Is policy trace (answer.Proved certs) held is tells long = absurd is
 long_for_play Is policy trace (answer.Verified v) held is tells long = absurd is
 long_for_play Is policy trace (answer.Played outcome) held is tells long = absurd (not_read kind.Policy policy is.text held is.policy_read tells long)
+long_for_play Is policy trace (answer.Simulated s) held is tells long = absurd is
 long_for_play Is policy trace (answer.Judged h) held is tells long = absurd is
 long_for_play Is policy trace (answer.Made text) held is tells long = absurd is
 long_for_play Is policy trace (answer.Benched told) held is tells long = absurd is
@@ -302,11 +350,38 @@ long_trace_for_play Is policy trace (answer.Explained e) held is tells long = ab
 long_trace_for_play Is policy trace (answer.Proved certs) held is tells long = absurd is
 long_trace_for_play Is policy trace (answer.Verified v) held is tells long = absurd is
 long_trace_for_play Is policy trace (answer.Played outcome) held is tells long = absurd (not_read kind.Trace trace is.jobs held is.trace_read tells long)
+long_trace_for_play Is policy trace (answer.Simulated s) held is tells long = absurd is
 long_trace_for_play Is policy trace (answer.Judged h) held is tells long = absurd is
 long_trace_for_play Is policy trace (answer.Made text) held is tells long = absurd is
 long_trace_for_play Is policy trace (answer.Benched told) held is tells long = absurd is
 long_trace_for_play Is policy trace (answer.TooLong which) held is tells long = refl
 long_trace_for_play Is policy trace answer.BadWords held is tells long = absurd is
+
+long_for_simulation : (Is : Simulating) (policy trace : Told) (a : Answer) (held : List ℕ) → AnswersSimulation Is policy trace a → policy ≡ holds held → room_of kind.Policy < length held → code_of (status_of a) ≡ 10
+long_for_simulation Is policy trace (answer.Checked c) held is tells long = absurd (not_read kind.Policy policy is.text held is.policy_read tells long)
+long_for_simulation Is policy trace (answer.Explained e) held is tells long = absurd is
+long_for_simulation Is policy trace (answer.Proved certs) held is tells long = absurd is
+long_for_simulation Is policy trace (answer.Verified v) held is tells long = absurd is
+long_for_simulation Is policy trace (answer.Simulated s) held is tells long = absurd (not_read kind.Policy policy is.text held is.policy_read tells long)
+long_for_simulation Is policy trace (answer.Played outcome) held is tells long = absurd is
+long_for_simulation Is policy trace (answer.Judged h) held is tells long = absurd is
+long_for_simulation Is policy trace (answer.Made text) held is tells long = absurd is
+long_for_simulation Is policy trace (answer.Benched told) held is tells long = absurd is
+long_for_simulation Is policy trace (answer.TooLong which) held is tells long = refl
+long_for_simulation Is policy trace answer.BadWords held is tells long = absurd is
+
+long_trace_for_simulation : (Is : Simulating) (policy trace : Told) (a : Answer) (held : List ℕ) → AnswersSimulation Is policy trace a → trace ≡ holds held → room_of kind.Trace < length held → code_of (status_of a) ≡ 10
+long_trace_for_simulation Is policy trace (answer.Checked c) held is tells long = absurd (not_read kind.Trace trace is.jobs held is.trace_read tells long)
+long_trace_for_simulation Is policy trace (answer.Explained e) held is tells long = absurd is
+long_trace_for_simulation Is policy trace (answer.Proved certs) held is tells long = absurd is
+long_trace_for_simulation Is policy trace (answer.Verified v) held is tells long = absurd is
+long_trace_for_simulation Is policy trace (answer.Simulated s) held is tells long = absurd (not_read kind.Trace trace is.jobs held is.trace_read tells long)
+long_trace_for_simulation Is policy trace (answer.Played outcome) held is tells long = absurd is
+long_trace_for_simulation Is policy trace (answer.Judged h) held is tells long = absurd is
+long_trace_for_simulation Is policy trace (answer.Made text) held is tells long = absurd is
+long_trace_for_simulation Is policy trace (answer.Benched told) held is tells long = absurd is
+long_trace_for_simulation Is policy trace (answer.TooLong which) held is tells long = refl
+long_trace_for_simulation Is policy trace answer.BadWords held is tells long = absurd is
 
 long_policy_of_three : (Is : Judging) (policy trace history : Told) (a : Answer) (held : List ℕ) → AnswersJudging Is policy trace history a → policy ≡ holds held → room_of kind.Policy < length held → code_of (status_of a) ≡ 10
 long_policy_of_three Is policy trace history (answer.Checked c) held is tells long = absurd (not_read kind.Policy policy is.text held is.policy_read tells long)
@@ -314,6 +389,7 @@ long_policy_of_three Is policy trace history (answer.Explained e) held is tells 
 long_policy_of_three Is policy trace history (answer.Proved certs) held is tells long = absurd is
 long_policy_of_three Is policy trace history (answer.Verified v) held is tells long = absurd is
 long_policy_of_three Is policy trace history (answer.Played outcome) held is tells long = absurd is
+long_policy_of_three Is policy trace history (answer.Simulated outcome) held is tells long = absurd is
 long_policy_of_three Is policy trace history (answer.Judged h) held is tells long = absurd (not_read kind.Policy policy is.text held is.policy_read tells long)
 long_policy_of_three Is policy trace history (answer.Made text) held is tells long = absurd is
 long_policy_of_three Is policy trace history (answer.Benched told) held is tells long = absurd is
@@ -326,6 +402,7 @@ long_trace_of_three Is policy trace history (answer.Explained e) held is tells l
 long_trace_of_three Is policy trace history (answer.Proved certs) held is tells long = absurd is
 long_trace_of_three Is policy trace history (answer.Verified v) held is tells long = absurd is
 long_trace_of_three Is policy trace history (answer.Played outcome) held is tells long = absurd is
+long_trace_of_three Is policy trace history (answer.Simulated outcome) held is tells long = absurd is
 long_trace_of_three Is policy trace history (answer.Judged h) held is tells long = absurd (not_read kind.Trace trace is.jobs held is.trace_read tells long)
 long_trace_of_three Is policy trace history (answer.Made text) held is tells long = absurd is
 long_trace_of_three Is policy trace history (answer.Benched told) held is tells long = absurd is
@@ -338,6 +415,7 @@ long_history_of_three Is policy trace history (answer.Explained e) held is tells
 long_history_of_three Is policy trace history (answer.Proved certs) held is tells long = absurd is
 long_history_of_three Is policy trace history (answer.Verified v) held is tells long = absurd is
 long_history_of_three Is policy trace history (answer.Played outcome) held is tells long = absurd is
+long_history_of_three Is policy trace history (answer.Simulated outcome) held is tells long = absurd is
 long_history_of_three Is policy trace history (answer.Judged h) held is tells long = absurd (not_read kind.History history is.entries held is.history_read tells long)
 long_history_of_three Is policy trace history (answer.Made text) held is tells long = absurd is
 long_history_of_three Is policy trace history (answer.Benched told) held is tells long = absurd is
@@ -380,6 +458,14 @@ long_file (Some (run policy trace)) told a kind.Policy name held is file tells l
 long_file (Some (run policy trace)) told a kind.Trace name held is file tells long = long_trace_for_play IsRunOf (told policy) (told trace) a held is (sym (ap told file) ∙ tells) long
 long_file (Some (run policy trace)) told a kind.History name held is file tells long = absurd file
 long_file (Some (run policy trace)) told a kind.Certificates name held is file tells long = absurd file
+long_file (Some (simulate policy trace)) told a kind.Policy name held is file tells long = long_for_simulation IsSimulationOf (told policy) (told trace) a held is (sym (ap told file) ∙ tells) long
+long_file (Some (simulate policy trace)) told a kind.Trace name held is file tells long = long_trace_for_simulation IsSimulationOf (told policy) (told trace) a held is (sym (ap told file) ∙ tells) long
+long_file (Some (simulate policy trace)) told a kind.History name held is file tells long = absurd file
+long_file (Some (simulate policy trace)) told a kind.Certificates name held is file tells long = absurd file
+long_file (Some (waste policy trace)) told a kind.Policy name held is file tells long = long_for_simulation IsWasteOf (told policy) (told trace) a held is (sym (ap told file) ∙ tells) long
+long_file (Some (waste policy trace)) told a kind.Trace name held is file tells long = long_trace_for_simulation IsWasteOf (told policy) (told trace) a held is (sym (ap told file) ∙ tells) long
+long_file (Some (waste policy trace)) told a kind.History name held is file tells long = absurd file
+long_file (Some (waste policy trace)) told a kind.Certificates name held is file tells long = absurd file
 long_file (Some (replay policy trace history)) told a which name held is file tells long = long_of_three IsReplayOf policy trace history told a which name held is file tells long
 long_file (Some (report policy trace history)) told a which name held is file tells long = long_of_three IsReportOf policy trace history told a which name held is file tells long
 long_file (Some (make seed size)) told a which name held is file tells long = absurd file
@@ -399,6 +485,14 @@ module _ (told : List ℕ → Told) (before after : Option (List ℕ)) where
   ten_of_three asked policy trace history file Is (checked.Judged (verdict.Refused answers kept)) is e added = absurd (omega arith)
   ten_of_three asked policy trace history file Is (checked.Judged (verdict.Undecided answers kept)) is e added = absurd (omega arith)
   ten_of_three asked policy trace history file Is (checked.Unjudged why) is e added =
+      crowded_by asked policy is.text why file is.policy_read is.answers.0 e added
+
+  ten_of_simulation : (asked : Option Asked) (policy trace : List ℕ) → IsFileOf asked kind.Policy policy → (Is : Simulating) (c : CheckAnswer)
+      → AnswersSimulation Is (told policy) (told trace) (answer.Checked c) → code_of (check_status c) ≡ 10 → Adds (joined (check_lines c)) before after → SaysCrowded asked told before after
+  ten_of_simulation asked policy trace file Is (checked.Judged (verdict.Accepted kept)) is e added = absurd (omega arith)
+  ten_of_simulation asked policy trace file Is (checked.Judged (verdict.Refused answers kept)) is e added = absurd (omega arith)
+  ten_of_simulation asked policy trace file Is (checked.Judged (verdict.Undecided answers kept)) is e added = absurd (omega arith)
+  ten_of_simulation asked policy trace file Is (checked.Unjudged why) is e added =
       crowded_by asked policy is.text why file is.policy_read is.answers.0 e added
 
   ten : (asked : Option Asked) (a : Answer) → IsAnswer asked told a → code_of (status_of a) ≡ 10 → Adds (output_of a) before after
@@ -427,6 +521,10 @@ module _ (told : List ℕ → Told) (before after : Option (List ℕ)) where
   ten (Some (run policy trace)) (answer.Checked (checked.Judged (verdict.Undecided answers kept))) is e added = absurd (omega arith)
   ten (Some (run policy trace)) (answer.Checked (checked.Unjudged why)) is e added =
       inr (crowded_by (Some (run policy trace)) policy is.text why refl is.policy_read is.answers.0 e added)
+  ten (Some (simulate policy trace)) (answer.Checked c) is e added =
+      inr (ten_of_simulation (Some (simulate policy trace)) policy trace refl IsSimulationOf c is e added)
+  ten (Some (waste policy trace)) (answer.Checked c) is e added =
+      inr (ten_of_simulation (Some (waste policy trace)) policy trace refl IsWasteOf c is e added)
   ten (Some (replay policy trace history)) (answer.Checked c) is e added =
       inr (ten_of_three (Some (replay policy trace history)) policy trace history refl IsReplayOf c is e added)
   ten (Some (report policy trace history)) (answer.Checked c) is e added =
@@ -446,6 +544,8 @@ module _ (told : List ℕ → Told) (before after : Option (List ℕ)) where
   ten (Some (verify policy certs)) (answer.Explained told) is e added = absurd is
   ten (Some (play policy trace)) (answer.Explained told) is e added = absurd is
   ten (Some (run policy trace)) (answer.Explained told) is e added = absurd is
+  ten (Some (simulate policy trace)) (answer.Explained told) is e added = absurd is
+  ten (Some (waste policy trace)) (answer.Explained told) is e added = absurd is
   ten (Some (replay policy trace history)) (answer.Explained told) is e added = absurd is
   ten (Some (report policy trace history)) (answer.Explained told) is e added = absurd is
   ten (Some (make seed size)) (answer.Explained told) is e added = absurd is
@@ -460,6 +560,8 @@ module _ (told : List ℕ → Told) (before after : Option (List ℕ)) where
   ten (Some (prove policy)) (answer.Verified (verified.Unjudged why)) is e added = absurd is
   ten (Some (play policy trace)) (answer.Verified (verified.Unjudged why)) is e added = absurd is
   ten (Some (run policy trace)) (answer.Verified (verified.Unjudged why)) is e added = absurd is
+  ten (Some (simulate policy trace)) (answer.Verified (verified.Unjudged why)) is e added = absurd is
+  ten (Some (waste policy trace)) (answer.Verified (verified.Unjudged why)) is e added = absurd is
   ten (Some (replay policy trace history)) (answer.Verified (verified.Unjudged why)) is e added = absurd is
   ten (Some (report policy trace history)) (answer.Verified (verified.Unjudged why)) is e added = absurd is
   ten (Some (make seed size)) (answer.Verified (verified.Unjudged why)) is e added = absurd is
@@ -477,6 +579,7 @@ module _ (told : List ℕ → Told) (before after : Option (List ℕ)) where
   ten asked (answer.Played (play_answer.Broken fault)) is e added = absurd (omega arith)
   ten asked (answer.Played (play_answer.Played (cores.Whole closed))) is e added = absurd (omega arith)
   ten asked (answer.Played (play_answer.Played (cores.Full closed))) is e added = absurd (omega arith)
+  ten asked (answer.Simulated s) is e added = absurd (simulation_low s 10 (λ h. omega arith) (λ h. omega arith) (λ h. omega arith) e)
   ten asked answer.BadWords is e added = absurd (omega arith)
 
 pub causes : (asked : Option Asked) (told : List ℕ → Told) (read_fault : Type 0) (before after : Shown) (code : ℕ) → Ends asked told read_fault before after code → HasCause asked told read_fault before after code
@@ -501,8 +604,10 @@ causes asked told read_fault before after code (answered a is writes) =
           let found = nine a (own 9 (λ e. omega arith) h) in
           judged_for asked told found.0 (subst (IsAnswer asked told) found.1 is);
       full = λ h.
-          let found = eight a (own 8 (λ e. omega arith) h) in
-          played_for asked told found.0 (subst (IsAnswer asked told) found.1 is);
+          elim (eight a (own 8 (λ e. omega arith) h)) [
+            | inl found ↦ played_for asked told found.0 (subst (IsAnswer asked told) found.1 is)
+            | inr found ↦ simulated_for asked told found.0 (subst (IsAnswer asked told) found.1 is)
+          ];
       wrong = λ h.
           let found = eleven a (own 11 (λ e. omega arith) h) in
           verified_for asked told found.0 (subst (IsAnswer asked told) found.1 is);

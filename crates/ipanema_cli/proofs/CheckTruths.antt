@@ -85,6 +85,12 @@ verdict_answers policy text v before after code read is own added = record {
   status = own;
 }
 
+pub answered_policy : (policy : Told) (text : List ℕ) (v : Verdict) (before after : Option (List ℕ)) (code : ℕ) (read : MayRead kind.Policy policy text)
+    (is : IsJudged text (meaning_of (policy_of v)) v) (own : code ≡ code_of (verdict_status v)) (added : Adds (joined (verdict_lines v)) before after)
+    → (verdict_answers policy text v before after code read is own added).p ≡ meaning_of (policy_of v)
+unfolding verdict_answers
+answered_policy policy text v before after code read is own added = refl
+
 -- a text that isn't judged has no line of an obligation
 pub refusal_high : (why : Refusal) (code : ℕ) → code ≡ code_of (refusal_status why) → OneOf (0 ∷ 1 ∷ 3 ∷ []) code → ⊥
 refusal_high (refusal.Faulty fault) code own low = let bad = rw own at low in cc
@@ -172,6 +178,7 @@ checks policy before after code (answer.Judged outcome) is writes = absurd is
 checks policy before after code (answer.Made text) is writes = absurd is
 checks policy before after code (answer.Benched told) is writes = absurd is
 checks policy before after code (answer.Played outcome) is writes = absurd is
+checks policy before after code (answer.Simulated outcome) is writes = absurd is
 checks policy before after code (answer.TooLong kind.Policy) long writes = elim (code_among _ _ _ _ writes) [
   | inr e ↦ stopped_check policy before.written after.written code (at_5 e)
   | inl e ↦ long_check policy before.written after.written code long e

@@ -134,6 +134,7 @@ explains policy name before after code (answer.Explained told) (text, read, is) 
 explains policy name before after code (answer.Proved certs) is writes = absurd is
 explains policy name before after code (answer.Verified v) is writes = absurd is
 explains policy name before after code (answer.Played outcome) is writes = absurd is
+explains policy name before after code (answer.Simulated outcome) is writes = absurd is
 explains policy name before after code (answer.Judged outcome) is writes = absurd is
 explains policy name before after code (answer.Made text) is writes = absurd is
 explains policy name before after code (answer.Benched told) is writes = absurd is

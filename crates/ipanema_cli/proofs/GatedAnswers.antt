@@ -1,7 +1,7 @@
 -- Answers, with what they say of the gate and without.
 use Rattle.std.proofs.Common.{◌≢◌, ℕ, List, Option, Some, None, refl}
 use Rattle.sched_io.specs.Told.{Told}
-use Rattle.command_words.specs.Command.{Asked, bench, check, explain, make, play, prove, replay, report, run, verify}
+use Rattle.command_words.specs.Command.{Asked, bench, check, explain, make, play, prove, replay, report, run, simulate, verify, waste}
 use Rattle.trace_run.specs.Runs.{IsGatedRunOf, IsRunOf}
 use Rattle.ipanema_cli.specs.Answers.{AnswersPlay, IsAnswer, IsGatedAnswer}
 use Rattle.ipanema_cli.specs.declared.answers.Answer.{Answer}
@@ -23,6 +23,7 @@ module _ (Passed : ℕ → ℕ → Type 0) where
     trace_read = is.trace_read;
     answers = (is.answers.0, is.answers.1, is.answers.2.0);
   }
+  plain_run policy trace (answer.Simulated outcome) is = absurd is
   plain_run policy trace (answer.Judged outcome) is = absurd is
   plain_run policy trace (answer.Made text) is = absurd is
   plain_run policy trace (answer.Benched told) is = absurd is
@@ -40,6 +41,8 @@ module _ (Passed : ℕ → ℕ → Type 0) where
   plain (Some (verify policy certs)) told a is = is
   plain (Some (play policy trace)) told a is = is
   plain (Some (run policy trace)) told a is = plain_run (told policy) (told trace) a is
+  plain (Some (simulate policy trace)) told a is = is
+  plain (Some (waste policy trace)) told a is = is
   plain (Some (replay policy trace history)) told a is = is
   plain (Some (report policy trace history)) told a is = is
   plain (Some (make seed size)) told a is = is
@@ -54,6 +57,8 @@ module _ (Passed : ℕ → ℕ → Type 0) where
   ungated (Some (verify policy certs)) told a other is = is
   ungated (Some (play policy trace)) told a other is = is
   ungated (Some (run policy trace)) told a other is = absurd (other policy trace refl)
+  ungated (Some (simulate policy trace)) told a other is = is
+  ungated (Some (waste policy trace)) told a other is = is
   ungated (Some (replay policy trace history)) told a other is = is
   ungated (Some (report policy trace history)) told a other is = is
   ungated (Some (make seed size)) told a other is = is
@@ -74,6 +79,8 @@ module _ (Passed : ℕ → ℕ → Type 0) where
   gated_length (Some (verify policy certs)) told which is = is
   gated_length (Some (play policy trace)) told which is = is
   gated_length (Some (run policy trace)) told which is = long_run (told policy) (told trace) which is
+  gated_length (Some (simulate policy trace)) told which is = is
+  gated_length (Some (waste policy trace)) told which is = is
   gated_length (Some (replay policy trace history)) told which is = is
   gated_length (Some (report policy trace history)) told which is = is
   gated_length (Some (make seed size)) told which is = is

@@ -377,6 +377,7 @@ judges Is Says worth policy trace history before after code (answer.Explained to
 judges Is Says worth policy trace history before after code (answer.Proved certs) is writes = absurd is
 judges Is Says worth policy trace history before after code (answer.Verified v) is writes = absurd is
 judges Is Says worth policy trace history before after code (answer.Played outcome) is writes = absurd is
+judges Is Says worth policy trace history before after code (answer.Simulated outcome) is writes = absurd is
 judges Is Says worth policy trace history before after code (answer.Judged h) texts writes = elim (code_among _ _ _ _ writes) [
   | inr e ↦ stopped_judge Says policy trace history before.written after.written code (at_5 e)
   | inl e ↦ worth policy trace history texts.text texts.jobs texts.entries texts.answers.0

@@ -15,6 +15,7 @@ pub mod RunWords
 pub mod TraceTruths
 pub mod PolicyFacts
 pub mod ProveTruths
+pub mod SimulationTruths
 pub mod TruthLemmas
 pub mod VerifyTruths
 pub mod WritesLemmas

@@ -78,6 +78,7 @@ makes seed size before after code (answer.Explained told) is writes = absurd is
 makes seed size before after code (answer.Proved certs) is writes = absurd is
 makes seed size before after code (answer.Verified v) is writes = absurd is
 makes seed size before after code (answer.Played outcome) is writes = absurd is
+makes seed size before after code (answer.Simulated outcome) is writes = absurd is
 makes seed size before after code (answer.Judged outcome) is writes = absurd is
 makes seed size before after code (answer.Made text) (trace, made, is) writes = elim (code_among _ _ _ _ writes) [
   | inr e ↦ stopped_make seed size before.written after.written code (at_5 e) (λ h. omega (arith, e, h))

@@ -1,5 +1,6 @@
 -- What follows for a text from the answer that `check` gives.
 use Rattle.std.proofs.Common.{◌≡◌, ◌≢◌, ℕ, List, [], ◌∷◌, None, refl, sym, ◌∙◌, arith, subst}
+use Rattle.std.specs.Prelude.{IsTrue}
 use Rattle.std.specs.List.{All, AllByRecursion}
 use Rattle.std.proofs.lemmas.List.Elements.{All-from_recursion}
 use Rattle.sched_base.specs.declared.limits.TheConstants.{CHECK_BUDGET}
@@ -18,7 +19,9 @@ use Rattle.policy_checker.specs.Verdicts.{Answers, AreAnswers, IsVerdict, policy
 use Rattle.policy_checker.specs.declared.answer.Answered.{Answered}
 use Rattle.policy_checker.specs.declared.verdict.Verdict.{Verdict}
 use Rattle.policy_checker.specs.declared.verdict.Verdict.TheVariants as verdict
+use Rattle.policy_checker.specs.Playable.{HasCertifiedHandlers, is_playable}
 use Rattle.policy_checker.proofs.Decided.{closed}
+use Rattle.policy_checker.proofs.KeptHandlers.{handlers_certified, handlers_kept, playable_law}
 use Rattle.policy_checker.proofs.True.{answers_are_true, meets}
 use Rattle.policy_checker.proofs.Worth.{open_one, unmet}
 use Rattle.policy_check.specs.Checks.{IsCheckOf, IsRefusal}
@@ -133,6 +136,12 @@ pub read_refuses : (policy : Told) (text : List ℕ) (c : CheckAnswer) (code : �
     → Refuses policy code
 read_refuses policy text (checked.Judged v) code read is own = judged_refuses policy text (meaning_of (policy_of v)) code read is.spells is.few
 read_refuses policy text (checked.Unjudged why) code read is own = refused_refuses policy text why code read is own
+
+-- a policy that is found to be playable has right certificates for its handlers
+pub handlers_of : (p : Meaning) (v : Verdict) → IsVerdict p CHECK_BUDGET v → IsTrue (is_playable v) → HasCertifiedHandlers p
+handlers_of p (verdict.Accepted kept) is plays = playable_law.accepted p is.certified
+handlers_of p (verdict.Refused answers kept) is plays = handlers_certified p answers (handlers_kept p CHECK_BUDGET answers is.answers_are plays)
+handlers_of p (verdict.Undecided answers kept) is plays = handlers_certified p answers (handlers_kept p CHECK_BUDGET answers is.answers_are plays)
 
 -- no policy whose comparisons are differences is left undecided: no system of it is open
 pub never_left : (policy : Told) (code : ℕ) → Decides policy code → (p : Meaning) → Spells policy p → ComparesDifferences p → code ≢ 3

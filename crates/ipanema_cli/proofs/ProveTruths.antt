@@ -130,6 +130,7 @@ proves policy before after code (answer.Proved certs) is writes = elim (code_amo
 ]
 proves policy before after code (answer.Verified v) is writes = absurd is
 proves policy before after code (answer.Played outcome) is writes = absurd is
+proves policy before after code (answer.Simulated outcome) is writes = absurd is
 proves policy before after code (answer.Judged outcome) is writes = absurd is
 proves policy before after code (answer.Made text) is writes = absurd is
 proves policy before after code (answer.Benched told) is writes = absurd is

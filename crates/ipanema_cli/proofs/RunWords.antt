@@ -5,11 +5,11 @@ use Rattle.std.specs.Str.{bytes_eq}
 use Rattle.std.proofs.lemmas.Slice.Eq.{bytes_eq-Decides}
 use Rattle.std.specs.Borrow.{Bor}
 use Rattle.command_words.specs.Asks.{asked}
-use Rattle.command_words.specs.Command.{Asked, asked_by, asked_by_two, asked_plainly, bench, benched_by, check, explain, is_plain, made_by, make, name_of, play, prove, replay, report, run, sized_by, verify}
+use Rattle.command_words.specs.Command.{Asked, asked_by, asked_by_two, asked_plainly, bench, benched_by, check, explain, is_plain, made_by, make, name_of, play, prove, replay, report, run, simulate, sized_by, verify, waste}
 use Rattle.command_words.specs.Numbers.{seed_in, size_in}
 use Rattle.obligations.specs.declared.names.ObName.{ObName}
 use Rattle.command_words.specs.declared.request.Request.{Request}
-use Rattle.command_words.specs.declared.request.Request.TheVariants.{Bench, Check, Explain, Make, Play, Prove, Replay, Report, Run, Unknown, Verify}
+use Rattle.command_words.specs.declared.request.Request.TheVariants.{Bench, Check, Explain, Make, Play, Prove, Replay, Report, Run, Simulate, Unknown, Verify, Waste}
 
 pub no_run : (request : Request) → ((policy trace : Bor (List ℕ)) → request ≡ Run policy trace → ⊥) → (r : Request) → request ≡ r → (policy trace : List ℕ) → asked r ≡ Some (run policy trace) → ⊥
 no_run request never (Check p) same policy trace is = cc
@@ -18,6 +18,8 @@ no_run request never (Prove p) same policy trace is = cc
 no_run request never (Verify p c) same policy trace is = cc
 no_run request never (Play p t) same policy trace is = cc
 no_run request never (Run p t) same policy trace is = never p t same
+no_run request never (Simulate p t) same policy trace is = cc
+no_run request never (Waste p t) same policy trace is = cc
 no_run request never (Replay p t h) same policy trace is = cc
 no_run request never (Report p t h) same policy trace is = cc
 no_run request never (Make seed size) same policy trace is = cc
@@ -44,8 +46,11 @@ no_explained file (Some name) policy trace e = cc
 two : (verb first second policy trace : List ℕ) → (verb ≢ codes "run") → asked_by_two verb first second ≡ Some (run policy trace) → ⊥
 two verb first second policy trace other = explained (bytes_eq (codes "explain") verb)
   where
+    sized : List ℕ → Option Asked
+    sized v = if bytes_eq (codes "make") v then made_by first second else if bytes_eq (codes "bench") v then benched_by first second else None
+
     rest : List ℕ → Option Asked
-    rest v = if bytes_eq (codes "make") v then made_by first second else if bytes_eq (codes "bench") v then benched_by first second else None
+    rest v = if bytes_eq (codes "simulate") v then Some (simulate first second) else if bytes_eq (codes "waste") v then Some (waste first second) else sized v
 
     benched : (b : Bool) → (if b then benched_by first second else None) ≡ Some (run policy trace) → ⊥
     benched true e = no_sized bench (λ s n p t q. cc) first second policy trace e
@@ -55,9 +60,17 @@ two verb first second policy trace other = explained (bytes_eq (codes "explain")
     made true e = no_sized make (λ s n p t q. cc) first second policy trace e
     made false e = benched (bytes_eq (codes "bench") verb) e
 
+    wasted : (b : Bool) → (if b then Some (waste first second) else sized verb) ≡ Some (run policy trace) → ⊥
+    wasted true e = cc
+    wasted false e = made (bytes_eq (codes "make") verb) e
+
+    simulated : (b : Bool) → (if b then Some (simulate first second) else if bytes_eq (codes "waste") verb then Some (waste first second) else sized verb) ≡ Some (run policy trace) → ⊥
+    simulated true e = cc
+    simulated false e = wasted (bytes_eq (codes "waste") verb) e
+
     ran : (b : Bool) → bytes_eq (codes "run") verb ≡ b → (if b then Some (run first second) else rest verb) ≡ Some (run policy trace) → ⊥
     ran true test e = other (sym ((bytes_eq-Decides (codes "run") verb).0 test))
-    ran false test e = made (bytes_eq (codes "make") verb) e
+    ran false test e = simulated (bytes_eq (codes "simulate") verb) e
 
     played : (b : Bool) → (if b then Some (play first second) else if bytes_eq (codes "run") verb then Some (run first second) else rest verb) ≡ Some (run policy trace) → ⊥
     played true e = cc

@@ -102,7 +102,7 @@ refused_left policy text answers kept code read is p held met =
     let own = meaning_of kept in
     absurd (unmet own (resolved policy text own read is.spells) answers is.is (subst MeetsObligations (sym (same_policy policy text own p read is.spells held)) met))
 
-refusal_not_8 : (why : Refusal) (code : ℕ) → code ≡ code_of (refusal_status why) → code ≢ 8
+pub refusal_not_8 : (why : Refusal) (code : ℕ) → code ≡ code_of (refusal_status why) → code ≢ 8
 refusal_not_8 (refusal.Faulty fault) code own e = omega arith
 refusal_not_8 (refusal.Crowded name) code own e = omega arith
 
@@ -286,6 +286,7 @@ module _ (Ends Stops : Meaning → Plan → List Entry → Type 0) (Must : Told 
     traces_truly policy trace before after code (answer.Explained told) is writes = absurd is
     traces_truly policy trace before after code (answer.Proved certs) is writes = absurd is
     traces_truly policy trace before after code (answer.Verified v) is writes = absurd is
+    traces_truly policy trace before after code (answer.Simulated outcome) is writes = absurd is
     traces_truly policy trace before after code (answer.Judged outcome) is writes = absurd is
     traces_truly policy trace before after code (answer.Made text) is writes = absurd is
     traces_truly policy trace before after code (answer.Benched told) is writes = absurd is

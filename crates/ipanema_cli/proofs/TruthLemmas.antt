@@ -2,11 +2,12 @@
 use Rattle.std.proofs.Common.{◌≡◌, ◌≢◌, ℕ, List, Option, Result, Ok, Err, IfErr, IfOk, Some, None, arith, refl}
 use Rattle.sched_io.specs.Shown.{Shown}
 use Rattle.sched_io.specs.Told.{Told}
-use Rattle.command_words.specs.Command.{Asked, bench, check, explain, make, play, prove, replay, report, run, verify}
+use Rattle.command_words.specs.Command.{Asked, bench, check, explain, make, play, prove, replay, report, run, simulate, verify, waste}
 use Rattle.ipanema_cli.specs.Answers.{IsGatedAnswer}
 use Rattle.ipanema_cli.specs.Ends.{Concludes, Writes}
 use Rattle.ipanema_cli.specs.Stops.{IsStop, IsUnread}
 use Rattle.ipanema_cli.specs.JudgeTruths.{SaysReport, SaysWhole}
+use Rattle.ipanema_cli.specs.SimulationTruths.{SaysHistory, SaysWaste}
 use Rattle.ipanema_cli.specs.Truths.{IsTruthful, NonePassed}
 use Rattle.ipanema_cli.specs.declared.answers.Answer.{Answer}
 use Rattle.ipanema_cli.specs.declared.answers.Answer.TheVariants as answer
@@ -21,6 +22,7 @@ use Rattle.ipanema_cli.proofs.MakeTruths.{makes, stopped_make}
 use Rattle.ipanema_cli.proofs.PlayTruths.{plays_truly, stopped_play}
 use Rattle.ipanema_cli.proofs.ProveTruths.{proves, stopped_prove}
 use Rattle.ipanema_cli.proofs.RunTruths.{runs_truly, stopped_run}
+use Rattle.ipanema_cli.proofs.SimulationTruths.{simulates, stopped_simulation, wastes}
 use Rattle.ipanema_cli.proofs.VerifyTruths.{stopped_verify, verifies}
 
 -- what is no run says nothing of a gate
@@ -33,6 +35,8 @@ passed_by_any Passed (Some (prove policy)) told before after code other is = is
 passed_by_any Passed (Some (verify policy certs)) told before after code other is = is
 passed_by_any Passed (Some (play policy trace)) told before after code other is = is
 passed_by_any Passed (Some (run policy trace)) told before after code other is = absurd (other policy trace refl)
+passed_by_any Passed (Some (simulate policy trace)) told before after code other is = is
+passed_by_any Passed (Some (waste policy trace)) told before after code other is = is
 passed_by_any Passed (Some (replay policy trace history)) told before after code other is = is
 passed_by_any Passed (Some (report policy trace history)) told before after code other is = is
 passed_by_any Passed (Some (make seed size)) told before after code other is = is
@@ -49,6 +53,8 @@ module _ (Passed : ℕ → ℕ → Type 0) where
   stopped (Some (verify policy certs)) told read_fault before after code stop cause = stopped_verify (told policy) (told certs) before after code stop
   stopped (Some (play policy trace)) told read_fault before after code stop cause = stopped_play (told policy) (told trace) before after code stop
   stopped (Some (run policy trace)) told read_fault before after code stop cause = stopped_run Passed (told policy) (told trace) before after code stop
+  stopped (Some (simulate policy trace)) told read_fault before after code stop cause = stopped_simulation SaysHistory (told policy) (told trace) before after code stop
+  stopped (Some (waste policy trace)) told read_fault before after code stop cause = stopped_simulation SaysWaste (told policy) (told trace) before after code stop
   stopped (Some (replay policy trace history)) told read_fault before after code stop cause = stopped_judge SaysWhole (told policy) (told trace) (told history) before after code stop
   stopped (Some (report policy trace history)) told read_fault before after code stop cause = stopped_judge SaysReport (told policy) (told trace) (told history) before after code stop
   stopped (Some (make seed size)) told read_fault before after code stop cause = stopped_make seed size before after code stop cause
@@ -64,6 +70,8 @@ module _ (Passed : ℕ → ℕ → Type 0) where
   answers (Some (verify policy certs)) told before after code a is writes = verifies (told policy) (told certs) before after code a is writes
   answers (Some (play policy trace)) told before after code a is writes = plays_truly (told policy) (told trace) before after code a is writes
   answers (Some (run policy trace)) told before after code a is writes = runs_truly Passed (told policy) (told trace) before after code a is writes
+  answers (Some (simulate policy trace)) told before after code a is writes = simulates (told policy) (told trace) before after code a is writes
+  answers (Some (waste policy trace)) told before after code a is writes = wastes (told policy) (told trace) before after code a is writes
   answers (Some (replay policy trace history)) told before after code a is writes = replays (told policy) (told trace) (told history) before after code a is writes
   answers (Some (report policy trace history)) told before after code a is writes = reports (told policy) (told trace) (told history) before after code a is writes
   answers (Some (make seed size)) told before after code a is writes = makes seed size before after code a is writes

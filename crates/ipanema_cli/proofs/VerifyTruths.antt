@@ -1,5 +1,5 @@
 -- From how `verify` ends to the truth of what it says.
-use Rattle.std.proofs.Common.{◌≡◌, ◌≢◌, ℕ, inl, inr, List, [], ◌∷◌, Option, Result, Ok, Err, refl, sym, ◌∙◌, arith, subst}
+use Rattle.std.proofs.Common.{◌≡◌, ◌≢◌, ℕ, inl, inr, List, [], ◌∷◌, Option, Result, Err, refl, sym, ◌∙◌, arith, subst}
 use Rattle.sched_io.specs.Puts.{joined}
 use Rattle.sched_io.specs.Shown.{Shown}
 use Rattle.sched_io.specs.Told.{Told}
@@ -30,7 +30,7 @@ use Rattle.ipanema_cli.specs.Ends.{Writes}
 use Rattle.ipanema_cli.specs.Status.{code_of, refusal_status, verify_status}
 use Rattle.ipanema_cli.specs.Texts.{MayRead}
 use Rattle.ipanema_cli.specs.CheckTruths.{Holds, Refuses, Spells}
-use Rattle.ipanema_cli.specs.VerifyTruths.{MayVerify, MustVerify, VerifiesTruly}
+use Rattle.ipanema_cli.specs.VerifyTruths.{MayVerify, VerifiesTruly}
 use Rattle.ipanema_cli.specs.declared.answers.Answer.{Answer}
 use Rattle.ipanema_cli.specs.declared.answers.Answer.TheVariants as answer
 use Rattle.ipanema_cli.specs.declared.texts.TextKind.TheVariants as kind
@@ -223,6 +223,7 @@ verifies policy certs before after code (answer.Verified v) is writes = elim (co
       (whole _ _ _ _ writes (λ five. (no_stop (answer.Verified v)).1 (sym e ∙ five)))
 ]
 verifies policy certs before after code (answer.Played outcome) is writes = absurd is
+verifies policy certs before after code (answer.Simulated outcome) is writes = absurd is
 verifies policy certs before after code (answer.Judged outcome) is writes = absurd is
 verifies policy certs before after code (answer.Made text) is writes = absurd is
 verifies policy certs before after code (answer.Benched told) is writes = absurd is

@@ -18,13 +18,17 @@ use Rattle.policy_check.specs.declared.verifying.VerifyAnswer.TheVariants as ver
 use Rattle.trace_play.specs.declared.answer.PlayAnswer.{PlayAnswer}
 use Rattle.trace_play.specs.declared.answer.PlayAnswer.TheVariants as play_answer
 use Rattle.trace_play.specs.declared.cores.PlayedCores.TheVariants as cores
+use Rattle.round_model.specs.declared.serial.Played.TheVariants as played
+use Rattle.trace_simulation.specs.declared.answer.PlayedWaste.TheVariants as wasted
+use Rattle.trace_simulation.specs.declared.answer.SimulationAnswer.{SimulationAnswer}
+use Rattle.trace_simulation.specs.declared.answer.SimulationAnswer.TheVariants as simulation
 use Rattle.ipanema_cli.specs.Answers.{IsAnswer, lines_of, output_of, play_status, status_of}
 use Rattle.history_replay.specs.declared.answer.HistoryAnswer.{HistoryAnswer}
 use Rattle.history_replay.specs.declared.answer.HistoryAnswer.TheVariants as judged
 use Rattle.history_replay.specs.declared.refusal.HistoryRefusal.TheVariants as no_history
 use Rattle.command_words.specs.Command.{Asked}
 use Rattle.ipanema_cli.specs.Ends.{Ends, Writes, answered, written, cut_off}
-use Rattle.ipanema_cli.specs.Status.{check_status, code_of, explain_status, history_status, outcome_status, refusal_status, verify_status}
+use Rattle.ipanema_cli.specs.Status.{check_status, code_of, explain_status, history_status, outcome_status, refusal_status, simulation_status, verify_status}
 use Rattle.ipanema_cli.specs.declared.answers.Answer.{Answer}
 use Rattle.ipanema_cli.specs.declared.answers.Answer.TheVariants as answer
 
@@ -70,6 +74,13 @@ play_code (play_answer.Broken fault) = is_2 refl
 play_code (play_answer.Played (cores.Whole closed)) = is_0 refl
 play_code (play_answer.Played (cores.Full closed)) = is_8 refl
 
+simulation_code : (s : SimulationAnswer) → AnswerCode (code_of (simulation_status s))
+simulation_code (simulation.Broken fault) = is_2 refl
+simulation_code (simulation.Played (played.Whole history)) = is_0 refl
+simulation_code (simulation.Played (played.Full history)) = is_8 refl
+simulation_code (simulation.Wasted (wasted.Whole report)) = is_0 refl
+simulation_code (simulation.Wasted (wasted.Full report)) = is_8 refl
+
 history_code : (h : HistoryAnswer) → AnswerCode (code_of (history_status h))
 history_code (judged.Whole count) = is_0 refl
 history_code (judged.Reported report) = is_0 refl
@@ -84,6 +95,7 @@ answer_code (answer.Explained e) = explain_code e
 answer_code (answer.Proved certs) = is_0 refl
 answer_code (answer.Verified v) = verify_code v
 answer_code (answer.Played p) = play_code p
+answer_code (answer.Simulated s) = simulation_code s
 answer_code (answer.Judged h) = history_code h
 answer_code (answer.Made text) = is_0 refl
 answer_code (answer.Benched told) = is_0 refl

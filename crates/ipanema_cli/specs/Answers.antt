@@ -27,14 +27,18 @@ use Rattle.trace_play.specs.declared.answer.PlayAnswer.TheVariants as play_answe
 use Rattle.trace_play.specs.declared.cores.PlayedCores.TheVariants as cores
 use Rattle.trace_play.specs.Plays as plays
 use Rattle.trace_run.specs.Runs.{IsGatedRunOf, IsRunOf}
+use Rattle.trace_simulation.specs.Lines as simulations
+use Rattle.trace_simulation.specs.Simulations.{IsShown, IsSimulationOf, IsWasteOf}
 use Rattle.history_replay.specs.declared.answer.HistoryAnswer.{HistoryAnswer}
 use Rattle.history_replay.specs.Judges.{IsReplayOf, IsReportOf}
 use Rattle.history_replay.specs.Lines as histories
 use Rattle.fair_policy.specs.Fair.{fair_meaning}
 use Rattle.bench_play.specs.Bench.{IsBench}
 use Rattle.bench_play.specs.Lines.{bench_lines}
-use Rattle.command_words.specs.Command.{Asked, bench, check, explain, make, play, prove, replay, report, run, verify}
-use Rattle.ipanema_cli.specs.Status.{check_status, explain_status, history_status, verify_status}
+use Rattle.command_words.specs.Command.{Asked, bench, check, explain, make, play, prove, replay, report, run, simulate}
+use Rattle.command_words.specs.Command.{verify, waste}
+use Rattle.ipanema_cli.specs.Simulations.{AnswersSimulation}
+use Rattle.ipanema_cli.specs.Status.{check_status, explain_status, history_status, simulation_status, verify_status}
 use Rattle.ipanema_cli.specs.Texts.{MayBeLong, MayRead, too_long_line}
 use Rattle.ipanema_cli.specs.declared.answers.Answer.{Answer}
 use Rattle.ipanema_cli.specs.declared.answers.Answer.TheVariants as answer
@@ -52,6 +56,7 @@ lines_of (answer.Explained e) = explain_lines e
 lines_of (answer.Proved certs) = lines_in certs.items
 lines_of (answer.Verified v) = verify_line v ∷ []
 lines_of (answer.Played outcome) = plays.lines_of outcome
+lines_of (answer.Simulated outcome) = simulations.lines_of outcome
 lines_of (answer.Judged outcome) = histories.lines_of outcome
 lines_of (answer.Made text) = text.items ∷ []
 lines_of (answer.Benched told) = bench_lines told
@@ -75,6 +80,7 @@ status_of (answer.Explained e) = explain_status e
 status_of (answer.Proved certs) = status.Done
 status_of (answer.Verified v) = verify_status v
 status_of (answer.Played outcome) = play_status outcome
+status_of (answer.Simulated outcome) = simulation_status outcome
 status_of (answer.Judged outcome) = history_status outcome
 status_of (answer.Made text) = status.Done
 status_of (answer.Benched told) = status.Done
@@ -88,6 +94,7 @@ CanBePut (answer.Explained e) = Unit {0}
 CanBePut (answer.Proved certs) = Unit {0}
 CanBePut (answer.Verified v) = Unit {0}
 CanBePut (answer.Played outcome) = plays.IsShown outcome
+CanBePut (answer.Simulated outcome) = IsShown outcome
 CanBePut (answer.Judged outcome) = Unit {0}
 CanBePut (answer.Made text) = Unit {0}
 CanBePut (answer.Benched told) = Unit {0}
@@ -114,6 +121,7 @@ AnswersWords (answer.Explained e) = ⊥
 AnswersWords (answer.Proved certs) = ⊥
 AnswersWords (answer.Verified v) = ⊥
 AnswersWords (answer.Played outcome) = ⊥
+AnswersWords (answer.Simulated outcome) = ⊥
 AnswersWords (answer.Judged outcome) = ⊥
 AnswersWords (answer.Made text) = ⊥
 AnswersWords (answer.Benched told) = ⊥
@@ -128,6 +136,7 @@ AnswersCheck policy (answer.Explained e) = ⊥
 AnswersCheck policy (answer.Proved certs) = ⊥
 AnswersCheck policy (answer.Verified v) = ⊥
 AnswersCheck policy (answer.Played outcome) = ⊥
+AnswersCheck policy (answer.Simulated outcome) = ⊥
 AnswersCheck policy (answer.Judged outcome) = ⊥
 AnswersCheck policy (answer.Made text) = ⊥
 AnswersCheck policy (answer.Benched told) = ⊥
@@ -145,6 +154,7 @@ AnswersExplain policy name (answer.Explained e) = (text : List ℕ) × MayRead k
 AnswersExplain policy name (answer.Proved certs) = ⊥
 AnswersExplain policy name (answer.Verified v) = ⊥
 AnswersExplain policy name (answer.Played outcome) = ⊥
+AnswersExplain policy name (answer.Simulated outcome) = ⊥
 AnswersExplain policy name (answer.Judged outcome) = ⊥
 AnswersExplain policy name (answer.Made text) = ⊥
 AnswersExplain policy name (answer.Benched told) = ⊥
@@ -161,6 +171,7 @@ IsProvingOfText policy (answer.Explained e) = ⊥
 IsProvingOfText policy (answer.Proved certs) = (p : Meaning) × IsAccepted policy p × Proves p certs.items
 IsProvingOfText policy (answer.Verified v) = ⊥
 IsProvingOfText policy (answer.Played outcome) = ⊥
+IsProvingOfText policy (answer.Simulated outcome) = ⊥
 IsProvingOfText policy (answer.Judged outcome) = ⊥
 IsProvingOfText policy (answer.Made text) = ⊥
 IsProvingOfText policy (answer.Benched told) = ⊥
@@ -180,6 +191,7 @@ AnswersProve policy (answer.Explained e) = ⊥
 AnswersProve policy (answer.Proved certs) = ProvesText policy (answer.Proved certs)
 AnswersProve policy (answer.Verified v) = ⊥
 AnswersProve policy (answer.Played outcome) = ⊥
+AnswersProve policy (answer.Simulated outcome) = ⊥
 AnswersProve policy (answer.Judged outcome) = ⊥
 AnswersProve policy (answer.Made text) = ⊥
 AnswersProve policy (answer.Benched told) = ⊥
@@ -204,6 +216,7 @@ AnswersVerify policy certs (answer.Explained e) = ⊥
 AnswersVerify policy certs (answer.Proved text) = ⊥
 AnswersVerify policy certs (answer.Verified v) = VerifiesTexts policy certs v
 AnswersVerify policy certs (answer.Played outcome) = ⊥
+AnswersVerify policy certs (answer.Simulated outcome) = ⊥
 AnswersVerify policy certs (answer.Judged outcome) = ⊥
 AnswersVerify policy certs (answer.Made text) = ⊥
 AnswersVerify policy certs (answer.Benched told) = ⊥
@@ -226,6 +239,7 @@ module _ (Is : Playing) where
   IsPlayOfTexts policy trace (answer.Proved certs) = ⊥
   IsPlayOfTexts policy trace (answer.Verified v) = ⊥
   IsPlayOfTexts policy trace (answer.Played outcome) = (p : Meaning) × IsAccepted policy p × Is p trace outcome
+  IsPlayOfTexts policy trace (answer.Simulated outcome) = ⊥
   IsPlayOfTexts policy trace (answer.Judged outcome) = ⊥
   IsPlayOfTexts policy trace (answer.Made text) = ⊥
   IsPlayOfTexts policy trace (answer.Benched told) = ⊥
@@ -247,6 +261,7 @@ module _ (Is : Playing) where
   AnswersPlay policy trace (answer.Proved certs) = ⊥
   AnswersPlay policy trace (answer.Verified v) = ⊥
   AnswersPlay policy trace (answer.Played outcome) = PlaysTexts policy trace (answer.Played outcome)
+  AnswersPlay policy trace (answer.Simulated outcome) = ⊥
   AnswersPlay policy trace (answer.Judged outcome) = ⊥
   AnswersPlay policy trace (answer.Made text) = ⊥
   AnswersPlay policy trace (answer.Benched told) = ⊥
@@ -283,6 +298,7 @@ module _ (Is : Judging) where
   IsJudgingOfTexts policy trace history (answer.Proved certs) = ⊥
   IsJudgingOfTexts policy trace history (answer.Verified v) = ⊥
   IsJudgingOfTexts policy trace history (answer.Played outcome) = ⊥
+  IsJudgingOfTexts policy trace history (answer.Simulated outcome) = ⊥
   IsJudgingOfTexts policy trace history (answer.Judged outcome) = (p : Meaning) × IsAccepted policy p
       × Is p trace history outcome
   IsJudgingOfTexts policy trace history (answer.Made text) = ⊥
@@ -307,6 +323,7 @@ module _ (Is : Judging) where
   AnswersJudging policy trace history (answer.Proved certs) = ⊥
   AnswersJudging policy trace history (answer.Verified v) = ⊥
   AnswersJudging policy trace history (answer.Played outcome) = ⊥
+  AnswersJudging policy trace history (answer.Simulated outcome) = ⊥
   AnswersJudging policy trace history (answer.Judged outcome) = JudgesTexts policy trace history (answer.Judged outcome)
   AnswersJudging policy trace history (answer.Made text) = ⊥
   AnswersJudging policy trace history (answer.Benched told) = ⊥
@@ -320,6 +337,7 @@ AnswersMake seed size (answer.Explained e) = ⊥
 AnswersMake seed size (answer.Proved certs) = ⊥
 AnswersMake seed size (answer.Verified v) = ⊥
 AnswersMake seed size (answer.Played outcome) = ⊥
+AnswersMake seed size (answer.Simulated outcome) = ⊥
 AnswersMake seed size (answer.Judged outcome) = ⊥
 AnswersMake seed size (answer.Made text) = (trace : List Numbered) × (made seed size ≡ Ok trace)
     × (text.items ≡ trace_text trace)
@@ -340,6 +358,7 @@ AnswersBench seed size (answer.Explained e) = ⊥
 AnswersBench seed size (answer.Proved certs) = ⊥
 AnswersBench seed size (answer.Verified v) = ⊥
 AnswersBench seed size (answer.Played outcome) = ⊥
+AnswersBench seed size (answer.Simulated outcome) = ⊥
 AnswersBench seed size (answer.Judged outcome) = ⊥
 AnswersBench seed size (answer.Made text) = ⊥
 AnswersBench seed size (answer.Benched told) = IsBench seed size told
@@ -355,6 +374,8 @@ IsAnswer (Some (prove policy)) told a = AnswersProve (told policy) a
 IsAnswer (Some (verify policy certs)) told a = AnswersVerify (told policy) (told certs) a
 IsAnswer (Some (play policy trace)) told a = AnswersPlay plays.IsPlayOf (told policy) (told trace) a
 IsAnswer (Some (run policy trace)) told a = AnswersPlay IsRunOf (told policy) (told trace) a
+IsAnswer (Some (simulate policy trace)) told a = AnswersSimulation IsSimulationOf (told policy) (told trace) a
+IsAnswer (Some (waste policy trace)) told a = AnswersSimulation IsWasteOf (told policy) (told trace) a
 IsAnswer (Some (replay policy trace history)) told a =
     AnswersJudging IsReplayOf (told policy) (told trace) (told history) a
 IsAnswer (Some (report policy trace history)) told a =

@@ -20,7 +20,6 @@ use Rattle.history_replay.specs.Lines.{refusal_line, whole_line}
 use Rattle.trace_play.specs.Plays as plays
 use Rattle.ipanema_cli.specs.Answers.{IsAccepted}
 use Rattle.ipanema_cli.specs.Causes.{OneOf}
-use Rattle.command_words.specs.Command.{report}
 use Rattle.ipanema_cli.specs.Texts.{MayRead}
 use Rattle.ipanema_cli.specs.declared.texts.TextKind.TheVariants as kind
 use Rattle.ipanema_cli.specs.CheckTruths.{AnswersFor, Holds, Refuses, SomeIsOpen, Spells, TellsFault}

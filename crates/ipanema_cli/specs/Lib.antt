@@ -8,6 +8,8 @@ pub mod JudgeTruths
 pub mod Loads
 pub mod MakeTruths
 pub mod ProveTruths
+pub mod Simulations
+pub mod SimulationTruths
 pub mod Status
 pub mod Stops
 pub mod Texts

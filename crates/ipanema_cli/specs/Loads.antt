@@ -2,7 +2,8 @@
 use Rattle.std.specs.Prelude.{◌≡◌, ℕ, ◌<◌, List, [], ◌∷◌, Option, Some, None, take}
 use Rattle.sched_io.specs.Loads.{AreRequested, LoadRequest, load_request}
 use Rattle.sched_io.specs.Told.{Told}
-use Rattle.command_words.specs.Command.{Asked, bench, check, explain, make, play, prove, replay, report, run, verify}
+use Rattle.command_words.specs.Command.{Asked, bench, check, explain, make, play, prove, replay, report, run, simulate}
+use Rattle.command_words.specs.Command.{verify, waste}
 use Rattle.ipanema_cli.specs.Texts.{MayRead, room_of}
 use Rattle.ipanema_cli.specs.declared.texts.TextKind.{TextKind}
 use Rattle.ipanema_cli.specs.declared.texts.TextKind.TheVariants as kind
@@ -41,6 +42,14 @@ IsFileOf (Some (run policy trace)) kind.Policy name = name ≡ policy
 IsFileOf (Some (run policy trace)) kind.Trace name = name ≡ trace
 IsFileOf (Some (run policy trace)) kind.History name = ⊥
 IsFileOf (Some (run policy trace)) kind.Certificates name = ⊥
+IsFileOf (Some (simulate policy trace)) kind.Policy name = name ≡ policy
+IsFileOf (Some (simulate policy trace)) kind.Trace name = name ≡ trace
+IsFileOf (Some (simulate policy trace)) kind.History name = ⊥
+IsFileOf (Some (simulate policy trace)) kind.Certificates name = ⊥
+IsFileOf (Some (waste policy trace)) kind.Policy name = name ≡ policy
+IsFileOf (Some (waste policy trace)) kind.Trace name = name ≡ trace
+IsFileOf (Some (waste policy trace)) kind.History name = ⊥
+IsFileOf (Some (waste policy trace)) kind.Certificates name = ⊥
 IsFileOf (Some (replay policy trace history)) which name = IsOneOfThree policy trace history which name
 IsFileOf (Some (report policy trace history)) which name = IsOneOfThree policy trace history which name
 IsFileOf (Some (make seed size)) which name = ⊥
@@ -69,6 +78,8 @@ files_of (Some (prove policy)) = load_request policy (room_of kind.Policy) ∷ [
 files_of (Some (verify policy certs)) = certified_files policy certs
 files_of (Some (play policy trace)) = two_files policy trace
 files_of (Some (run policy trace)) = two_files policy trace
+files_of (Some (simulate policy trace)) = two_files policy trace
+files_of (Some (waste policy trace)) = two_files policy trace
 files_of (Some (replay policy trace history)) = three_files policy trace history
 files_of (Some (report policy trace history)) = three_files policy trace history
 files_of (Some (make seed size)) = []
@@ -90,6 +101,14 @@ pub record LoadsOfThree (policy trace history : List ℕ) (told : List ℕ → T
 abbrev pub GoesOnOfTwo : (policy : Told) → ℕ → Type 0
 GoesOnOfTwo policy count = 1 < count → (text : List ℕ) × MayRead kind.Policy policy text
 
+-- Just the first of the files of a policy and a trace are loaded, each once and with its limit, where the source tells of
+-- its loads.
+pub record LoadsOfTwo (policy trace : List ℕ) (told : List ℕ → Told) (before after : Option (List LoadRequest)) :
+    Type 0 where
+  pub count : ℕ
+  pub loaded : AreRequested (take count (two_files policy trace)) before after
+  pub goes_on : GoesOnOfTwo (told policy) count
+
 -- Of so many loads each but the last is of a text that may be read: behind one that is told to be missing or too long
 -- none is.
 abbrev pub MayGoOn : Option Asked → (List ℕ → Told) → ℕ → Type 0
@@ -106,6 +125,8 @@ MayGoOn (Some (make seed size)) told count = Unit {0}
 MayGoOn (Some (bench seed size)) told count = Unit {0}
 MayGoOn (Some (play policy trace)) told count = GoesOnOfTwo (told policy) count
 MayGoOn (Some (run policy trace)) told count = GoesOnOfTwo (told policy) count
+MayGoOn (Some (simulate policy trace)) told count = GoesOnOfTwo (told policy) count
+MayGoOn (Some (waste policy trace)) told count = GoesOnOfTwo (told policy) count
 
 -- Just the first of the command's files are loaded, each once and with its limit, where the source tells of its loads.
 pub record FirstAreLoaded (asked : Option Asked) (told : List ℕ → Told)

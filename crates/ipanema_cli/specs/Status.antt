@@ -12,6 +12,10 @@ use Rattle.policy_check.specs.declared.reading.Refusal.{Refusal}
 use Rattle.policy_check.specs.declared.reading.Refusal.TheVariants as refusal
 use Rattle.policy_check.specs.declared.verifying.VerifyAnswer.{VerifyAnswer}
 use Rattle.policy_check.specs.declared.verifying.VerifyAnswer.TheVariants as verify
+use Rattle.round_model.specs.declared.serial.Played.TheVariants as played
+use Rattle.trace_simulation.specs.declared.answer.PlayedWaste.TheVariants as wasted
+use Rattle.trace_simulation.specs.declared.answer.SimulationAnswer.{SimulationAnswer}
+use Rattle.trace_simulation.specs.declared.answer.SimulationAnswer.TheVariants as simulation
 use Rattle.history_replay.specs.declared.answer.HistoryAnswer.{HistoryAnswer}
 use Rattle.history_replay.specs.declared.answer.HistoryAnswer.TheVariants as history
 use Rattle.history_replay.specs.declared.refusal.HistoryRefusal.{HistoryRefusal}
@@ -79,3 +83,11 @@ abbrev pub history_status : HistoryAnswer → Status
 history_status (history.Whole count) = status.Done
 history_status (history.Reported report) = status.Done
 history_status (history.Refused why) = history_refusal_status why
+
+-- the status of what a trace comes to that is simulated
+abbrev pub simulation_status : SimulationAnswer → Status
+simulation_status (simulation.Broken fault) = status.BadText
+simulation_status (simulation.Played (played.Whole history)) = status.Done
+simulation_status (simulation.Played (played.Full history)) = status.HistoryFull
+simulation_status (simulation.Wasted (wasted.Whole report)) = status.Done
+simulation_status (simulation.Wasted (wasted.Full report)) = status.HistoryFull

@@ -2,7 +2,9 @@
 use Rattle.std.specs.Prelude.{◌≡◌, ◌⊎◌, ℕ, List, Option, Some, None}
 use Rattle.sched_io.specs.Told.{Told, missing}
 use Rattle.ipanema_cli.specs.Answers.{IsAnswer, IsTooLongOfThree}
-use Rattle.command_words.specs.Command.{Asked, bench, check, explain, make, play, prove, replay, report, run, verify}
+use Rattle.command_words.specs.Command.{Asked, bench, check, explain, make, play, prove, replay, report, run, simulate}
+use Rattle.command_words.specs.Command.{verify, waste}
+use Rattle.ipanema_cli.specs.Simulations.{IsTooLongOfTwo}
 use Rattle.ipanema_cli.specs.Texts.{MayBeLong, MayRead}
 use Rattle.ipanema_cli.specs.declared.answers.Answer.TheVariants as answer
 use Rattle.ipanema_cli.specs.declared.stop.Stop.{Stop}
@@ -39,12 +41,20 @@ IsUnread (Some (prove policy)) told fault = fault ⊎ (told policy ≡ missing)
 IsUnread (Some (verify policy certs)) told fault = IsUnreadOfTwo (told policy) (told certs) fault
 IsUnread (Some (play policy trace)) told fault = IsUnreadOfTwo (told policy) (told trace) fault
 IsUnread (Some (run policy trace)) told fault = IsUnreadOfTwo (told policy) (told trace) fault
+IsUnread (Some (simulate policy trace)) told fault = IsUnreadOfTwo (told policy) (told trace) fault
+IsUnread (Some (waste policy trace)) told fault = IsUnreadOfTwo (told policy) (told trace) fault
 IsUnread (Some (replay policy trace history)) told fault =
     IsUnreadOfThree (told policy) (told trace) (told history) fault
 IsUnread (Some (report policy trace history)) told fault =
     IsUnreadOfThree (told policy) (told trace) (told history) fault
 IsUnread (Some (make seed size)) told fault = ⊥
 IsUnread (Some (bench seed size)) told fault = ⊥
+
+-- That is why not both texts of a policy and a trace are loaded.
+abbrev pub IsStopOfTwo : (policy trace : Told) → Type 0 → Stop → Type 0
+IsStopOfTwo policy trace fault stop.Unread = IsUnreadOfTwo policy trace fault
+IsStopOfTwo policy trace fault (stop.TooLong which) = IsTooLongOfTwo policy trace which
+IsStopOfTwo policy trace fault stop.Memory = Unit {0}
 
 -- That is why not all of three texts are loaded.
 abbrev pub IsStopOfThree : (policy trace history : Told) → Type 0 → Stop → Type 0

@@ -1,10 +1,12 @@
 -- What each command says is true.
 use Rattle.std.specs.Prelude.{ℕ, List, Option, Some, None}
 use Rattle.sched_io.specs.Told.{Told}
-use Rattle.command_words.specs.Command.{Asked, bench, check, explain, make, play, prove, replay, report, run, verify}
+use Rattle.command_words.specs.Command.{Asked, bench, check, explain, make, play, prove, replay, report, run, simulate}
+use Rattle.command_words.specs.Command.{verify, waste}
 use Rattle.ipanema_cli.specs.CheckTruths.{ChecksTruly}
 use Rattle.ipanema_cli.specs.ExplainTruths.{ExplainsTruly}
 use Rattle.ipanema_cli.specs.ProveTruths.{ProvesTruly}
+use Rattle.ipanema_cli.specs.SimulationTruths.{SaysHistory, SaysWaste, SimulatesTruly}
 use Rattle.ipanema_cli.specs.TraceTruths.{PlaysTruly, RunsTruly}
 use Rattle.ipanema_cli.specs.VerifyTruths.{VerifiesTruly}
 use Rattle.ipanema_cli.specs.JudgeTruths.{JudgesTruly, SaysReport, SaysWhole}
@@ -29,6 +31,10 @@ IsTruthful Passed (Some (play policy trace)) told before after code =
     PlaysTruly (told policy) (told trace) before after code
 IsTruthful Passed (Some (run policy trace)) told before after code =
     RunsTruly Passed (told policy) (told trace) before after code
+IsTruthful Passed (Some (simulate policy trace)) told before after code =
+    SimulatesTruly SaysHistory (told policy) (told trace) before after code
+IsTruthful Passed (Some (waste policy trace)) told before after code =
+    SimulatesTruly SaysWaste (told policy) (told trace) before after code
 IsTruthful Passed (Some (replay policy trace history)) told before after code =
     JudgesTruly SaysWhole (told policy) (told trace) (told history) before after code
 IsTruthful Passed (Some (report policy trace history)) told before after code =

@@ -5,13 +5,17 @@ ghost use Rattle.sched_base.specs.declared.limits.TheConstants.{MAX_POLICY_BYTES
 ghost use Rattle.sched_io.specs.Puts.{Puts};
 ghost use Rattle.ipanema_cli.specs.Answers.{AnswersBench, AnswersMake, CanBePut, IsJudgingOfTexts, IsPlayOfTexts};
 ghost use Rattle.ipanema_cli.specs.Answers.{IsProvingOfText, judging_of, lines_of, status_of};
+ghost use Rattle.ipanema_cli.specs.Simulations.{IsSimulationOfTexts, simulating_of};
 ghost use Rattle.policy_tree.specs.Meaning.{meaning_of};
 ghost use Rattle.command_words.specs.Numbers.{is_size};
 ghost use Rattle.trace_play.specs.Plays.{IsPlayOf};
 ghost use Rattle.trace_run.specs.Runs.{IsGatedRunOf};
+ghost use Rattle.trace_simulation.specs.Simulations.{IsShown};
 ghost use Rattle.ipanema_cli.specs.declared.stop.Stop.TheVariants as stop;
 
-use crate::status::{Status, check_status, explain_status, history_status, verify_status};
+use crate::status::{
+    Status, check_status, explain_status, history_status, simulation_status, verify_status,
+};
 use crate::stop::Stop;
 use crate::texts::{TextKind, Texts};
 use bench_play::{BenchTotals, play_bench, print_bench};
@@ -19,7 +23,7 @@ use cert_file::write_certs;
 use fair_policy::fair_policy;
 use history_replay::{HistoryAnswer, replay_texts, report_texts};
 use policy_check::{CheckAnswer, ExplainAnswer, VerifyAnswer, check_text, put_text};
-use policy_checker::{AcceptedPolicy, CheckFault, Verdict, check_policy};
+use policy_checker::{AcceptedPolicy, CheckFault, PlayablePolicy, Verdict, check_policy, playable};
 use sched_base::CHECK_BUDGET;
 use sched_io::{Gate, PutFault, Sink, put_all};
 use std::alloc::Global;
@@ -29,6 +33,7 @@ use trace_maker::make_trace;
 use trace_play::{PlayAnswer, PlayMemory, PlayedCores, play_text};
 use trace_printer::print_trace;
 use trace_run::run_text;
+use trace_simulation::{SimulationAnswer, SimulationMemory, simulate_text, waste_text};
 
 /// What a command answers.
 #[derive(Drop)]
@@ -43,6 +48,8 @@ pub enum Answer {
     Verified(VerifyAnswer),
     /// What the trace comes to that is played under an accepted policy.
     Played(PlayAnswer),
+    /// What the trace comes to that is simulated under a policy that can be played.
+    Simulated(SimulationAnswer),
     /// What a history's text comes to, under an accepted policy and a trace.
     Judged(HistoryAnswer),
     /// The text of a made trace.
@@ -53,6 +60,15 @@ pub enum Answer {
     TooLong(TextKind),
     /// The words are no command.
     BadWords,
+}
+
+/// The commands that simulate a trace.
+#[derive(Clone, Copy)]
+pub enum SimulationCommand {
+    /// To write its serial history.
+    Simulate,
+    /// To say what that history wasted and why its steals failed, where an entry explains it.
+    Waste,
 }
 
 /// The commands that judge a history.
@@ -115,6 +131,46 @@ pub fn run_texts<R: Threads + Wait + Sync, G: Gate + Sync>(
             Ok(Answer::Played(run_text(rt, alloc, &accepted, trace, gate)?))
         }
         refusal => Ok(Answer::Checked(refusal)),
+    }
+}
+
+/// The answer to texts within their limits of a command that simulates a trace.
+pub fn simulate_texts(
+    alloc: Global,
+    command: SimulationCommand,
+    policy: &[u8],
+    trace: &[u8],
+) -> Result<Answer, Stop>
+    requires policy { length policy.now ≤ MAX_POLICY_BYTES }
+    requires trace { length trace.now ≤ MAX_TRACE_BYTES }
+    ensures answer { IfOk result (IsSimulationOfTexts (simulating_of command) policy.now trace.now) }
+    ensures shown { IfOk result CanBePut }
+    ensures memory { IfErr result (λ why. why ≡ stop.Memory) }
+{
+    let verdict = match check_text(alloc, policy)? {
+        CheckAnswer::Judged(verdict) => verdict,
+        refusal => return Ok(Answer::Checked(refusal)),
+    };
+    match playable(verdict) {
+        Ok(kept) => Ok(Answer::Simulated(simulated_under(alloc, &kept, command, trace)?)),
+        Err(verdict) => Ok(Answer::Checked(CheckAnswer::Judged(verdict))),
+    }
+}
+
+/// What a command that simulates a trace says under a policy that can be played.
+fn simulated_under(
+    alloc: Global,
+    policy: &PlayablePolicy,
+    command: SimulationCommand,
+    trace: &[u8],
+) -> Result<SimulationAnswer, SimulationMemory>
+    requires trace { length trace.now ≤ MAX_TRACE_BYTES }
+    ensures answer { IfOk result (simulating_of command (meaning_of policy.now) trace.now) }
+    ensures shown { IfOk result IsShown }
+{
+    match command {
+        SimulationCommand::Simulate => simulate_text(alloc, policy, trace),
+        SimulationCommand::Waste => waste_text(alloc, policy, trace),
     }
 }
 
@@ -201,6 +257,7 @@ impl Answer {
             Answer::Played(PlayAnswer::Broken(_)) => Status::BadText,
             Answer::Played(PlayAnswer::Played(PlayedCores::Whole(_))) => Status::Done,
             Answer::Played(PlayAnswer::Played(PlayedCores::Full(_))) => Status::HistoryFull,
+            Answer::Simulated(answer) => simulation_status(answer),
             Answer::Judged(answer) => history_status(answer),
             Answer::Made(_) => Status::Done,
             Answer::Benched(_) => Status::Done,
@@ -220,6 +277,7 @@ impl Answer {
             Answer::Proved(certs) => put_text(out, certs.as_slice()),
             Answer::Verified(answer) => answer.put(out),
             Answer::Played(answer) => answer.put(out),
+            Answer::Simulated(answer) => answer.put(out),
             Answer::Judged(answer) => answer.put(out),
             Answer::Made(text) => put_all(out, text.as_slice()),
             Answer::Benched(told) => print_bench(out, told),

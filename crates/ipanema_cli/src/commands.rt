@@ -9,13 +9,15 @@ ghost use Rattle.command_words.specs.Asks.{asked};
 ghost use Rattle.command_words.specs.Numbers.{is_size};
 ghost use Rattle.command_words.specs.Command.{bench as asks_bench, check, explain, make as asks_make, play};
 ghost use Rattle.command_words.specs.Command.{prove as asks_prove, run, verify as asks_verify};
-ghost use Rattle.ipanema_cli.specs.Loads.{FirstAreLoaded, LoadsOfThree, files_of, three_files};
-ghost use Rattle.ipanema_cli.specs.Stops.{IsStop, IsStopOfThree};
+ghost use Rattle.ipanema_cli.specs.Simulations.{AnswersSimulation, simulating_of};
+ghost use Rattle.ipanema_cli.specs.Loads.{FirstAreLoaded, LoadsOfThree, LoadsOfTwo, files_of, three_files, two_files};
+ghost use Rattle.ipanema_cli.specs.Stops.{IsStop, IsStopOfThree, IsStopOfTwo};
 ghost use Rattle.trace_play.specs.Plays.{IsPlayOf};
 ghost use Rattle.trace_run.specs.Runs.{IsGatedRunOf};
 
 use crate::answers::{
-    Answer, HistoryCommand, bench, judge, make, play_texts, prove_text, run_texts,
+    Answer, HistoryCommand, SimulationCommand, bench, judge, make, play_texts, prove_text,
+    run_texts, simulate_texts,
 };
 use crate::stop::Stop;
 use crate::texts::{TextKind, load, load_three};
@@ -50,6 +52,12 @@ pub fn answer_of<F: Files>(alloc: Global, request: Request, files: &mut F) -> Re
         Request::Play { policy, trace } => play(alloc, policy, trace, files),
         // That takes more than one thread.
         Request::Run { .. } => unreachable!(),
+        Request::Simulate { policy, trace } => {
+            simulate_files(alloc, SimulationCommand::Simulate, policy, trace, files)
+        }
+        Request::Waste { policy, trace } => {
+            simulate_files(alloc, SimulationCommand::Waste, policy, trace, files)
+        }
         Request::Replay {
             policy,
             trace,
@@ -179,6 +187,35 @@ pub fn run<R: Threads + Wait + Sync, F: Files, G: Gate + Sync>(
         policy_text.as_slice(),
         trace_text.as_slice(),
         gate,
+    )
+}
+
+/// The answer of a command that simulates the trace in the second file under the policy in the first.
+fn simulate_files<F: Files>(
+    alloc: Global,
+    command: SimulationCommand,
+    policy: &str,
+    trace: &str,
+    files: &mut F,
+) -> Result<Answer, Stop>
+    ensures answer { IfOk result (AnswersSimulation (simulating_of command)
+        (F.told files.old policy.now) (F.told files.old trace.now)) }
+    ensures shown { IfOk result CanBePut }
+    ensures stop { IfErr result (IsStopOfTwo (F.told files.old policy.now) (F.told files.old trace.now)
+        (Rose (F.faults files.old) (F.faults files.new))) }
+    ensures loads { LoadsOfTwo policy.now trace.now (F.told files.old)
+        (F.requested files.old) (F.requested files.new) }
+    ensures loaded { OnOk result (AreRequested (two_files policy.now trace.now)
+        (F.requested files.old) (F.requested files.new)) }
+    ensures calm { IsErrOf result Stop.Unread ⊎ (F.faults files.new ≡ F.faults files.old) }
+{
+    let policy_text = load(alloc, files, policy, TextKind::Policy)?;
+    let trace_text = load(alloc, files, trace, TextKind::Trace)?;
+    simulate_texts(
+        alloc,
+        command,
+        policy_text.as_slice(),
+        trace_text.as_slice(),
     )
 }
 

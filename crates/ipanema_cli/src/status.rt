@@ -3,11 +3,13 @@
 ghost use Rattle.std.specs.Prelude.{◌≡◌};
 ghost use Rattle.ipanema_cli.specs.Status.{check_status, code_of, explain_status, history_refusal_status};
 ghost use Rattle.ipanema_cli.specs.Status.{history_status, outcome_status, refusal_status, verdict_status};
-ghost use Rattle.ipanema_cli.specs.Status.{verify_status};
+ghost use Rattle.ipanema_cli.specs.Status.{simulation_status, verify_status};
 
 use history_replay::{HistoryAnswer, HistoryRefusal};
 use policy_check::{CheckAnswer, ExplainAnswer, Refusal, VerifyAnswer};
 use policy_checker::{Outcome, Verdict};
+use round_model::Played;
+use trace_simulation::{PlayedWaste, SimulationAnswer};
 
 /// How the program ends, for the shell a number.
 #[derive(Clone, Copy)]
@@ -89,6 +91,19 @@ pub fn verify_status(answer: &VerifyAnswer) -> Status
         VerifyAnswer::BadLine(_) => Status::BadText,
         VerifyAnswer::Wrong(_, _) => Status::WrongCertificates,
         VerifyAnswer::Unjudged(refusal) => refusal_status(refusal),
+    }
+}
+
+/// The status of what a trace comes to that is simulated.
+pub fn simulation_status(answer: &SimulationAnswer) -> Status
+    ensures { result ≡ simulation_status answer.now }
+{
+    match answer {
+        SimulationAnswer::Broken(_) => Status::BadText,
+        SimulationAnswer::Played(Played::Whole(_)) => Status::Done,
+        SimulationAnswer::Played(Played::Full(_)) => Status::HistoryFull,
+        SimulationAnswer::Wasted(PlayedWaste::Whole(_)) => Status::Done,
+        SimulationAnswer::Wasted(PlayedWaste::Full(_)) => Status::HistoryFull,
     }
 }
 

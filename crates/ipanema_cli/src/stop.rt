@@ -10,6 +10,7 @@ use command_words::WordsMemory;
 use policy_check::CheckMemory;
 use std::alloc::AllocError;
 use trace_play::PlayMemory;
+use trace_simulation::SimulationMemory;
 
 /// What keeps a command from its answer.
 #[derive(Clone, Copy)]
@@ -50,6 +51,14 @@ impl From<PlayMemory> for Stop {
     ghost from_gives = { λ _ why. why ≡ stop.Memory };
 
     fn from(_fault: PlayMemory) -> Stop {
+        Stop::Memory
+    }
+}
+
+impl From<SimulationMemory> for Stop {
+    ghost from_gives = { λ _ why. why ≡ stop.Memory };
+
+    fn from(_fault: SimulationMemory) -> Stop {
         Stop::Memory
     }
 }

@@ -1,3 +1,5 @@
+pub mod BatchPolicies
+pub mod BatchRows
 pub mod Beginnings
 pub mod Counting
 pub mod Happenings

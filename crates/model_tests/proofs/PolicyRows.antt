@@ -57,7 +57,7 @@ basic_meets : MeetsObligations basic
 basic_meets = all_obligations basic basic_balance basic_handlers
 
 -- the constants of a core without attributes
-zeros_fit : AreIn (attribute_ranges []) no_attributes
+pub zeros_fit : AreIn (attribute_ranges []) no_attributes
 zeros_fit = (zero_in, (zero_in, (zero_in, (zero_in, (zero_in, (zero_in, (zero_in, (zero_in, tt))))))))
   where
     zero_in : IsIn (range (pos 0) (pos 0)) (pos 0)

@@ -1,5 +1,5 @@
 -- The histories of the worked rows.
-use Rattle.std.specs.Prelude.{List, [], ◌∷◌, ◌++◌}
+use Rattle.std.specs.Prelude.{ℕ, List, [], ◌∷◌, ◌++◌, map}
 use Rattle.round_model.specs.declared.entry.Did.TheVariants as did
 use Rattle.round_model.specs.declared.entry.Entry.{Entry}
 use Rattle.round_model.specs.declared.entry.Entry.TheVariants as entry
@@ -106,3 +106,39 @@ eight_threads_history =
     ∷ entry.Work 3 (did.Kept 4)
     ∷ entry.Pass 3 (38 ∷ 40 ∷ 42 ∷ 43 ∷ [])
     ∷ []
+
+-- the threads enter on the first of two cores, of which each works. The first one's attempt reads its own position
+abbrev pub batch_front : List ℕ → (own : ℕ) → List Entry
+batch_front threads own =
+    entry.Round 1
+    ∷ map (λ id. entry.Enter id 0 0 []) threads
+    ++ entry.Work 0 (did.Kept 1)
+    ∷ entry.Pass 0 (own ∷ 1 ∷ [])
+    ∷ entry.Work 1 did.Nothing
+    ∷ []
+
+-- six threads
+abbrev pub six_front : List Entry
+six_front = batch_front (1 ∷ 2 ∷ 3 ∷ 4 ∷ 5 ∷ 6 ∷ []) 8
+
+-- the second core takes these of the six threads
+abbrev pub six_steal : List ℕ → Entry
+six_steal threads = entry.Steal 1 0 threads (9 ∷ 10 ∷ [])
+
+-- six threads, of which the second core takes two, since it has one itself
+abbrev pub seven_front : List Entry
+seven_front =
+    entry.Round 1
+    ∷ map (λ id. entry.Enter id 0 0 []) (1 ∷ 2 ∷ 3 ∷ 4 ∷ 5 ∷ 6 ∷ [])
+    ++ entry.Work 0 (did.Kept 1)
+    ∷ entry.Pass 0 (8 ∷ 1 ∷ [])
+    ∷ entry.Enter 7 1 1 []
+    ∷ entry.Work 1 (did.Kept 7)
+    ∷ []
+
+abbrev pub seven_steal : List ℕ → Entry
+seven_steal threads = entry.Steal 1 0 threads (9 ∷ 11 ∷ [])
+
+-- three threads, of which the second core takes two at once
+abbrev pub three_history : List Entry
+three_history = batch_front (1 ∷ 2 ∷ 3 ∷ []) 5 ++ entry.Steal 1 0 (2 ∷ 3 ∷ []) (6 ∷ 7 ∷ []) ∷ []

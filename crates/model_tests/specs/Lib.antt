@@ -1,3 +1,5 @@
+pub mod BatchRows
+pub mod Batched
 pub mod EventRows
 pub mod Histories
 pub mod LegalRows

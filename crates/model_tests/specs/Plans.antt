@@ -1,5 +1,5 @@
 -- The plans of the worked rows.
-use Rattle.std.specs.Prelude.{ℕ, List, [], ◌∷◌, map, replicate}
+use Rattle.std.specs.Prelude.{ℕ, List, [], ◌∷◌, ◌++◌, map, replicate}
 use Rattle.policy_eval.specs.Sights.{no_attributes}
 use Rattle.round_model.specs.declared.plan.Burst.{Burst}
 use Rattle.round_model.specs.declared.plan.Ending.{Ending}
@@ -23,6 +23,10 @@ late id weight = record { id = id; core = 0; round = 2; weight = weight; bursts 
 -- a thread of weight 1 without end
 abbrev pub endless : ℕ → Planned
 endless id = thread id 1 (run 1 ending.Forever ∷ [])
+
+-- a thread of that weight without end
+abbrev pub weighing : (id weight : ℕ) → Planned
+weighing id weight = thread id weight (run 1 ending.Forever ∷ [])
 
 -- the cores take steps in this order in round 1
 abbrev pub in_order : List ℕ → List OrderLine
@@ -55,6 +59,23 @@ stale_read = plan_of 3 1 (endless 1 ∷ endless 2 ∷ []) (in_order (0 ∷ 0 ∷
 abbrev pub eight_threads : Plan
 eight_threads = plan_of 4 4 (map endless (1 ∷ 2 ∷ 3 ∷ 4 ∷ 5 ∷ 6 ∷ 7 ∷ 8 ∷ []))
     (in_order (1 ∷ 1 ∷ 1 ∷ 2 ∷ 2 ∷ 2 ∷ 3 ∷ 3 ∷ 3 ∷ []))
+
+-- six threads on the first of two cores
+abbrev pub six_threads : Plan
+six_threads = plan_of 2 1 (map endless (1 ∷ 2 ∷ 3 ∷ 4 ∷ 5 ∷ 6 ∷ [])) []
+
+-- six threads on the first of two cores, and one on the second
+abbrev pub seven_threads : Plan
+seven_threads = plan_of 2 1 (map endless (1 ∷ 2 ∷ 3 ∷ 4 ∷ 5 ∷ 6 ∷ []) ++ record (endless 7) { core = 1 } ∷ []) []
+
+-- six threads of several weights on the first of two cores
+abbrev pub six_weights : Plan
+six_weights = plan_of 2 1
+    (weighing 1 2 ∷ weighing 2 7 ∷ weighing 3 8 ∷ weighing 4 5 ∷ weighing 5 3 ∷ weighing 6 1 ∷ []) []
+
+-- a heavy thread and two light ones on the first of two cores
+abbrev pub three_weights : Plan
+three_weights = plan_of 2 1 (weighing 1 8 ∷ weighing 2 1 ∷ weighing 3 1 ∷ []) []
 
 -- a thread that blocks and wakes, and one without end
 abbrev pub block_and_wake : Plan

@@ -1,13 +1,14 @@
 -- The policies of the worked rows.
-use Rattle.std.specs.Prelude.{ℕ, pos, [], None, codes}
+use Rattle.std.specs.Prelude.{ℕ, pos, [], None, Some, codes}
 use Rattle.policy_tree.specs.declared.trees.Cmp.TheVariants as cmp
 use Rattle.policy_tree.specs.declared.typed.Load.TheVariants as load
 use Rattle.policy_tree.specs.declared.typed.Put.TheVariants as put
+use Rattle.fair_policy.specs.Fair.{fair_meaning as fair}
 use Rattle.fair_policy.specs.Forms.{handlers_with, whenever}
 use Rattle.policy_eval.specs.declared.env.CoreValues.{CoreValues}
 use Rattle.policy_eval.specs.Sights.{no_attributes}
 use Rattle.policy_tree.specs.Trees.{number, variable, minus, CondTree, test}
-use Rattle.policy_tree.specs.Meaning.{Meaning, here}
+use Rattle.policy_tree.specs.Meaning.{BatchTree, Meaning, here}
 
 -- steal from a core with so many threads more
 abbrev pub gap_of : ℕ → CondTree
@@ -27,6 +28,29 @@ basic = record {
   choose = [];
   steal = [];
   batch = None;
+}
+
+-- a steal goes on while the victim has two threads more, and moves so many at most
+abbrev pub while_gap : ℕ → BatchTree
+while_gap limit = record { condition = gap_of 2; limit = limit }
+
+-- the basic policy with that batch
+abbrev pub in_batches : ℕ → Meaning
+in_batches limit = record basic { batch = Some (while_gap limit) }
+
+-- victim.load - self.load > t.weight
+abbrev pub weighs_less : CondTree
+weighs_less = test cmp.Gt (minus (variable 3) (variable 1)) (variable 4)
+
+-- the fair policy on threads without attributes, each of which stays where it enters and runs on. A steal goes on as
+-- long as the next thread weighs less than the gap
+abbrev pub weighted : ℕ → Meaning
+weighted limit = record fair {
+  thread_attrs = [];
+  place = here;
+  elect = [];
+  handlers = basic.handlers;
+  batch = Some (record { condition = weighs_less; limit = limit });
 }
 
 -- what is seen of a core with so many threads of weight 1, and without attributes

@@ -6,12 +6,14 @@ ghost use Rattle.policy_tree.specs.Trees.{cond_tree};
 ghost use Rattle.policy_eval.specs.Fitting.{CoreFits};
 ghost use Rattle.round_model.specs.Choices.{choice_of, values_in};
 ghost use Rattle.fair_policy.specs.Forms.{whenever};
-ghost use Rattle.model_tests.specs.Policies.{basic, gap_of, seen_count};
+ghost use Rattle.model_tests.specs.Policies.{basic, gap_of, in_batches, seen_count, weighs_less, weighted};
 
+use fair_policy::fair_policy;
 use policy_eval::CoreValues;
+use policy_tree::variables::{OTHER_LOAD, OTHER_NR, SELF_LOAD, SELF_NR, WEIGHT};
 use policy_tree::{
-    AttrList, Case, CaseList, Cmp, Cond, Expr, HandlerList, Load, Name, Order, PlaceRule, Policy,
-    Put, SetList,
+    AttrList, Batch, Case, CaseList, Cmp, Cond, Expr, HandlerList, Load, Name, Order, PlaceRule,
+    Policy, Put, SetList,
 };
 use round_model::choice;
 use sched_base::{CoreId, MAX_ATTRIBUTES, MAX_THREADS};
@@ -37,6 +39,40 @@ pub fn basic_policy(alloc: Global) -> Result<Policy, AllocError>
         steal: Order::from_vec(Vec::new(alloc)),
         batch: None,
     })
+}
+
+/// The basic policy, whose steals go on while the victim has two threads more, and move so many at most.
+pub fn batched_policy(alloc: Global, limit: u32) -> Result<Policy, AllocError>
+    ensures { IfOk result (λ policy. meaning_of policy ≡ in_batches limit) }
+{
+    let mut policy = basic_policy(alloc)?;
+    let cond = gap(alloc, 2)?;
+    policy.batch = Some(Batch { cond, limit });
+    Ok(policy)
+}
+
+/// The fair policy without attributes and placement. Its steals go on as long as the next thread weighs less than the
+/// gap, and move so many at most.
+pub fn weighted_policy(alloc: Global, limit: u32) -> Result<Policy, AllocError>
+    ensures { IfOk result (λ policy. meaning_of policy ≡ weighted limit) }
+{
+    let mut policy = fair_policy(alloc)?;
+    policy.thread_attrs = AttrList::from_vec(Vec::new(alloc));
+    policy.place = PlaceRule::Here;
+    policy.elect = Order::from_vec(Vec::new(alloc));
+    policy.handlers = default_handlers(alloc)?;
+    let cond = weighs_less(alloc)?;
+    policy.batch = Some(Batch { cond, limit });
+    Ok(policy)
+}
+
+/// The next thread weighs less than the victim's load is greater.
+fn weighs_less(alloc: Global) -> Result<Cond, AllocError>
+    ensures { IfOk result (λ condition. cond_tree condition ≡ weighs_less) }
+{
+    let victim = Box::new(alloc, Expr::Var(OTHER_LOAD))?;
+    let own = Box::new(alloc, Expr::Var(SELF_LOAD))?;
+    Ok(Cond::Test(Cmp::Gt, Expr::Sub(victim, own), Expr::Var(WEIGHT)))
 }
 
 /// The handlers of a policy that names none.
@@ -70,8 +106,8 @@ fn only_case(alloc: Global, put: Put) -> Result<CaseList, AllocError>
 fn gap(alloc: Global, least: u32) -> Result<Cond, AllocError>
     ensures { IfOk result (λ filter. cond_tree filter ≡ gap_of least) }
 {
-    let victim = Box::new(alloc, Expr::Var(2))?;
-    let own = Box::new(alloc, Expr::Var(0))?;
+    let victim = Box::new(alloc, Expr::Var(OTHER_NR))?;
+    let own = Box::new(alloc, Expr::Var(SELF_NR))?;
     Ok(Cond::Test(Cmp::Ge, Expr::Sub(victim, own), Expr::Num(i64::from(least))))
 }
 

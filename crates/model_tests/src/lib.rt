@@ -1,6 +1,8 @@
 //! The worked rows of the model: each a function whose contract is the row.
 #![tactic(auto)]
 
+pub mod batched;
+pub mod batches;
 pub mod builders;
 pub mod events;
 pub mod legal;

@@ -1,10 +1,11 @@
 //! A worked plan as a value, and what may come first under it.
 
-ghost use Rattle.std.specs.Prelude.{◌≡◌, [], IfOk, IsTrue, ◌↔◌};
+ghost use Rattle.std.specs.Prelude.{◌≡◌, ◌<◌, ◌^◌, [], IfOk, IsTrue, ◌↔◌, vec_len};
 ghost use Rattle.policy_tree.specs.Meaning.{meaning_of};
 ghost use Rattle.round_model.specs.Legal.{LegalNext};
 ghost use Rattle.round_model.specs.Code.Past.{IsPastOf, StandsFor};
-ghost use Rattle.model_tests.specs.Plans.{endless as endless_thread, two_cores as two_cores_plan};
+ghost use Rattle.model_tests.specs.Plans.{endless as endless_thread, plan_of, two_cores as two_cores_plan};
+ghost use Rattle.model_tests.specs.Plans.{weighing as weighing_thread};
 ghost use Rattle.model_tests.specs.Policies.{basic};
 
 use policy_tree::Policy;
@@ -22,6 +23,14 @@ pub fn two_cores(alloc: Global) -> Result<Plan, AllocError>
     let mut threads = Vec::new(alloc);
     threads.push(endless(alloc, 1)?)?;
     threads.push(endless(alloc, 2)?)?;
+    on_two_cores(alloc, threads)
+}
+
+/// Two cores and one round with these threads.
+pub(crate) fn on_two_cores(alloc: Global, threads: Vec<Planned>) -> Result<Plan, AllocError>
+    requires { vec_len threads < 2 ^ 32 }
+    ensures { IfOk result (λ plan. plan ≡ plan_of 2 1 threads.items []) }
+{
     let consts = Vec::from_elem(alloc, [0; MAX_ATTRIBUTES], 2)?;
     Ok(Plan {
         cores: 2,
@@ -34,8 +43,15 @@ pub fn two_cores(alloc: Global) -> Result<Plan, AllocError>
 }
 
 /// A thread of weight 1 without end, which core 0 lets in in round 1.
-fn endless(alloc: Global, id: ThreadId) -> Result<Planned, AllocError>
+pub(crate) fn endless(alloc: Global, id: ThreadId) -> Result<Planned, AllocError>
     ensures { IfOk result (λ thread. thread ≡ endless_thread id) }
+{
+    weighing(alloc, id, 1)
+}
+
+/// A thread of that weight without end, which core 0 lets in in round 1.
+pub(crate) fn weighing(alloc: Global, id: ThreadId, weight: u32) -> Result<Planned, AllocError>
+    ensures { IfOk result (λ thread. thread ≡ weighing_thread id weight) }
 {
     let mut bursts = Vec::new(alloc);
     bursts.push(Burst {
@@ -46,7 +62,7 @@ fn endless(alloc: Global, id: ThreadId) -> Result<Planned, AllocError>
         id,
         core: 0,
         round: 1,
-        weight: 1,
+        weight,
         bursts: BurstList::from_vec(bursts),
     })
 }

@@ -24,8 +24,8 @@ const TIDE: u32 = 200;
 /// What the dice show before they are rolled.
 const SEED: u64 = 2026;
 
-/// Whether in each turn a queue that elects by the first order gives the same as a plain list, also where both are asked
-/// for the best by the second order.
+/// Whether in each turn a queue that elects by the first order gives the same as a plain list, also where both are
+/// asked for the best by the second order.
 pub(crate) fn gives_the_same(alloc: Global, elect: &Order, steal: &Order) -> bool
     requires elect { IsEvaluableOrder (order_tree elect.now) }
     requires steal { IsEvaluableOrder (order_tree steal.now) }

@@ -1,40 +1,7 @@
--- Items of lists: the best is one of them, what a filter leaves passes, and what passes is found.
-use Rattle.std.proofs.Common.{◌≡◌, ◌≢◌, ℕ, zero, suc, ◌+◌, ◌<◌, ◌≤◌, eqb, Bool, true, false, cond, List, [], ◌∷◌, filter, find, get_or, length, Contains, IfSome, Option, Some, None, refl, sym, ap, ◌∙◌, subst, arith}
+-- Items of lists: what a filter leaves passes, and what holds of all numbers of a range holds of each.
+use Rattle.std.proofs.Common.{◌≡◌, ◌≢◌, ℕ, zero, suc, ◌+◌, ◌<◌, ◌≤◌, eqb, Bool, true, false, cond, List, [], ◌∷◌, filter, Contains, refl, sym, ap, ◌∙◌, subst, arith}
 use Rattle.std.specs.List.{AllByRecursion, range_with_len}
 use Rattle.std.proofs.lemmas.Bool.Decides.{nat_tests}
-use Rattle.policy_eval.specs.Orders.{best_of, better_of}
-
--- the best of a list is one of its items
-best_contained : {X : Type 0} (comes : X → X → Bool) (xs : List X) → IfSome (best_of comes xs) (Contains xs)
-best_contained comes [] = tt
-best_contained {X} comes (x ∷ xs) = with_rest (best_of comes xs) (best_contained comes xs)
-  where
-    first : Contains (x ∷ xs) x
-    first = (0, omega arith, refl)
-
-    later : (y : X) → Contains xs y → Contains (x ∷ xs) y
-    later y (k, inside, is) = (suc k, omega arith, is)
-
-    with_rest : (found : Option X) → IfSome found (Contains xs) → Contains (x ∷ xs) (better_of comes x found)
-    with_rest None among = first
-    with_rest (Some y) among = elim (comes y x) as (λ b. Contains (x ∷ xs) (cond b y x)) [ true ↦ later y among | false ↦ first ]
-
-pub best_among : {X : Type 0} (comes : X → X → Bool) (xs : List X) (x : X) → best_of comes xs ≡ Some x → Contains xs x
-best_among {X} comes xs x is = subst (λ (o : Option X). IfSome o (Contains xs)) is (best_contained comes xs)
-
--- a list without a best is empty
-pub best_missing : {X : Type 0} (comes : X → X → Bool) (xs : List X) → best_of comes xs ≡ None → xs ≡ []
-best_missing comes [] is = refl
-best_missing comes (x ∷ xs) is = absurd (cc)
-
--- an item that passes is found, or one before it
-pub found_before : {X : Type 0} (test : X → Bool) (xs : List X) (x : X) → Contains xs x → test x ≡ true → (y : X) × (find test xs ≡ Some y)
-found_before {X} test xs x (k, inside, is) passes = at_place xs k inside is
-  where
-    at_place : (ys : List X) (k : ℕ) → k < length ys → get_or ys k x ≡ x → (y : X) × (find test ys ≡ Some y)
-    at_place [] k inside is = absurd (omega arith)
-    at_place (y ∷ ys) zero inside is = (y, ap (λ b. cond b (Some y) (find test ys)) (ap test is ∙ passes))
-    at_place (y ∷ ys) (suc k) inside is = elim (test y) as (λ b. (z : X) × (cond b (Some y) (find test ys) ≡ Some z)) [ true ↦ (y, refl) | false ↦ at_place ys k (omega arith) is ]
 
 -- the items that a filter leaves pass
 pub filtered_pass : {X : Type 0} (test : X → Bool) (xs : List X) (x : X) → Contains (filter test xs) x → test x ≡ true

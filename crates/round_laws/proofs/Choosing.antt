@@ -1,6 +1,6 @@
 -- What the outcome of an attempt says: a pass that no other core passed the filter by the values read, a fail that one
--- did and that the same core doesn't pass now or has nothing queued, a steal that it passes now and that a thread waits there.
-use Rattle.std.proofs.Common.{◌∷◌, ◌≡◌, ◌≢◌, ℕ, ◌==◌, ◌<◌, ◌≤◌, not, ◌&&◌, Bool, true, false, cond, List, [], filter, length, option_to_list, IfSome, Option, Some, None, refl, sym, ap, ◌∙◌, subst, arith}
+-- did and that the same core doesn't pass now or has nothing queued, a steal that its threads are the moves from there.
+use Rattle.std.proofs.Common.{◌∷◌, ◌≡◌, ◌≢◌, ℕ, suc, ◌==◌, ◌<◌, ◌≤◌, not, ◌&&◌, Bool, true, false, cond, List, [], filter, length, option_to_list, IfSome, Option, Some, None, refl, sym, ap, ◌∙◌, subst, arith}
 use Rattle.std.specs.List.{range_with_len}
 use Rattle.std.proofs.lemmas.Bool.Decides.{nat_tests}
 use Rattle.std.proofs.lemmas.List.{length-append}
@@ -15,17 +15,19 @@ use Rattle.round_model.specs.declared.entry.Entry.TheVariants as entry
 use Rattle.round_model.specs.declared.plan.Plan.{Plan}
 use Rattle.round_model.specs.declared.state.ModelCore.{ModelCore}
 use Rattle.round_model.specs.After.{after}
-use Rattle.round_model.specs.Attempts.{attempt_of, attempt_with, moves_with, present_values, steal_or_fail}
+use Rattle.round_model.specs.Attempts.{attempt_of, attempt_with, moves_after, moves_of, moves_with, present_values, steal_or_fail}
 use Rattle.round_model.specs.Choices.{candidates_of, choice_of, is_candidate, prefers}
 use Rattle.round_model.specs.Cores.{Cores, thread_count}
 use Rattle.round_model.specs.Legal.{LegalNext}
+use Rattle.round_model.specs.Moves.{handed, received}
 use Rattle.round_model.specs.Code.Outcomes.{values_at}
 use Rattle.round_model.specs.Reads.{ReadsFit, round_start}
 use Rattle.round_model.specs.Rows.{Row}
 use Rattle.round_model.specs.Scenes.{scene_of}
 use Rattle.round_model.specs.Work.{before}
 use Rattle.round_model.proofs.Outcomes.{choice_there}
-use Rattle.round_laws.proofs.Bests.{best_among, best_missing, each_in_range, filtered_pass, none_filtered}
+use Rattle.round_model.proofs.Bests.{best_among, best_missing}
+use Rattle.round_laws.proofs.Bests.{each_in_range, filtered_pass, none_filtered}
 
 both_true : (a b : Bool) → (a && b) ≡ true → (a ≡ true) × (b ≡ true)
 both_true true b is = (refl, is)
@@ -68,13 +70,15 @@ module _ (p : Meaning) (plan : Plan) (m : Cores) (a : ℕ) where
   abbrev pub PassesNow : ℕ → Type 0
   PassesNow v = Holds (pair_values (present_values plan m a) (present_values plan m v)) p.filter
 
-  -- a steal: that core was chosen and passes now, and the best thread that waits there is moved alone
+  -- the moves of an attempt on a core, by the cores as they are
+  abbrev pub moves_now : ℕ → List ℕ
+  moves_now v = moves_of p plan a v p.batch (m a) (m v)
+
+  -- a steal: that core was chosen, and what is moved from it are these threads, one at least
   pub record StealMeans (from : ℕ) (threads : List ℕ) (chosen : Option ℕ) : Type 0 where
     pub choice : chosen ≡ Some from
-    pub passes : PassesNow from
-    pub task : Task
-    pub best : best_of (before p.steal) (m from).queue ≡ Some task
-    pub alone : threads ≡ task.id ∷ []
+    pub moves : threads ≡ moves_now from
+    pub some : 1 ≤ length threads
 
   -- a fail: that core was chosen, and no thread waits there if it passes now
   pub record FailMeans (from : ℕ) (chosen : Option ℕ) : Type 0 where
@@ -84,22 +88,17 @@ module _ (p : Meaning) (plan : Plan) (m : Cores) (a : ℕ) where
   module _ (reads : List ℕ) where
     -- the attempt on a core whose filter test and best thread are these
     abbrev attempt_by : ℕ → Bool → Option Task → Entry
-    attempt_by v test found = steal_or_fail a v reads (moves_with (cond test found None) (λ t. t.id ∷ []))
+    attempt_by v test found =
+        steal_or_fail a v reads (moves_with (cond test found None) (λ t. t.id ∷ moves_after p plan a v p.batch (received t (m a)) (handed t.id (m v))))
 
-    steal_by : (from : ℕ) (threads : List ℕ) (v : ℕ) (test : Bool) (found : Option Task) → holds (pair_values (present_values plan m a) (present_values plan m v)) p.filter ≡ test
-        → best_of (before p.steal) (m v).queue ≡ found → entry.Steal a from threads reads ≡ attempt_by v test found → StealMeans from threads (Some v)
-    steal_by from threads v true None passes best is = absurd (cc)
-    steal_by from threads v true (Some t) passes best is =
+    steal_by : (from : ℕ) (threads : List ℕ) (v : ℕ) (moves : List ℕ) → moves_now v ≡ moves → entry.Steal a from threads reads ≡ steal_or_fail a v reads moves
+        → StealMeans from threads (Some v)
+    steal_by from threads v [] are is = absurd (cc)
+    steal_by from threads v (id ∷ ids) are is =
         let same : v ≡ from = cc in
-        let alone : threads ≡ t.id ∷ [] = cc in
-        record {
-          choice = ap (λ c. Some c) same;
-          passes = subst PassesNow same passes;
-          task = t;
-          best = subst (λ c. best_of (before p.steal) (m c).queue ≡ Some t) same best;
-          alone = alone;
-        }
-    steal_by from threads v false found passes best is = absurd (cc)
+        let all : threads ≡ id ∷ ids = cc in
+        let count : length threads ≡ suc (length ids) = ap length all in
+        record { choice = ap (λ c. Some c) same; moves = subst (λ c. threads ≡ moves_now c) same (all ∙ sym are); some = omega arith }
 
     fail_by : (from v : ℕ) (test : Bool) (found : Option Task) → holds (pair_values (present_values plan m a) (present_values plan m v)) p.filter ≡ test
         → best_of (before p.steal) (m v).queue ≡ found → entry.Fail a from reads ≡ attempt_by v test found → FailMeans from (Some v)
@@ -118,8 +117,7 @@ module _ (p : Meaning) (plan : Plan) (m : Cores) (a : ℕ) where
 
     steal_means : (from : ℕ) (threads : List ℕ) (chosen : Option ℕ) → entry.Steal a from threads reads ≡ attempt_with p plan m a reads chosen → StealMeans from threads chosen
     steal_means from threads None is = absurd (cc)
-    steal_means from threads (Some v) is =
-        steal_by from threads v (holds (pair_values (present_values plan m a) (present_values plan m v)) p.filter) (best_of (before p.steal) (m v).queue) refl refl is
+    steal_means from threads (Some v) is = steal_by from threads v (moves_now v) refl is
 
     fail_means : (from : ℕ) (chosen : Option ℕ) → entry.Fail a from reads ≡ attempt_with p plan m a reads chosen → FailMeans from chosen
     fail_means from None is = absurd (cc)
@@ -159,7 +157,7 @@ module _ (p : Meaning) (plan : Plan) (h : List Entry) where
   legal_pass by reads legal v candidate =
       no_choice p plan.cores (values_at p plan h reads) by v (pass_means p plan (after p plan h) by reads (choice_by by reads) legal.row.outcome) candidate
 
-  -- what a legal steal says of choice and queue
+  -- what a legal steal says of choice and moves
   pub legal_steal : (by from : ℕ) (threads reads : List ℕ) → LegalNext p plan h (entry.Steal by from threads reads)
       → StealMeans p plan (after p plan h) by from threads (choice_by by reads)
   unfolding LegalNext Row scene_of attempt_of

@@ -10,6 +10,7 @@ pub mod FailedSteals
 pub mod IdleAttempts
 pub mod KeptLoads
 pub mod MainTheorem
+pub mod MoveRows
 pub mod Narrowing
 pub mod OnePlace
 pub mod Paid

@@ -67,7 +67,7 @@ range_around from (suc a) (suc n) inside =
     ∙ ap (λ k. from ∷ (range_with_len (from + 1) a ++ (from + suc a) ∷ range_with_len (from + suc a + 1) k)) (omega arith))
 
 -- what is the same at each of those numbers
-range_same : (f g : ℕ → ℕ) (from n : ℕ) → ((c : ℕ) → from ≤ c → c < from + n → g c ≡ f c) → map g (range_with_len from n) ≡ map f (range_with_len from n)
+pub range_same : (f g : ℕ → ℕ) (from n : ℕ) → ((c : ℕ) → from ≤ c → c < from + n → g c ≡ f c) → map g (range_with_len from n) ≡ map f (range_with_len from n)
 range_same f g from zero same = refl
 range_same f g from (suc n) same =
     ap (λ x. x ∷ map g (range_with_len (from + 1) n)) (same from (omega arith) (omega arith))

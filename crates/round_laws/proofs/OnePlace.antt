@@ -16,7 +16,7 @@ use Rattle.round_model.specs.Cores.{Cores, core_numbers, opening_state}
 use Rattle.round_model.specs.Fits.{Fits}
 use Rattle.round_model.specs.Code.Kept.{Holds}
 use Rattle.round_model.specs.Legal.{Legal, LegalNext}
-use Rattle.round_model.specs.Moves.{is_blocked_task, queued_of}
+use Rattle.round_model.specs.Moves.{is_blocked_task}
 use Rattle.round_model.specs.OnePlace.{OnePlaceLaw}
 use Rattle.round_model.specs.Phases.{Stands, blocked_places_of, outside, phase_after, phase_of, places_of}
 use Rattle.round_model.specs.Rows.{Row}

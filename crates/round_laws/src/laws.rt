@@ -21,9 +21,9 @@ pub fn law_failed_steals()
     ensures { FailedStealsLaw }
 {}
 
-/// In still rounds each bad round has a steal, each steal lowers the spread of the loads by 2 at least, and no core is
-/// idle beside an overloaded one from the Round on that comes N rounds after the first, for each N
-/// with 2 N at least the first spread.
+/// In still rounds each bad round has a steal, each steal lowers the spread of the loads by 2 at least for each thread
+/// that it moves, and no core is idle beside an overloaded one from the Round on that comes N rounds after the first,
+/// for each N with 2 N at least the first spread.
 pub fn law_still_rounds()
     ensures { StillRoundsLaw }
 {}

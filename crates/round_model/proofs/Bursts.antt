@@ -21,7 +21,7 @@ use Rattle.round_model.specs.declared.plan.Plan.{Plan}
 use Rattle.round_model.specs.declared.plan.Planned.{Planned}
 use Rattle.round_model.specs.declared.state.Blocked.{Blocked}
 use Rattle.round_model.specs.declared.state.ModelCore.{ModelCore}
-use Rattle.round_model.specs.After.{after_from, effect, entered, moved, round_after, stolen, woken}
+use Rattle.round_model.specs.After.{after_from, effect, entered, moved, round_after, woken}
 use Rattle.round_model.specs.Bursts.{BurstsLaw, HasBurst, HaveBursts, LiesIn}
 use Rattle.round_model.specs.Cores.{Cores, opening_state}
 use Rattle.round_model.specs.Entries.{touches}

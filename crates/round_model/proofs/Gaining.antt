@@ -1,6 +1,6 @@
 -- What the cores of a plan have after an entry: numbers in their ranges, and no more threads of any numbers than before
 -- and the one that enters.
-use Rattle.std.proofs.Common.{◌≡◌, ◌≢◌, ℕ, ◌+◌, ◌<◌, ◌≤◌, Bool, true, false, List, [], ◌∷◌, count_by, IfSome, Option, Some, None, refl, sym, ap, ◌∙◌, subst, arith}
+use Rattle.std.proofs.Common.{◌≡◌, ◌≢◌, ℕ, ◌+◌, ◌<◌, ◌≤◌, Bool, true, false, List, count_by, IfSome, Option, Some, None, refl, sym, ap, ◌∙◌, subst, arith}
 use Rattle.std.proofs.lemmas.Bool.Decides.{nat_tests}
 use Rattle.sched_base.specs.declared.task.Task.{Task}
 use Rattle.policy_tree.specs.declared.typed.Event.TheVariants as event
@@ -26,7 +26,7 @@ use Rattle.round_model.specs.Code.Updates.{updated}
 use Rattle.round_model.specs.Work.{core_after_work}
 use Rattle.round_model.proofs.BegunBounds.{counted}
 use Rattle.round_model.proofs.Directories.{is_thread}
-use Rattle.round_model.proofs.Finding.{find-All, find-append, find-passes}
+use Rattle.round_model.proofs.Finding.{find-All, find-passes}
 use Rattle.round_model.proofs.Keeping.{entering_fits, holds_released, stays_after, updated_other}
 use Rattle.round_model.proofs.Moved.{blocked-outcomes, moved_enter, moved_no_enter, moved_no_wake, moved_steal, moved_wake, moved_work, unmoved_fail, unmoved_pass, unmoved_round}
 use Rattle.round_model.proofs.Standing.{Gains, event_gains, handed_count, has_name, received_count, released_count, work_gains}

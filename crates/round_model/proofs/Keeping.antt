@@ -35,7 +35,7 @@ use Rattle.round_model.specs.Code.Units.{HasTask, IsUnit, core_after_unit, witho
 use Rattle.round_model.specs.Code.Outcomes.{IsCountable}
 use Rattle.round_model.specs.Programs.{entering_task, planned_of, start_of}
 use Rattle.round_model.proofs.Directories.{is_thread}
-use Rattle.round_model.proofs.Finding.{find-All, find-append}
+use Rattle.round_model.proofs.Finding.{find-All}
 use Rattle.round_model.proofs.Moved.{blocked-outcomes}
 
 -- one value more of those that come from a list, before the ones that are left

@@ -8,6 +8,7 @@ pub mod Awaited
 pub mod Beginnings
 pub mod Begun
 pub mod BegunBounds
+pub mod Bests
 pub mod Between
 pub mod Bounded
 pub mod Bursts
@@ -23,11 +24,15 @@ pub mod Free
 pub mod Gaining
 pub mod Grows
 pub mod Histories
+pub mod Judged
 pub mod Judging
 pub mod Keeping
 pub mod Locality
 pub mod Longer
+pub mod MoveSteps
 pub mod Moved
+pub mod MovedOn
+pub mod Once
 pub mod Openings
 pub mod Outcomes
 pub mod OwedBounds
@@ -51,5 +56,6 @@ pub mod Totals
 pub mod Touched
 pub mod Turning
 pub mod Units
+pub mod Unnamed
 pub mod Waking
 pub mod Walks

@@ -39,11 +39,11 @@ touches_pair a v reads [] c is = is
 touches_pair a v reads (id ∷ ids) c is = is
 
 on_touches : (p : Meaning) (plan : Plan) (m : Cores) (a v : ℕ) (reads : List ℕ) (c : ℕ) → (eqb a c || eqb v c) ≡ true → touches c (attempt_on p plan m a reads v) ≡ true
-on_touches p plan m a v reads c is = touches_pair a v reads (moves_of p plan a v None (m a) (m v)) c is
+on_touches p plan m a v reads c is = touches_pair a v reads (moves_of p plan a v p.batch (m a) (m v)) c is
 
 -- and depends on them alone
 on_same : (p : Meaning) (plan : Plan) (m k : Cores) (a v : ℕ) (reads : List ℕ) → m a ≡ k a → m v ≡ k v → attempt_on p plan m a reads v ≡ attempt_on p plan k a reads v
-on_same p plan m k a v reads = ap₂ (λ (x y : ModelCore). steal_or_fail a v reads (moves_of p plan a v None x y))
+on_same p plan m k a v reads = ap₂ (λ (x y : ModelCore). steal_or_fail a v reads (moves_of p plan a v p.batch x y))
 
 -- two moments that are the same for an entry
 record AreSame (s t : Scene) (e : Entry) : Type 0 where

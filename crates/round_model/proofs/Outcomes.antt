@@ -1,41 +1,15 @@
--- Attempts, and choices by values that agree on the cores that there are.
-use Rattle.std.proofs.Common.{◌≡◌, ◌≢◌, ℕ, zero, suc, ◌+◌, ◌==◌, ◌<◌, ◌≤◌, Bool, true, false, not, ◌&&◌, cond, int_lt, List, [], ◌∷◌, filter, length, take, All, IfSome, Option, Some, None, eqb, option_map, option_to_list, refl, sym, ap, ap₂, ◌∙◌, subst, arith}
+-- Choices and targets by values that agree on the cores that there are.
+use Rattle.std.proofs.Common.{◌≡◌, ◌≢◌, ℕ, zero, suc, ◌+◌, ◌==◌, ◌<◌, ◌≤◌, Bool, true, false, not, ◌&&◌, cond, int_lt, List, [], ◌∷◌, filter, length, take, All, IfSome, Option, Some, None, eqb, refl, sym, ap, ap₂, ◌∙◌, subst, arith}
 use Rattle.std.specs.List.{AllByRecursion, range_with_len}
 use Rattle.std.proofs.lemmas.Bool.Decides.{nat_tests}
 use Rattle.std.proofs.lemmas.List.{get_or-take, get_or_default, length-take}
-use Rattle.sched_base.specs.declared.task.Task.{Task}
 use Rattle.policy_tree.specs.Meaning.{Meaning, PlaceTree, here, least}
 use Rattle.policy_tree.specs.Trees.{ExprTree}
 use Rattle.policy_eval.specs.declared.env.CoreValues.{CoreValues}
 use Rattle.policy_eval.specs.Orders.{best_of, better_of, precedes}
 use Rattle.policy_eval.specs.Sights.{core_values, pair_values}
 use Rattle.policy_eval.specs.Values.{holds, value_of}
-use Rattle.round_model.specs.declared.plan.Plan.{Plan}
-use Rattle.round_model.specs.Attempts.{attempt_on, moves_with, present_values, steal_or_fail}
 use Rattle.round_model.specs.Choices.{candidates_of, choice_of, is_candidate, is_less, no_values, prefers, target_by, target_of, values_in}
-use Rattle.round_model.specs.Cores.{Cores}
-use Rattle.round_model.specs.Work.{before}
-
--- an attempt where the filter holds takes the best of the queue
-pub attempt_taken : (p : Meaning) (plan : Plan) (m : Cores) (a : ℕ) (reads : List ℕ) (v : ℕ) (taken : List ℕ)
-    → holds (pair_values (present_values plan m a) (present_values plan m v)) p.filter ≡ true
-    → taken ≡ moves_with (best_of (before p.steal) (m v).queue) (λ t. t.id ∷ [])
-    → attempt_on p plan m a reads v ≡ steal_or_fail a v reads taken
-attempt_taken p plan m a reads v taken passes is =
-    let best = best_of (before p.steal) (m v).queue in
-    ap (λ b. steal_or_fail a v reads (moves_with (cond b best None) (λ t. t.id ∷ []))) passes
-    ∙ ap (steal_or_fail a v reads) (sym is)
-
-pub attempt_best : (p : Meaning) (plan : Plan) (m : Cores) (a : ℕ) (reads : List ℕ) (v : ℕ) (taken : Option ℕ)
-    → holds (pair_values (present_values plan m a) (present_values plan m v)) p.filter ≡ true
-    → taken ≡ option_map (λ t. t.id) (best_of (before p.steal) (m v).queue)
-    → attempt_on p plan m a reads v ≡ steal_or_fail a v reads (option_to_list taken)
-attempt_best p plan m a reads v taken passes is =
-    attempt_taken p plan m a reads v (option_to_list taken) passes (ap option_to_list is ∙ alone (best_of (before p.steal) (m v).queue))
-  where
-    alone : (best : Option Task) → option_to_list (option_map (λ t. t.id) best) ≡ moves_with best (λ t. t.id ∷ [])
-    alone None = refl
-    alone (Some t) = refl
 
 -- by two orders that agree on these items the best is the same, and one of them
 best_same : {X : Type 0} (first second : X → X → Bool) (P : X → Type 0) → ((x y : X) → P x → P y → first x y ≡ second x y)

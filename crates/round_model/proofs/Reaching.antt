@@ -1,5 +1,5 @@
 -- The cores that the entries of a legal history touch are there.
-use Rattle.std.proofs.Common.{◌≡◌, ℕ, ◌<◌, ◌||◌, eqb, Bool, true, false, cond, List, [], ◌∷◌, All, IfSome, Option, Some, None, refl, sym, subst, arith}
+use Rattle.std.proofs.Common.{◌≡◌, ℕ, ◌<◌, ◌||◌, eqb, Bool, true, false, List, [], ◌∷◌, All, IfSome, Option, Some, None, refl, sym, subst, arith}
 use Rattle.std.proofs.lemmas.Bool.Decides.{nat_tests}
 use Rattle.policy_tree.specs.Meaning.{Meaning}
 use Rattle.round_model.specs.declared.entry.Entry.{Entry}
@@ -32,7 +32,7 @@ one_of_two a b c n is first second = by_first (eqb a c) refl is
 failed_at : (p : Meaning) (plan : Plan) (m : Cores) (a from : ℕ) (reads : List ℕ) (chosen : Option ℕ)
     → entry.Fail a from reads ≡ attempt_with p plan m a reads chosen → IfSome chosen (λ v. v < plan.cores) → from < plan.cores
 failed_at p plan m a from reads None is there = absurd (cc)
-failed_at p plan m a from reads (Some v) is there = by_moves (moves_of p plan a v None (m a) (m v)) is
+failed_at p plan m a from reads (Some v) is there = by_moves (moves_of p plan a v p.batch (m a) (m v)) is
   where
     by_moves : (moves : List ℕ) → entry.Fail a from reads ≡ steal_or_fail a v reads moves → from < plan.cores
     by_moves [] is = let same : from ≡ v = cc in subst (λ c. c < plan.cores) (sym same) there

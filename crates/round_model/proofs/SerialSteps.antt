@@ -89,7 +89,7 @@ attempt_form p plan m values a reads = by_choice (choice_of p plan.cores values 
 
     by_choice : (choice : Option ℕ) → (x : Attempt) × (attempt_with p plan m a reads choice ≡ entry_of_attempt a reads x)
     by_choice None = (attempt.Pass, refl)
-    by_choice (Some v) = by_moves v (moves_of p plan a v None (m a) (m v))
+    by_choice (Some v) = by_moves v (moves_of p plan a v p.batch (m a) (m v))
 
 attempt_acts : (a : ℕ) (reads : List ℕ) (x : Attempt) → acting_core (entry_of_attempt a reads x) ≡ Some a
 attempt_acts a reads attempt.Pass = refl

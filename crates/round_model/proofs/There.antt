@@ -30,7 +30,7 @@ acts_there p plan h (entry.Pass a reads) by is legal = let same : a ≡ by = cc 
 stolen_from : (p : Meaning) (plan : Plan) (m : Cores) (a from : ℕ) (threads reads : List ℕ) (chosen : Option ℕ)
     → entry.Steal a from threads reads ≡ attempt_with p plan m a reads chosen → chosen ≡ Some from
 stolen_from p plan m a from threads reads None is = absurd (cc)
-stolen_from p plan m a from threads reads (Some v) is = by_moves (moves_of p plan a v None (m a) (m v)) is
+stolen_from p plan m a from threads reads (Some v) is = by_moves (moves_of p plan a v p.batch (m a) (m v)) is
   where
     by_moves : (moves : List ℕ) → entry.Steal a from threads reads ≡ steal_or_fail a v reads moves → Some v ≡ Some from
     by_moves [] is = absurd (cc)

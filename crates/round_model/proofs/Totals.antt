@@ -1,9 +1,11 @@
 -- Sums over the cores of a plan.
-use Rattle.std.proofs.Common.{◌≢◌, eqb, false, cond, ◌≡◌, ℕ, ◌+◌, ◌<◌, ◌≤◌, List, [], ◌∷◌, map, sum, sum_by, get_or, refl, sym, ap, ◌∙◌, arith}
+use Rattle.std.proofs.Common.{◌≢◌, eqb, false, cond, ◌≡◌, ℕ, ◌+◌, ◌<◌, ◌≤◌, List, [], ◌∷◌, map, sum, sum_by, get_or, set, slice_get, Some, get_or-set_other, refl, sym, ap, ◌∙◌, arith}
 use Rattle.std.specs.List.{range_with_len}
+use Rattle.std.proofs.Math.ListN.{length-set}
 use Rattle.std.proofs.lemmas.Bool.Decides.{nat_tests}
 use Rattle.std.proofs.lemmas.List.FromFn.{get_or-map-range_with_len}
 use Rattle.std.proofs.lemmas.List.Sums.{get_or-le-sum_by, sum-map, sum_by-cons, sum_by-set}
+use Rattle.std.proofs.lemmas.Option.{get_or_from_slice_get, slice_get_within}
 use Rattle.round_model.specs.declared.state.ModelCore.{ModelCore}
 use Rattle.round_model.specs.Cores.{Cores, listed}
 use Rattle.round_model.specs.Code.Updates.{updated}
@@ -51,4 +53,14 @@ total_two f n m a b empty none first second apart =
     let other : eqb a b ≡ false = grind (arith, nat_tests) in
     let here : f (updated m a empty b) ≡ f (m b) = ap (λ x. f (cond x empty (m b))) other in
     let bound = total_has f n (updated m a empty) b second in
+    omega arith
+
+-- nor is what two items of a list hold
+pub sum_two : {X : Type 0} (f : X → ℕ) (xs : List X) (a b : ℕ) (x y empty : X) → f empty ≡ 0 → slice_get xs a ≡ Some x → slice_get xs b ≡ Some y → a ≢ b → f x + f y ≤ sum_by f xs
+sum_two f xs a b x y empty none first second apart =
+    let changed = set xs a empty in
+    let rest = sum_by-set f xs a empty x (slice_get_within xs a x first) in
+    let gone : f (get_or xs a x) ≡ f x = ap f (get_or_from_slice_get xs a x x first) in
+    let here : f (get_or changed b y) ≡ f y = ap f (get_or-set_other xs a b empty y (λ same. apart (sym same)) ∙ get_or_from_slice_get xs b y y second) in
+    let bound = get_or-le-sum_by f changed b y (omega (arith, length-set xs a empty, slice_get_within xs b y second)) in
     omega arith

@@ -72,9 +72,9 @@ abbrev pub steal_or_fail : (by from : ℕ) → List ℕ → List ℕ → Entry
 steal_or_fail by from reads [] = entry.Fail by from reads
 steal_or_fail by from reads (id ∷ ids) = entry.Steal by from (id ∷ ids) reads
 
--- the attempt on the core v, by the cores as they are. A steal moves one thread
+-- the attempt on the core v, by the cores as they are. A steal moves as many threads as the policy's batch says
 abbrev pub attempt_on : Meaning → Plan → Cores → ℕ → List ℕ → ℕ → Entry
-attempt_on p plan m a reads v = steal_or_fail a v reads (moves_of p plan a v None (m a) (m v))
+attempt_on p plan m a reads v = steal_or_fail a v reads (moves_of p plan a v p.batch (m a) (m v))
 
 -- the attempt with this choice
 abbrev pub attempt_with : Meaning → Plan → Cores → ℕ → List ℕ → Option ℕ → Entry

@@ -1,6 +1,7 @@
 -- What the code works with on its way. A reader of the model needs none of it: no definition and no law of `specs/`
 -- outside this folder rests on what stands here.
 pub mod Additions
+pub mod Batches
 pub mod Kept
 pub mod Lists
 pub mod Notes

@@ -1,5 +1,6 @@
 -- How threads come to a core and leave it.
-use Rattle.std.specs.Prelude.{ℕ, ◌==◌, Bool, cond, List, [], ◌∷◌, ◌++◌, find, fold, option_to_list, Option, Some}
+use Rattle.std.specs.Prelude.{ℕ, ◌==◌, ◌≤◌, Bool, cond, List, [], ◌∷◌, ◌++◌, find, fold, option_to_list, Option, Some}
+use Rattle.std.specs.Prelude.{count_by}
 use Rattle.sched_base.specs.declared.task.Task.{Task}
 use Rattle.policy_tree.specs.declared.typed.Event.{Event}
 use Rattle.policy_tree.specs.declared.typed.Event.TheVariants as event
@@ -17,6 +18,10 @@ without_first test (x ∷ xs) = cond (test x) xs (x ∷ without_first test xs)
 
 abbrev pub is_task : ℕ → Task → Bool
 is_task id t = t.id == id
+
+-- no number stands twice among the tasks
+abbrev pub StandOnce : List Task → Type 0
+StandOnce tasks = (id : ℕ) → count_by (is_task id) tasks ≤ 1
 
 abbrev pub is_blocked_task : ℕ → Blocked → Bool
 is_blocked_task id b = b.task.id == id

@@ -1,8 +1,9 @@
 //! What an entry saw of other cores, and what follows from it.
 
-ghost use Rattle.std.specs.Prelude.{◌≡◌, ◌↔◌, ◌+◌, ◌<◌, ◌≤◌, ℕ, IfSome, IsTrue, Some, length, slice_index};
+ghost use Rattle.std.specs.Prelude.{◌≡◌, ◌≢◌, ◌↔◌, ◌+◌, ◌<◌, ◌≤◌, ℕ, IfSome, IsTrue, Some, length, slice_index};
 ghost use Rattle.policy_tree.specs.Meaning.{Meaning, meaning_of};
 ghost use Rattle.policy_eval.specs.Fitting.{CoreFits};
+ghost use Rattle.policy_eval.specs.Obligations.{MeetsHandlerObligations};
 ghost use Rattle.round_model.specs.After.{after};
 ghost use Rattle.round_model.specs.Attempts.{attempt_of};
 ghost use Rattle.round_model.specs.Choices.{choice_of, target_of, values_in};
@@ -56,6 +57,7 @@ pub(crate) fn attempt_by(
     reads: &Reads,
 ) -> Option<Attempt>
     requires fits { Fits (meaning_of policy.now) plan.now }
+    requires handlers { MeetsHandlerObligations (meaning_of policy.now) }
     requires past { IsPastOf (meaning_of policy.now) plan.now past.now }
     requires core { core < plan.now.cores }
     ensures { OfEach (meaning_of policy.now) plan.now past.now (λ history.
@@ -76,6 +78,7 @@ pub(crate) fn attempt(
     reads: &Reads,
 ) -> Attempt
     requires fits { Fits (meaning_of policy.now) plan.now }
+    requires handlers { MeetsHandlerObligations (meaning_of policy.now) }
     requires past { IsPastOf (meaning_of policy.now) plan.now past.now }
     requires core { core < plan.now.cores }
     requires read { ReadIn plan.now past.now reads.now }
@@ -112,7 +115,7 @@ fn chosen(policy: &Policy, plan: &Plan, past: &Past, core: CoreId, reads: &Reads
     requires past { IsPastOf (meaning_of policy.now) plan.now past.now }
     requires core { core < plan.now.cores }
     requires read { ReadIn plan.now past.now reads.now }
-    ensures there { IfSome result (λ v. v < plan.now.cores) }
+    ensures there { IfSome result (λ v. (v < plan.now.cores) × (core ≢ v)) }
     ensures choice { OfEach (meaning_of policy.now) plan.now past.now (λ history. result ≡ choice_of
         (meaning_of policy.now) plan.now.cores (values_at (meaning_of policy.now) plan.now history reads.now) core) }
 {

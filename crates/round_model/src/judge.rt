@@ -155,6 +155,7 @@ fn may_attempt(
     claimed: Attempt,
 ) -> bool
     requires fits { Fits (meaning_of policy.now) plan.now }
+    requires handlers { MeetsHandlerObligations (meaning_of policy.now) }
     requires past { IsPastOf (meaning_of policy.now) plan.now past.now }
     ensures { OfEach (meaning_of policy.now) plan.now past.now (λ history. IsTrue result
         ↔ LegalInRound (meaning_of policy.now) plan.now history by (entry_of_attempt by reads claimed)) }

@@ -3,6 +3,7 @@
 
 mod adding;
 mod attempts;
+mod batches;
 mod changes;
 pub mod choices;
 mod directory;

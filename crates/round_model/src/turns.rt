@@ -164,6 +164,7 @@ fn work_step(policy: &Policy, plan: &Plan, past: &Past, core: CoreId) -> NextSte
 /// The attempt of the core by what it has read.
 fn attempt_entry(policy: &Policy, plan: &Plan, past: &Past, core: CoreId, reads: Reads) -> Entry
     requires fits { Fits (meaning_of policy.now) plan.now }
+    requires handlers { MeetsHandlerObligations (meaning_of policy.now) }
     requires past { IsPastOf (meaning_of policy.now) plan.now past.now }
     requires core { core < plan.now.cores }
     requires read { ReadIn plan.now past.now reads }

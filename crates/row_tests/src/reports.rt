@@ -76,7 +76,7 @@ fn written(
 }
 
 /// A sink with room for a report, where these puts fail.
-fn sink(alloc: Global, failing: &[u64]) -> Result<MemorySink, AllocError> {
+pub(crate) fn sink(alloc: Global, failing: &[u64]) -> Result<MemorySink, AllocError> {
     MemorySink::new(alloc, 4096, failing.to_vec(alloc)?).map_err(|_error: IoMemory| AllocError)
 }
 

@@ -12,6 +12,7 @@ mod rounds;
 mod seat_threads;
 mod seats;
 mod spelling;
+mod spreads;
 mod tables;
 mod words;
 
@@ -57,6 +58,7 @@ fn at_the_table<R: Files + Print + Alloc + Threads + Wait + Sync>(
         tables::go_to_threads(rt, alloc),
     )?;
     seats::a_stale_read(rt, alloc)?;
+    seats::a_batch(rt, alloc)?;
     told(
         rt,
         "a seat reads what it published",
@@ -71,6 +73,11 @@ fn at_the_table<R: Files + Print + Alloc + Threads + Wait + Sync>(
         rt,
         "threads go to the least load",
         interleavings::go_to_the_least_load(rt, alloc),
+    )?;
+    told(
+        rt,
+        "threads are stolen in batches",
+        interleavings::are_stolen_in_batches(rt, alloc),
     )?;
     told(
         rt,

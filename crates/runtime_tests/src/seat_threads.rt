@@ -12,6 +12,7 @@ ghost use Rattle.table_players.specs.Tables.{IsFree};
 use crate::dice::rolled;
 use crate::finding::{Finding, all_hold};
 use crate::rounds::is_whole_and_legal;
+use crate::spreads::steals_narrow;
 use core_table::{Seat, Table};
 use policy_tree::Policy;
 use round_model::{History, Plan};
@@ -19,7 +20,7 @@ use sched_base::CoreId;
 use std::alloc::Global;
 use std::sync::Wait;
 use std::thread::{Threads, join};
-use table_players::crowds::{crowd, placed_by_load, placed_here};
+use table_players::crowds::{crowd, placed_by_load, placed_here, stolen_in_batches};
 use table_players::game::Game;
 use table_players::games::{history_of, opened};
 use table_players::players::{Player, Stage};
@@ -193,7 +194,7 @@ fn played_by_four<R: Threads + Wait + Sync>(
     history_of(alloc, table, seat).ok()
 }
 
-/// Whether the round of four threads, with a plan by the dice, is whole and legal.
+/// Whether the round of four threads, with a plan by the dice, is whole and legal, and its steals narrow the spread.
 fn is_well_played<R: Threads + Wait + Sync>(
     rt: &R,
     alloc: Global,
@@ -207,7 +208,8 @@ fn is_well_played<R: Threads + Wait + Sync>(
         return None;
     };
     let history = played_by_four(rt, alloc, policy, &plan)?;
-    is_whole_and_legal(alloc, policy, &plan, &history, 9 + count)
+    let whole = is_whole_and_legal(alloc, policy, &plan, &history, 9 + count)?;
+    Some(whole && steals_narrow(&history))
 }
 
 /// Two of three cores in threads.
@@ -223,7 +225,7 @@ pub(crate) fn two_cores<R: Threads + Wait + Sync>(rt: &R, alloc: Global) -> Opti
     Some(all_hold(&[("the round is whole and legal", well_played)]))
 }
 
-/// Four cores in threads, many times, under both policies.
+/// Four cores in threads, many times, under each policy.
 pub(crate) fn four_cores<R: Threads + Wait + Sync>(rt: &R, alloc: Global) -> Option<Finding> {
     let Ok(here) = placed_here(alloc) else {
         return None;
@@ -231,34 +233,26 @@ pub(crate) fn four_cores<R: Threads + Wait + Sync>(rt: &R, alloc: Global) -> Opt
     let Ok(by_load) = placed_by_load(alloc) else {
         return None;
     };
-    under_both(rt, alloc, &here, &by_load)
+    let Ok(in_batches) = stolen_in_batches(alloc) else {
+        return None;
+    };
+    let placed = all_times(rt, alloc, &here)?.and(all_times(rt, alloc, &by_load)?);
+    Some(placed.and(all_times(rt, alloc, &in_batches)?))
 }
 
 /// So often four cores play under each policy.
 const TIMES: u32 = 100;
 
 /// What the first round finds that isn't well played.
-fn under_both<R: Threads + Wait + Sync>(
-    rt: &R,
-    alloc: Global,
-    here: &Policy,
-    by_load: &Policy,
-) -> Option<Finding>
-    requires here { IsTried (meaning_of here.now) }
-    requires by_load { IsTried (meaning_of by_load.now) }
+fn all_times<R: Threads + Wait + Sync>(rt: &R, alloc: Global, policy: &Policy) -> Option<Finding>
+    requires { IsTried (meaning_of policy.now) }
 {
     let mut dice = 2026;
     for turn in 0..TIMES {
         dice = rolled(dice);
-        if !is_well_played(rt, alloc, here, dice)? {
+        if !is_well_played(rt, alloc, policy, dice)? {
             return Some(Finding::NotIn(
-                "the round that places threads here is whole and legal",
-                turn,
-            ));
-        }
-        if !is_well_played(rt, alloc, by_load, dice)? {
-            return Some(Finding::NotIn(
-                "the round that places threads by load is whole and legal",
+                "the round is whole and legal, and its steals narrow the spread",
                 turn,
             ));
         }

@@ -1,4 +1,5 @@
-//! A round of three cores by hand, in which two look before either makes its attempt.
+//! Rounds by hand: of three cores, two of which look before either makes its attempt, and of two, one of which takes
+//! several threads at once.
 
 ghost use Rattle.policy_tree.specs.Meaning.{meaning_of};
 ghost use Rattle.table_players.specs.Crowds.{IsCrowd, IsTried};
@@ -14,7 +15,7 @@ use std::alloc::Global;
 use std::rt::Files;
 use std::sync::Wait;
 use std::{fs, io};
-use table_players::crowds::{crowd, placed_here};
+use table_players::crowds::{crowd, placed_here, stolen_in_batches};
 use table_players::game::Game;
 use table_players::games::opened;
 use table_players::players::Player;
@@ -22,6 +23,9 @@ use table_players::players::Player;
 /// The core that takes each step: core 0 takes its whole turn. Core 1 wakes none, works and looks, and so does core 2.
 /// Then both make their attempts.
 const ORDER: [usize; 14] = [0, 0, 0, 0, 0, 0, 1, 1, 1, 2, 2, 2, 1, 2];
+
+/// The core that takes each step: core 0 takes its whole turn, in which six threads enter. Then core 1 takes its own.
+const IN_TURN: [usize; 14] = [0, 0, 0, 0, 0, 0, 0, 0, 0, 0, 1, 1, 1, 1];
 
 /// What the player's seat reads of its core, before and after it takes the core, publishes it as it is and lets it
 /// go.
@@ -55,6 +59,28 @@ fn stale_read<R: Wait>(rt: &R, alloc: Global, text: &str) -> Option<Finding> {
         return None;
     };
     let history = played(rt, alloc, &policy, &plan, Steps::Of(&ORDER))?;
+    let Ok(spelled) = is_spelled(alloc, &policy, &plan, history.as_slice(), text) else {
+        return None;
+    };
+    Some(all_hold(&[("the history is the one of the file", spelled)]))
+}
+
+/// Core 1 takes three of the six threads of core 0: the history is the one that a person worked out, as
+/// `batch.history` has it.
+pub(crate) fn a_batch<R: Files + Print + Alloc + Wait>(rt: &R, alloc: Global) -> io::Result<()> {
+    let text = fs::read_to_string(rt, "batch.history")?;
+    told(rt, "a batch", batch(rt, alloc, text.as_str()))
+}
+
+/// Whether the history is the one of the text.
+fn batch<R: Wait>(rt: &R, alloc: Global, text: &str) -> Option<Finding> {
+    let Ok(policy) = stolen_in_batches(alloc) else {
+        return None;
+    };
+    let Ok(plan) = crowd(alloc, 2, 6, 0) else {
+        return None;
+    };
+    let history = played(rt, alloc, &policy, &plan, Steps::Of(&IN_TURN))?;
     let Ok(spelled) = is_spelled(alloc, &policy, &plan, history.as_slice(), text) else {
         return None;
     };

@@ -1,16 +1,17 @@
 -- The entries of a legal history can be printed.
-use Rattle.std.proofs.Common.{◌≡◌, ℕ, zero, suc, ◌<◌, ◌≤◌, Bool, true, false, cond, List, [], ◌∷◌, map, find, take, length, get_or, slice_get, All, IfSome, IsSomeAnd, Option, Some, None, option_and_then, refl, sym, ap, subst, arith}
+use Rattle.std.proofs.Common.{◌≡◌, ℕ, zero, suc, ◌-◌, ◌<◌, ◌≤◌, Bool, true, false, cond, List, [], ◌∷◌, map, find, take, length, get_or, slice_get, All, IfSome, IsSomeAnd, Option, Some, None, option_and_then, refl, sym, ap, subst, arith}
 use Rattle.std.proofs.lemmas.Bool.Decides.{nat_tests}
 use Rattle.std.proofs.lemmas.List.{length-take}
 use Rattle.std.proofs.lemmas.List.Elements.{All-contains}
 use mathlib.Core.Option.{some}
 use lib.ListN.{get_elem?}
-use Rattle.sched_base.specs.declared.limits.TheConstants.{MAX_ENTRIES}
+use Rattle.sched_base.specs.declared.limits.TheConstants.{MAX_ENTRIES, MAX_STOLEN}
 use Rattle.sched_base.specs.declared.task.Task.{Task}
 use Rattle.policy_tree.specs.declared.typed.Put.{Put}
 use Rattle.policy_tree.specs.declared.typed.Put.TheVariants as put
-use Rattle.policy_tree.specs.Meaning.{Meaning, PlaceTree, here, least}
+use Rattle.policy_tree.specs.Meaning.{BatchTree, Meaning, PlaceTree, here, least}
 use Rattle.policy_eval.specs.Orders.{best_of, better_of}
+use Rattle.policy_eval.specs.Resolved.{HasResolvedBatch}
 use Rattle.round_model.specs.declared.entry.Did.TheVariants as did
 use Rattle.round_model.specs.declared.entry.Entry.{Entry}
 use Rattle.round_model.specs.declared.entry.Entry.TheVariants as entry
@@ -20,12 +21,13 @@ use Rattle.round_model.specs.declared.plan.Planned.{Planned}
 use Rattle.round_model.specs.declared.state.Blocked.{Blocked}
 use Rattle.round_model.specs.declared.state.ModelCore.{ModelCore}
 use Rattle.round_model.specs.After.{after, round_of}
-use Rattle.round_model.specs.Attempts.{attempt_of, attempt_with, first_of, moves_with, present_values, steal_or_fail}
+use Rattle.round_model.specs.Attempts.{attempt_of, attempt_with, first_of, further_moves, goes_on, kept_if, moves_after, moves_with, next_of, present_values, steal_or_fail}
 use Rattle.round_model.specs.Bursts.{HasBurst, HaveBursts, LiesIn}
 use Rattle.round_model.specs.Choices.{choice_of, may_steal}
 use Rattle.round_model.specs.Cores.{Cores}
 use Rattle.round_model.specs.Fits.{Fits, ThreadFits}
 use Rattle.round_model.specs.Legal.{LegalNext}
+use Rattle.round_model.specs.Moves.{handed, is_task, received}
 use Rattle.round_model.specs.Programs.{Meeting, blocking, burst_of, ending_now, planned_of, tick, yielding}
 use Rattle.round_model.specs.Reads.{ReadsFit, read_values}
 use Rattle.round_model.specs.Rows.{PlacementReads, Row}
@@ -35,7 +37,7 @@ use Rattle.round_model.proofs.Begun.{due_within}
 use Rattle.round_model.proofs.Bursts.{elects_burst, have_bursts}
 use Rattle.round_model.proofs.Directories.{is_thread}
 use Rattle.round_model.proofs.Finding.{find-All, find-passes}
-use Rattle.round_model.proofs.Keeping.{All-append, All-one}
+use Rattle.round_model.proofs.Keeping.{All-append, All-one, All-without}
 use Rattle.round_model.proofs.Outcomes.{choice_there}
 use Rattle.round_model.proofs.There.{are_there}
 use Rattle.sched_history.specs.Ranges.{AreReads, AreStolen, IsCoreNumber, IsPrintable, IsThreadNumber, LegalIsPrintable, NamesThread}
@@ -103,6 +105,56 @@ module _ (p : Meaning) (plan : Plan) (fits : Fits p plan) where
   unfolding worked
   work_named round core have = run_named round (elected p core) (elected p core).current (elects_burst p plan core have)
 
+  -- a move and those after it are few, and each is of a thread of the plan
+  few_with : (n : ℕ) (o : Option Task) (rest : Task → List ℕ) → ((t : Task) → length (rest t) ≤ n) → length (moves_with o (λ t. t.id ∷ rest t)) ≤ suc n
+  few_with n None rest few = omega arith
+  few_with n (Some t) rest few = let one = few t in omega arith
+
+  numbered_with : (o : Option Task) (rest : Task → List ℕ) → IfSome o (HasBurst plan) → ((t : Task) → All IsThreadNumber (rest t)) → All IsThreadNumber (moves_with o (λ t. t.id ∷ rest t))
+  numbered_with None rest has each = λ k d inside. absurd (omega arith)
+  numbered_with (Some t) rest has each = All-append IsThreadNumber (t.id ∷ []) (rest t) (All-one IsThreadNumber t.id (numbered t has)) (each t)
+
+  kept_bursts : (test : Task → Bool) (o : Option Task) → IfSome o (HasBurst plan) → IfSome (kept_if test o) (HasBurst plan)
+  kept_bursts test None has = tt
+  kept_bursts test (Some t) has = elim (test t) as (λ b. IfSome (cond b (Some t) None) (HasBurst plan)) [ true ↦ has | false ↦ tt ]
+
+  module _ (a v : ℕ) where
+    next_bursts : (b : BatchTree) (thief victim : ModelCore) → All (HasBurst plan) victim.queue → IfSome (next_of p plan a v b thief victim) (HasBurst plan)
+    unfolding next_of
+    next_bursts b thief victim have =
+        kept_bursts (goes_on p plan a v b thief victim) (best_of (before p.steal) victim.queue) (best_All (HasBurst plan) (before p.steal) victim.queue have)
+
+    few_further : (b : BatchTree) (n : ℕ) (thief victim : ModelCore) → length (further_moves p plan a v b n thief victim) ≤ n
+    unfolding further_moves
+    few_further b zero thief victim = omega arith
+    few_further b (suc n) thief victim =
+        few_with n (next_of p plan a v b thief victim) (λ t. further_moves p plan a v b n (received t thief) (handed t.id victim)) (λ t. few_further b n (received t thief) (handed t.id victim))
+
+    numbered_further : (b : BatchTree) (n : ℕ) (thief victim : ModelCore) → All (HasBurst plan) victim.queue → All IsThreadNumber (further_moves p plan a v b n thief victim)
+    unfolding further_moves handed
+    numbered_further b zero thief victim have = λ k d inside. absurd (omega arith)
+    numbered_further b (suc n) thief victim have =
+        numbered_with (next_of p plan a v b thief victim) (λ t. further_moves p plan a v b n (received t thief) (handed t.id victim)) (next_bursts b thief victim have)
+        (λ t. numbered_further b n (received t thief) (handed t.id victim) (All-without (HasBurst plan) (is_task t.id) victim.queue have))
+
+    few_after : (batch : Option BatchTree) → HasResolvedBatch p batch → (thief victim : ModelCore) → length (moves_after p plan a v batch thief victim) < MAX_STOLEN
+    few_after None is thief victim = omega arith
+    few_after (Some b) is thief victim = let some = is.some in let few = is.few in let rest = few_further b (b.limit - 1) thief victim in omega arith
+
+    numbered_after : (batch : Option BatchTree) (thief victim : ModelCore) → All (HasBurst plan) victim.queue → All IsThreadNumber (moves_after p plan a v batch thief victim)
+    numbered_after None thief victim have = λ k d inside. absurd (omega arith)
+    numbered_after (Some b) thief victim have = numbered_further b (b.limit - 1) thief victim have
+
+    -- so are those of a steal
+    stolen_small : (thief victim : ModelCore) (t : Task) → All (HasBurst plan) victim.queue → HasBurst plan t → AreStolen (t.id ∷ moves_after p plan a v p.batch (received t thief) (handed t.id victim))
+    unfolding handed
+    stolen_small thief victim t have has = record {
+      some = omega arith;
+      few = let rest = few_after p.batch fits.policy.batch (received t thief) (handed t.id victim) in omega arith;
+      numbers = All-append IsThreadNumber (t.id ∷ []) (moves_after p plan a v p.batch (received t thief) (handed t.id victim)) (All-one IsThreadNumber t.id (numbered t has))
+          (numbered_after p.batch (received t thief) (handed t.id victim) (All-without (HasBurst plan) (is_task t.id) victim.queue have));
+    }
+
   -- an attempt names cores and threads of the plan
   attempt_printable : (m : Cores) (a : ℕ) (reads : List ℕ) (chosen : Option ℕ) → ((c : ℕ) → HaveBursts plan (m c)) → a < plan.cores → AreReads reads → IfSome chosen (λ v. v < plan.cores)
       → IsPrintable (attempt_with p plan m a reads chosen)
@@ -114,10 +166,10 @@ module _ (p : Meaning) (plan : Plan) (fits : Fits p plan) where
       first_bursts true = best_All (HasBurst plan) (before p.steal) (m v).queue (have v).queue
       first_bursts false = tt
 
-      by_first : (first : Option Task) → IfSome first (HasBurst plan) → IsPrintable (steal_or_fail a v reads (moves_with first (λ t. t.id ∷ [])))
+      by_first : (first : Option Task) → IfSome first (HasBurst plan)
+          → IsPrintable (steal_or_fail a v reads (moves_with first (λ t. t.id ∷ moves_after p plan a v p.batch (received t (m a)) (handed t.id (m v)))))
       by_first None has = (core_small a own, core_small v there, read)
-      by_first (Some t) has =
-          (core_small a own, core_small v there, record { some = omega arith; few = omega arith; numbers = All-one IsThreadNumber t.id (numbered t has) }, read)
+      by_first (Some t) has = (core_small a own, core_small v there, stolen_small a v (m a) (m v) t (have v).queue has, read)
 
   -- what the reads of an attempt come to
   attempt_is_printable : (h : List Entry) (a : ℕ) (reads : List ℕ) (e : Entry) → length h ≤ MAX_ENTRIES → a < plan.cores → ReadsFit plan.cores (scene_of p plan h a).start (scene_of p plan h a).position reads

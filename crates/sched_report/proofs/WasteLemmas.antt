@@ -1,16 +1,11 @@
 -- Reports that tell of waste: there is one, and of a policy that meets its obligations it says what the report says.
 use Rattle.std.proofs.Common.{◌≡◌, ℕ, ◌≤◌, List, All, length, get_or, map, sym, ap, ap₂, subst, ◌∙◌, arith}
 use Rattle.std.proofs.lemmas.List.{get_or-map, length-map, same_lists}
-use Rattle.std.proofs.lemmas.List.Elements.{All-weaker}
-use Rattle.sched_base.specs.declared.limits.TheConstants.{MAX_ENTRIES}
 use Rattle.policy_tree.specs.Meaning.{Meaning}
 use Rattle.round_model.specs.declared.entry.Entry.{Entry}
 use Rattle.round_model.specs.declared.plan.Plan.{Plan}
 use Rattle.round_model.specs.Legal.{Legal}
-use Rattle.round_model.specs.Stretches.{IsStillStretch}
 use Rattle.sched_report.specs.CauseRows.{with_cause}
-use Rattle.sched_report.specs.Code.Steals.{AreSteals, MayBeCounted}
-use Rattle.sched_report.specs.Code.Tellings.{IsTold}
 use Rattle.sched_report.specs.Laws.{WasteLaw}
 use Rattle.sched_report.specs.Reports.{IsReport}
 use Rattle.sched_report.specs.StillRows.{AreStillRows, IsStillRow}
@@ -23,7 +18,6 @@ use Rattle.sched_report.specs.declared.rows.StillRow.{StillRow}
 use Rattle.sched_report.specs.declared.rows.StretchRow.{StretchRow}
 use Rattle.sched_report.specs.declared.rows.Totals.{Totals}
 use Rattle.sched_report.specs.declared.rows.WasteReport.{WasteReport}
-use Rattle.sched_report.specs.declared.telling.Told.{Told}
 use Rattle.sched_report.proofs.CauseLemmas.{all_have_causes, causes_are, one_causes}
 use Rattle.sched_report.proofs.OneReport.{one_stills}
 
@@ -59,23 +53,6 @@ module _ (p : Meaning) (plan : Plan) (history : List Entry) where
       causes = one_causes p plan history waste.causes (map with_cause report.fails) is.causes (causes_are p plan history report.fails plain.fails);
       totals = is.totals ∙ sym plain.totals;
     }
-
-  -- the counts of its rounds give the steals of the stretches that were told
-  pub counted : (told : Told) (counts : List ℕ) → IsTold p plan history told → AreSteals history counts → length history ≤ MAX_ENTRIES → MayBeCounted history told.stills counts
-  counted told counts is are few = record {
-    counts_are = are;
-    stretches = All-weaker (IsStillRow p plan history) (λ (row : StillRow). IsStillStretch history row.first row.last) (λ row still. still.longest.still) told.stills is.stills.each;
-    few = few;
-  }
-
-  pub waste_is : (told : Told) (stretches : List StretchRow) → IsTold p plan history told → map still_of stretches ≡ told.stills → All (HasSteals history) stretches
-      → IsWaste p plan history (record { rounds = told.rounds; stretches = stretches; causes = told.causes; totals = told.totals })
-  waste_is told stretches is same steals = record {
-    rounds = is.rounds;
-    stretches = record { stills = subst (AreStillRows p plan history) (sym same) is.stills; steals = steals };
-    causes = is.causes;
-    totals = is.totals;
-  }
 
 pub waste_law : WasteLaw
 waste_law = record {

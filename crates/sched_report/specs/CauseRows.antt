@@ -19,7 +19,8 @@ IsUnexplained p plan history at = (cause : ℕ) → ¬ Explains p plan history a
 -- it is the first entry of those that explain the Fail at the position, or nothing, and then none does
 abbrev pub IsCause : Meaning → Plan → List Entry → ℕ → Option ℕ → Type 0
 IsCause p plan history at by =
-    MatchOption by (IsUnexplained p plan history at) (λ cause. IsFailRow p plan history (record { at = at; by = cause }))
+    MatchOption by (IsUnexplained p plan history at)
+    (λ cause. IsFailRow p plan history (record { at = at; by = cause }))
 
 -- a row for each Fail, in order
 pub record AreCauseRows (p : Meaning) (plan : Plan) (history : List Entry) (rows : List CauseRow) : Type 0 where

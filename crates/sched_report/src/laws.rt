@@ -17,8 +17,8 @@ pub fn law_one_report()
     ensures { OneReportLaw }
 {}
 
-/// Of a policy that meets its obligations each failed steal has an explanation, and both kinds of report say the same. A
-/// legal history has no two reports that tell its waste.
+/// Of a policy that meets its obligations each failed steal has an explanation, and both kinds of report say the same.
+/// A legal history has no two reports that tell its waste.
 pub fn law_waste()
     ensures { WasteLaw }
 {}

@@ -1,8 +1,8 @@
 //! What a whole history wasted, and why its steals failed: a row for each round, for each longest stretch of still
 //! rounds and for each failed steal, and the totals.
 //!
-//! A report on a history of any policy that can be played tells the same, where a failed steal may have no reason, and of
-//! each stretch how many steals it has.
+//! A report on a history of any policy that can be played tells the same, where a failed steal may have no reason, and
+//! of each stretch how many steals it has.
 //!
 //! A contract sees the rows as lists, and says what they are of the history's meaning.
 #![tactic(auto)]

@@ -4,7 +4,8 @@ ghost use Rattle.std.specs.Prelude.{◌≡◌, ◌+◌, ◌*◌, ◌≤◌, ℕ,
 ghost use Rattle.sched_io.specs.Puts.{Puts};
 ghost use Rattle.sched_report.specs.declared.printing.TheConstants.{WORD_ROOM};
 ghost use Rattle.sched_report.specs.Lines.{line_of_fail, line_of_round, line_of_still, line_of_total, report_lines};
-ghost use Rattle.sched_report.specs.Lines.{line_of_cause, line_of_cause_at, line_of_stretch, still_until, totals_lines, waste_lines};
+ghost use Rattle.sched_report.specs.Lines.{line_of_cause, line_of_cause_at, line_of_stretch, still_until, totals_lines};
+ghost use Rattle.sched_report.specs.Lines.{waste_lines};
 
 use crate::rows::{
     CauseRow, FailRow, FullReport, RoundRow, StillRow, StretchRow, Totals, WasteReport,

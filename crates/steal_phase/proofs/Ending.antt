@@ -8,10 +8,11 @@ use Rattle.round_model.specs.declared.entry.Entry.{Entry}
 use Rattle.round_model.specs.declared.entry.Entry.TheVariants as entry
 use Rattle.round_model.specs.declared.plan.Plan.{Plan}
 use Rattle.round_model.specs.After.{after}
-use Rattle.round_model.specs.Attempts.{attempt_on, attempt_with, moves_with, present_values, steal_or_fail}
+use Rattle.round_model.specs.Attempts.{attempt_on, attempt_with, moves_after, moves_with, present_values, steal_or_fail}
 use Rattle.round_model.specs.Choices.{may_steal}
 use Rattle.round_model.specs.Cores.{Cores}
 use Rattle.round_model.specs.Legal.{Legal}
+use Rattle.round_model.specs.Moves.{handed, received}
 use Rattle.round_model.specs.Work.{before}
 use Rattle.core_table.specs.declared.views.View.{View}
 use Rattle.core_table.specs.Views.{meaning_in}
@@ -24,24 +25,28 @@ none_best first [] is = refl
 none_best first (t ∷ queue) is = absurd (cc)
 
 module _ (p : Meaning) (plan : Plan) (m : Cores) (a v : ℕ) (reads : List ℕ) where
-  -- the thread that is taken, if one is
+  -- the threads that are taken, the first of them that one
+  all_of : Task → List ℕ
+  all_of t = t.id ∷ moves_after p plan a v p.batch (received t (m a)) (handed t.id (m v))
+
+  -- the threads that are taken, if there are any
   taken_of : Bool → List Task → List ℕ
-  taken_of may queue = moves_with (cond may (best_of (before p.steal) queue) None) (λ t. t.id ∷ [])
+  taken_of may queue = moves_with (cond may (best_of (before p.steal) queue) None) all_of
 
   -- an attempt that fails takes nothing
   fails : entry.Fail a v reads ≡ attempt_on p plan m a reads v → TakesNothing p plan m a v
-  unfolding taken_of
+  unfolding all_of taken_of
   fails is = by_filter (may_steal p (present_values plan m a) (present_values plan m v)) refl (best_of (before p.steal) (m v).queue) refl is
     where
       by_filter : (may : Bool) → may_steal p (present_values plan m a) (present_values plan m v) ≡ may → (best : Option Task) → best_of (before p.steal) (m v).queue ≡ best
-          → entry.Fail a v reads ≡ steal_or_fail a v reads (moves_with (cond may best None) (λ t. t.id ∷ [])) → TakesNothing p plan m a v
+          → entry.Fail a v reads ≡ steal_or_fail a v reads (moves_with (cond may best None) all_of) → TakesNothing p plan m a v
       by_filter false filter best queue e = inl filter
       by_filter true filter None queue e = inr (none_best (before p.steal) (m v).queue queue)
       by_filter true filter (Some t) queue e = absurd (cc)
 
   -- and one that steals does
   steals : (threads : List ℕ) → entry.Steal a v threads reads ≡ attempt_on p plan m a reads v → TakesNothing p plan m a v → ⊥
-  unfolding taken_of
+  unfolding all_of taken_of
   steals threads is (inl filter) =
       let failed : entry.Steal a v threads reads ≡ entry.Fail a v reads = is ∙ ap (λ may. steal_or_fail a v reads (taken_of may (m v).queue)) filter in absurd (cc)
   steals threads is (inr empty) =

@@ -1,5 +1,5 @@
 -- Threads that go over from one held core to another.
-use Rattle.std.specs.Prelude.{◌≡◌, ◌≢◌, ℕ, ◌<◌, List, None}
+use Rattle.std.specs.Prelude.{◌≡◌, ◌≢◌, ℕ, ◌<◌, List}
 use Rattle.policy_tree.specs.Meaning.{Meaning}
 use Rattle.policy_eval.specs.Obligations.{MeetsHandlerObligations}
 use Rattle.round_model.specs.declared.entry.Entry.{Entry}
@@ -24,9 +24,9 @@ pub record AreTwo (p : Meaning) (plan : Plan) (a : ℕ) (y : CoreView) (b : ℕ)
   pub first_now : IsCoreNow p plan history a y
   pub second_now : IsCoreNow p plan history b z
 
--- the threads that the core a takes of the core b, where these are the two. A steal moves one thread
+-- the threads that the core a takes of the core b, where these are the two
 abbrev pub best_to_steal : Meaning → Plan → (a : ℕ) → ModelCore → (b : ℕ) → ModelCore → List ℕ
-best_to_steal p plan a x b y = moves_of p plan a b None x y
+best_to_steal p plan a x b y = moves_of p plan a b p.batch x y
 
 -- what the one queue has of these threads leaves it, and comes to the end of the other, in this order
 pub record Steals (threads : List ℕ) (thief victim thief_now victim_now : CoreView) : Type 0 where

@@ -1,5 +1,5 @@
 -- Such plans fit the policies under which they are played.
-use Rattle.std.proofs.Common.{◌≡◌, ◌≤◌, ◌<◌, ◌+◌, ℕ, pos, List, [], length, get_or, refl, sym, ap, ◌∙◌, subst, ⊎_elim, arith, All}
+use Rattle.std.proofs.Common.{◌≡◌, ◌≤◌, ◌<◌, ◌+◌, ◌⊎◌, ℕ, pos, List, [], length, get_or, refl, sym, ap, ◌∙◌, subst, ⊎_elim, arith, All}
 use Rattle.std.proofs.lemmas.Int.{ints}
 use Rattle.std.proofs.lemmas.List.{length-replicate}
 use Rattle.std.proofs.lemmas.List.Elements.{All-replicate}
@@ -18,17 +18,22 @@ use Rattle.round_model.specs.SerialEnds.{RoundFits}
 use Rattle.fair_policy.specs.Fair.{fair_meaning}
 use Rattle.fair_policy.proofs.FairMeets.{fair_handlers_meet}
 use Rattle.fair_policy.proofs.FairResolved.{fair_resolved}
-use Rattle.model_tests.specs.Policies.{basic}
+use Rattle.model_tests.specs.Policies.{basic, in_batches}
+use Rattle.model_tests.proofs.BatchPolicies.{batched_handlers, batched_resolved}
 use Rattle.model_tests.proofs.PolicyRows.{basic_handlers}
 use Rattle.model_tests.proofs.ResolvedRows.{basic_resolved}
 use Rattle.table_players.specs.Crowds.{IsCrowd, IsMember, IsTried}
 
--- what holds of both policies
-either_policy : (P : Meaning → Type 0) → P basic → P fair_meaning → (p : Meaning) → IsTried p → P p
-either_policy P here by_load p tried = ⊎_elim (λ (is : p ≡ basic). subst P (sym is) here) (λ (is : p ≡ fair_meaning). subst P (sym is) by_load) tried
+-- what holds of the three policies
+each_policy : (P : Meaning → Type 0) → P basic → P fair_meaning → P (in_batches 8) → (p : Meaning) → IsTried p → P p
+each_policy P here by_load batched p tried =
+    ⊎_elim
+    (λ (is : p ≡ basic). subst P (sym is) here)
+    (λ (other : (p ≡ fair_meaning) ⊎ (p ≡ in_batches 8)). ⊎_elim (λ (is : p ≡ fair_meaning). subst P (sym is) by_load) (λ (is : p ≡ in_batches 8). subst P (sym is) batched) other)
+    tried
 
 pub tried_handlers : (p : Meaning) → IsTried p → MeetsHandlerObligations p
-tried_handlers = either_policy MeetsHandlerObligations basic_handlers fair_handlers_meet
+tried_handlers = each_policy MeetsHandlerObligations basic_handlers fair_handlers_meet (batched_handlers 8)
 
 -- what a policy is to grant so that such plans fit it
 record Grants (p : Meaning) : Type 0 where
@@ -44,9 +49,10 @@ zeros_fit = (zero_in, (zero_in, (zero_in, (zero_in, (zero_in, (zero_in, (zero_in
     zero_in = record { above = omega (arith, ints); below = omega (arith, ints) }
 
 grants : (p : Meaning) → IsTried p → Grants p
-grants = either_policy Grants
+grants = each_policy Grants
     (record { resolved = basic_resolved; zeros = zeros_fit; one = record { least = omega arith; greatest = omega arith } })
     (record { resolved = fair_resolved; zeros = zeros_fit; one = record { least = omega arith; greatest = omega arith } })
+    (record { resolved = batched_resolved 8 (omega arith) (omega arith); zeros = zeros_fit; one = record { least = omega arith; greatest = omega arith } })
 
 module _ (p : Meaning) (grant : Grants p) (plan : Plan) (is : IsCrowd plan) where
   member_fits : (cores number : ℕ) (t : Planned) → 1 ≤ number → number ≤ 8 → IsMember cores number t → ThreadFits p cores t

@@ -7,11 +7,11 @@ use Rattle.round_model.specs.declared.plan.Plan.{Plan}
 use Rattle.round_model.specs.declared.plan.Planned.{Planned}
 use Rattle.fair_policy.specs.Fair.{fair_meaning}
 use Rattle.model_tests.specs.Plans.{run}
-use Rattle.model_tests.specs.Policies.{basic}
+use Rattle.model_tests.specs.Policies.{basic, in_batches}
 
 -- the policies under which such plans are played
 abbrev pub IsTried : Meaning → Type 0
-IsTried p = (p ≡ basic) ⊎ (p ≡ fair_meaning)
+IsTried p = (p ≡ basic) ⊎ ((p ≡ fair_meaning) ⊎ (p ≡ in_batches 8))
 
 -- the thread of that number: weight 1, without end, and let in by one of so many cores
 pub record IsMember (cores number : ℕ) (t : Planned) : Type 0 where

@@ -6,7 +6,7 @@ ghost use Rattle.policy_tree.specs.Meaning.{meaning_of};
 ghost use Rattle.table_players.specs.Crowds.{AreMembers, IsCrowd, IsMember, IsTried};
 
 use fair_policy::fair_policy;
-use model_tests::builders::basic_policy;
+use model_tests::builders::{basic_policy, batched_policy};
 use policy_tree::Policy;
 use round_model::{Burst, BurstList, ConstList, Ending, OrderList, Plan, Planned, PlannedList};
 use sched_base::{CoreId, MAX_ATTRIBUTES, ThreadId};
@@ -25,6 +25,14 @@ pub fn placed_by_load(alloc: Global) -> Result<Policy, AllocError>
     ensures { IfOk result (λ policy. IsTried (meaning_of policy)) }
 {
     let policy = fair_policy(alloc)?;
+    Ok(policy)
+}
+
+/// The basic policy with a batch: a steal moves up to eight threads.
+pub fn stolen_in_batches(alloc: Global) -> Result<Policy, AllocError>
+    ensures { IfOk result (λ policy. IsTried (meaning_of policy)) }
+{
+    let policy = batched_policy(alloc, 8)?;
     Ok(policy)
 }
 

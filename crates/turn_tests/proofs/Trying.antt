@@ -34,7 +34,7 @@ form_of look p plan m e is = by_choice look.choice refl is
   where
     by_choice : (choice : Option ℕ) → look.choice ≡ choice → e ≡ attempt_with p plan m look.by look.reads choice → Form look e
     by_choice None none same = passed none same
-    by_choice (Some v) chosen same = tried v (moves_of p plan look.by v None (m look.by) (m v)) chosen same
+    by_choice (Some v) chosen same = tried v (moves_of p plan look.by v p.batch (m look.by) (m v)) chosen same
 
 -- the outcome says what the entry does
 module _ (look : Look) (at : ℕ) (e : Entry) (v w : View) (drawn : IsDrawn look at e v) (added : HasAdded look.by at e v w) where

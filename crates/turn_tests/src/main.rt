@@ -15,10 +15,11 @@ mod texts;
 mod turns;
 mod turnstile;
 
-use crate::turns::{under_basic, under_fair};
+use crate::turns::{in_batches, under_basic, under_fair};
 use std::io;
 
 fn main(rt: HostRuntime) -> io::Result<()> {
     under_basic(&rt, rt.alloc())?;
-    under_fair(&rt, rt.alloc())
+    under_fair(&rt, rt.alloc())?;
+    in_batches(&rt, rt.alloc())
 }

@@ -1,4 +1,4 @@
-//! Turns by the calls of a core in memory, under a policy without placement and one with it. The files `NAME.trace` and
+//! Turns by the calls of a core in memory, under a policy without placement, one with it and one with a batch. The files `NAME.trace` and
 //! `NAME.history` have the plan, and the history that its turns come to.
 
 ghost use Rattle.std.specs.Prelude.{◌≡◌, ◌≤◌, ◌⊎◌, ℕ, IsTrue, length};
@@ -7,7 +7,7 @@ ghost use Rattle.policy_tree.specs.Meaning.{meaning_of};
 ghost use Rattle.policy_eval.specs.Obligations.{MeetsHandlerObligations};
 ghost use Rattle.round_model.specs.Fits.{Fits};
 ghost use Rattle.fair_policy.specs.Fair.{fair_meaning};
-ghost use Rattle.model_tests.specs.Policies.{basic};
+ghost use Rattle.model_tests.specs.Policies.{basic, in_batches};
 ghost use Rattle.turn_tests.specs.Memory.{IsKept, IsSameMemory};
 
 use crate::finding::{Finding, all_hold, told};
@@ -17,7 +17,7 @@ use crate::texts::{is_spelled, plan_of_text};
 use crate::turnstile::Turnstile;
 use core_calls::Turned;
 use fair_policy::fair_policy;
-use model_tests::builders::basic_policy;
+use model_tests::builders::{basic_policy, batched_policy};
 use model_tests::steps::legal_length;
 use policy_tree::Policy;
 use round_model::{Entry, Plan};
@@ -74,6 +74,26 @@ const UNDER_FAIR: [Turned; 4] = [
     },
 ];
 
+/// What those under the batched policy tell.
+const IN_BATCHES: [Turned; 4] = [
+    Turned {
+        entries: 8,
+        ended: None,
+    },
+    Turned {
+        entries: 2,
+        ended: None,
+    },
+    Turned {
+        entries: 2,
+        ended: None,
+    },
+    Turned {
+        entries: 2,
+        ended: None,
+    },
+];
+
 /// A thread blocks and wakes, one is stolen, one ends, and one enters by the second core.
 pub(crate) fn under_basic<R: Files + Print + Alloc + Wait>(
     rt: &R,
@@ -107,6 +127,21 @@ pub(crate) fn under_fair<R: Files + Print + Alloc + Wait>(rt: &R, alloc: Global)
     )
 }
 
+/// Three of six threads are stolen at once.
+pub(crate) fn in_batches<R: Files + Print + Alloc + Wait>(rt: &R, alloc: Global) -> io::Result<()> {
+    let trace = fs::read_to_string(rt, "batch.trace")?;
+    let history = fs::read_to_string(rt, "batch.history")?;
+    let wanted = Wanted {
+        history: history.as_str(),
+        turned: IN_BATCHES,
+    };
+    told(
+        rt,
+        "turns with a batch",
+        by_batches(rt, alloc, trace.as_str(), &wanted),
+    )
+}
+
 /// What is found of the trace under the basic policy.
 fn by_basic<R: Wait>(rt: &R, alloc: Global, trace: &str, wanted: &Wanted<'_>) -> Option<Finding> {
     let Ok(policy) = basic_policy(alloc) else {
@@ -123,6 +158,14 @@ fn by_fair<R: Wait>(rt: &R, alloc: Global, trace: &str, wanted: &Wanted<'_>) -> 
     come_to(rt, alloc, &policy, trace, wanted)
 }
 
+/// What is found of the trace under the basic policy with a batch.
+fn by_batches<R: Wait>(rt: &R, alloc: Global, trace: &str, wanted: &Wanted<'_>) -> Option<Finding> {
+    let Ok(policy) = batched_policy(alloc, 8) else {
+        return None;
+    };
+    come_to(rt, alloc, &policy, trace, wanted)
+}
+
 /// What is found of the trace under that policy.
 fn come_to<R: Wait>(
     rt: &R,
@@ -131,7 +174,8 @@ fn come_to<R: Wait>(
     trace: &str,
     wanted: &Wanted<'_>,
 ) -> Option<Finding>
-    requires { (meaning_of policy.now ≡ basic) ⊎ (meaning_of policy.now ≡ fair_meaning) }
+    requires { (meaning_of policy.now ≡ basic) ⊎ ((meaning_of policy.now ≡ fair_meaning)
+        ⊎ (meaning_of policy.now ≡ in_batches 8)) }
 {
     let plan = plan_of_text(alloc, policy, trace)?;
     plan_comes_to(rt, alloc, policy, &plan, wanted)

@@ -6,7 +6,6 @@ use Rattle.policy_eval.specs.Ranges.{AreIn, attribute_ranges}
 use Rattle.round_model.specs.declared.entry.Entry.{Entry}
 use Rattle.round_model.specs.declared.plan.Plan.{Plan}
 use Rattle.round_model.specs.declared.state.ModelCore.{ModelCore}
-use Rattle.round_model.specs.After.{after}
 use Rattle.round_model.specs.Bounds.{CoreInBounds}
 use Rattle.round_model.specs.Bursts.{HaveBursts}
 use Rattle.round_model.specs.Code.Updates.{updated}
@@ -15,7 +14,6 @@ use Rattle.round_model.specs.Entries.{touches}
 use Rattle.core_state.specs.Logs.{after_last, logged}
 use Rattle.core_state.specs.Views.{CoreView, HasRoom, HasRoomForAll}
 use Rattle.core_moves.specs.Cores.{CoresView, Shows}
-use Rattle.core_moves.specs.Moves.{MayMove}
 
 -- the fact holds of the core of that number
 abbrev pub HoldsAt : List CoreView → ℕ → (CoreView → Type 0) → Type 0
@@ -65,8 +63,3 @@ Notes e old new = (p : Meaning) (plan : Plan) (history : List Entry) (m : Cores)
 pub record IsCountable (y : CoreView) : Type 0 where
   pub nr : thread_count y.core ≤ MAX_THREADS
   pub load : load_of y.core ≤ MAX_LOAD
-
--- the cores are those that the entry leaves, and it isn't logged yet
-abbrev pub MovesCores : Entry → (old new : CoresView) → Type 0
-MovesCores e old new = (p : Meaning) (plan : Plan) (history : List Entry) → MayMove p plan history e old
-    → Shows p plan history (after p plan (history ++ e ∷ [])) new

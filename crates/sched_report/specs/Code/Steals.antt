@@ -10,7 +10,7 @@ use Rattle.round_model.specs.Stretches.{IsStillStretch}
 use Rattle.sched_report.specs.StretchRows.{is_steal_within, steals_within}
 use Rattle.sched_report.specs.declared.rows.StillRow.{StillRow}
 
--- the counts of the rounds with an entry more: a round that begins has none so far, and a steal is one of the last round
+-- the counts of the rounds with an entry more: a round that begins has none so far, and a steal is of the last round
 abbrev pub counts_with : Entry → List ℕ → List ℕ
 counts_with e counts = cond (is_round e) (counts ++ 0 ∷ [])
     (cond (is_steal e) (slice_set counts (length counts - 1) (slice_index_or counts (length counts - 1) 0 + 1)) counts)

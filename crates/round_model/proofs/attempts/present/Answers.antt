@@ -1,11 +1,11 @@
-use Rattle.std.proofs.Common.{sym, ap, ◌∙◌, subst, arith}
+use Rattle.std.proofs.Common.{◌≡◌, sym, ap, ◌∙◌, subst, arith}
+use Rattle.std.proofs.lemmas.Option.{same_Some}
 use Rattle.policy_eval.specs.Fitting.{CoreFits}
 use Rattle.policy_eval.specs.Sights.{no_attributes}
 use Rattle.round_model.specs.Bounds.{CoreInBounds}
 use Rattle.round_model.specs.Cores.{seen_of}
 use Rattle.round_model.specs.Reads.{values_of}
 use Rattle.round_model.proofs.Finding.{All-at}
-use Rattle.round_model.proofs.States.{listed_at}
 use Rattle.round_model.proofs.attempts.present.Goals as goal
 
 pub returns-clause-fits : goal.returns-clause-fits
@@ -16,7 +16,7 @@ returns-clause-fits c p fits bounds =
     (record { loads = held.loads; consts = fits.consts core no_attributes (omega (arith, fits.consts_each, c.requires.core)) })
 
 pub returns-clause-values : goal.returns-clause-values
-returns-clause-values c m is =
+returns-clause-values c x is =
     let plan = c.args.plan.now in
-    let same = listed_at plan.cores m c.args.state.now c.args.core c.get.result.now is c.get.ensures.item c.requires.core in
+    let same : c.get.result.now ≡ x = same_Some c.get.result.now x (sym c.get.ensures.item ∙ is) in
     c.values_of.ensures ∙ ap (values_of plan c.args.core) (c.seen-seen.ensures ∙ ap seen_of same)

@@ -1,10 +1,10 @@
-use Rattle.std.proofs.Common.{◌≡◌, ◌∙◌, ap, length, take, arith}
+use Rattle.std.proofs.Common.{◌≡◌, ◌≢◌, ℕ, ◌<◌, Option, IfSome, ◌∙◌, ap, sym, subst, length, take, arith}
 use Rattle.std.proofs.lemmas.List.{length-take}
 use Rattle.policy_tree.specs.Meaning.{meaning_of}
 use Rattle.policy_eval.specs.Fitting.{CoreFits}
 use Rattle.round_model.specs.Choices.{choice_of, values_in}
 use Rattle.round_model.specs.Code.Outcomes.{values_at}
-use Rattle.round_model.proofs.Outcomes.{choice_same, values_All, values_in-take}
+use Rattle.round_model.proofs.Outcomes.{choice_other, choice_same, values_All, values_in-take}
 use Rattle.round_model.proofs.glances.chosen.Goals as goal
 
 pub choice-requires-clause-values : goal.choice-requires-clause-values
@@ -21,3 +21,12 @@ returns-clause-choice c history stands =
     c.choice.ensures.choice ∙ (ap (λ n. choice_of p n (values_in first) c.args.core) count
     ∙ choice_same p plan.cores (values_in first) (values_at p plan history c.args.reads.now)
     (λ k there. values_in-take plan.cores values k there ∙ c.values_read-values.ensures.values p history stands k there) c.args.core c.requires.core)
+
+pub returns-clause-there : goal.returns-clause-there
+returns-clause-there c =
+    let p = meaning_of c.args.policy.now in let plan = c.args.plan.now in let few = c.requires.fits.few_cores in
+    let values = c.values_read-values.result in let first = take plan.cores values in
+    let count : length first ≡ plan.cores = omega (arith, length-take plan.cores values, c.values_read-values.ensures.len) in
+    subst (λ (o : Option ℕ). IfSome o (λ v. (v < plan.cores) × (c.args.core ≢ v)))
+    (sym (c.choice.ensures.choice ∙ ap (λ n. choice_of p n (values_in first) c.args.core) count))
+    (choice_other p plan.cores (values_in first) c.args.core)

@@ -1,9 +1,7 @@
-use Rattle.std.proofs.Common.{◌≡◌, ◌+◌, List, All, length, option_to_list, ap, ◌∙◌, sym, subst, arith}
-use Rattle.sched_base.specs.declared.task.Task.{Task}
-use Rattle.policy_eval.specs.Fitting.{IsTask}
+use Rattle.std.proofs.Common.{◌≡◌, length, ap, ◌∙◌, sym, subst, arith}
 use Rattle.round_model.specs.declared.state.ModelCore.{ModelCore}
 use Rattle.round_model.specs.Cores.{listed}
-use Rattle.round_model.specs.Code.Kept.{Holds, IsKept}
+use Rattle.round_model.specs.Code.Kept.{IsKept}
 use Rattle.round_model.specs.Code.Updates.{updated}
 use Rattle.round_model.proofs.Keeping.{kept_set, standing_is}
 use Rattle.round_model.proofs.States.{listed_at, listed_updated}

@@ -1,4 +1,4 @@
-use Rattle.std.proofs.Common.{◌≡◌, ◌++◌, List, ap, ◌∙◌, sym, subst, set, length, length-append, arith}
+use Rattle.std.proofs.Common.{◌≡◌, List, ap, ◌∙◌, sym, subst, set, length, length-append, arith}
 use Rattle.round_model.specs.declared.state.ModelCore.{ModelCore}
 use Rattle.round_model.specs.Cores.{listed}
 use Rattle.round_model.specs.Code.Kept.{IsKept}

@@ -1,4 +1,4 @@
-use Rattle.std.proofs.Common.{◌≡◌, ◌+◌, ◌++◌, ◌≤◌, List, [], ◌∷◌, take, find, length, option_to_list, ap, ap₂, sym, ◌∙◌, arith}
+use Rattle.std.proofs.Common.{◌≡◌, ◌+◌, ◌++◌, List, [], ◌∷◌, take, find, length, option_to_list, ap, ap₂, sym, ◌∙◌, arith}
 use Rattle.std.proofs.lemmas.List.{length-take, take_more}
 use Rattle.sched_base.specs.declared.task.Task.{Task}
 use Rattle.round_model.specs.Moves.{is_task, taken_from, without_first}

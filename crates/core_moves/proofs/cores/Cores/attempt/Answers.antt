@@ -1,20 +1,20 @@
-use Rattle.std.proofs.Common.{[], ◌++◌, ◌∷◌}
+use Rattle.std.proofs.Common.{[], ◌++◌, ◌∷◌, arith}
+use Rattle.policy_tree.specs.Meaning.{meaning_of}
 use Rattle.round_model.specs.After.{after}
 use Rattle.core_moves.proofs.Shown.{can_log, entries_fit}
 use Rattle.core_moves.proofs.cores.Cores.attempt.Goals as goal
 
 pub note-requires-clause-room : goal.note-requires-clause-room
 note-requires-clause-room c =
-    let some = c.requires.next in let h = some.next.0 in let may = some.next.1 in
-    entries_fit some.policy some.plan h (after some.policy some.plan (h ++ c.args.entry.now ∷ [])) c.take_stolen.new.self
-    (c.take_stolen.ensures some.policy some.plan h may) some.fits may.room
+    let p = meaning_of c.args.policy.now in let plan = c.args.plan.now in let h = c.requires.reached.0 in let are = c.requires.reached.1.are in
+    entries_fit p plan h (after p plan (h ++ c.move_by-entry.result ∷ [])) c.move_by-entry.new.self (c.move_by-entry.ensures.cores h are) c.requires.fits (omega (arith, c.requires.room, are.entries))
 
 pub note-requires-clause-can : goal.note-requires-clause-can
 note-requires-clause-can c =
-    let some = c.requires.next in let h = some.next.0 in let may = some.next.1 in
-    can_log some.policy some.plan h (after some.policy some.plan (h ++ c.args.entry.now ∷ [])) c.take_stolen.new.self
-    (c.take_stolen.ensures some.policy some.plan h may) may.room
+    let p = meaning_of c.args.policy.now in let plan = c.args.plan.now in let h = c.requires.reached.0 in let are = c.requires.reached.1.are in
+    can_log p plan h (after p plan (h ++ c.move_by-entry.result ∷ [])) c.move_by-entry.new.self (c.move_by-entry.ensures.cores h are) (omega (arith, c.requires.room, are.entries))
 
-pub returns : goal.returns
-returns c p plan h may =
-    c.note.ensures p plan h (after p plan (h ++ c.args.entry.now ∷ [])) (c.take_stolen.ensures p plan h may)
+pub returns-clause-cores : goal.returns-clause-cores
+returns-clause-cores c h are =
+    let p = meaning_of c.args.policy.now in let plan = c.args.plan.now in
+    c.note.ensures p plan h (after p plan (h ++ c.move_by-entry.result ∷ [])) (c.move_by-entry.ensures.cores h are)

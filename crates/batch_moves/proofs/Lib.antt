@@ -1,0 +1,4 @@
+pub mod Once
+pub mod Steps
+pub mod Moving
+pub mod Reached

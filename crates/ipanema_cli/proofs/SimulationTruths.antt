@@ -1,0 +1,308 @@
+-- From how a command that simulates a trace ends to the truth of what it says.
+use Rattle.std.specs.Prelude.{IsFalse}
+use Rattle.std.proofs.Common.{◌≡◌, ◌≢◌, ℕ, inl, inr, List, [], ◌∷◌, Option, append-nil, refl, sym, ◌∙◌, arith, subst}
+use Rattle.std.proofs.lemmas.List.Folds.{flat_map-map}
+use Rattle.sched_io.specs.Puts.{joined}
+use Rattle.sched_io.specs.Shown.{Shown}
+use Rattle.sched_io.specs.Told.{Told}
+use Rattle.sched_io.specs.Written.{Adds}
+use Rattle.policy_eval.specs.Obligations.{MeetsHandlerObligations}
+use Rattle.policy_tree.specs.Meaning.{Meaning, meaning_of}
+use Rattle.policy_checker.specs.Laws.{HasUncertainHandler}
+use Rattle.policy_checker.specs.Playable.{is_playable}
+use Rattle.policy_checker.specs.Verdicts.{policy_of}
+use Rattle.policy_checker.specs.declared.verdict.Verdict.{Verdict}
+use Rattle.policy_checker.specs.declared.verdict.Verdict.TheVariants as verdict
+use Rattle.policy_checker.proofs.KeptHandlers.{playable_law}
+use Rattle.policy_check.specs.Checks.{IsCheckOf}
+use Rattle.policy_check.specs.Lines.{check_lines}
+use Rattle.policy_check.specs.declared.answer.CheckAnswer.{CheckAnswer}
+use Rattle.policy_check.specs.declared.answer.CheckAnswer.TheVariants as checked
+use Rattle.round_model.specs.declared.entry.Entry.{Entry}
+use Rattle.round_model.specs.declared.plan.Plan.{Plan}
+use Rattle.round_model.specs.declared.serial.Played.TheVariants as played
+use Rattle.round_model.specs.SerialEnds.{EndsWhole, IsFull, StopsFull}
+use Rattle.round_model.specs.SerialRounds.{serial_rounds}
+use Rattle.job_trace.specs.Plans.{SpellsPlan}
+use Rattle.job_trace.specs.TraceText.{SpellsTrace}
+use Rattle.sched_history.specs.Spelling.{line_of_entry, lines_of_history, text_of_history}
+use Rattle.trace_play.specs.declared.fault.LineFault.{LineFault}
+use Rattle.trace_play.specs.Plays as plays
+use Rattle.trace_play.specs.Told as trace_faults
+use Rattle.trace_play.proofs.OnePlay.{never_faulty}
+use Rattle.trace_simulation.specs.declared.answer.PlayedWaste.TheVariants as wasted
+use Rattle.trace_simulation.specs.declared.answer.SimulationAnswer.{SimulationAnswer}
+use Rattle.trace_simulation.specs.declared.answer.SimulationAnswer.TheVariants as simulation
+use Rattle.trace_simulation.specs.Lines as simulations
+use Rattle.trace_simulation.specs.Simulations.{IsSimulationOf, IsWasteOf, Simulates}
+use Rattle.ipanema_cli.specs.Causes.{OneOf}
+use Rattle.ipanema_cli.specs.Ends.{Writes}
+use Rattle.ipanema_cli.specs.Simulations.{AnswersSimulation, IsPlayable, Simulating, lets_play}
+use Rattle.ipanema_cli.specs.Status.{check_status, code_of, simulation_status, verdict_status}
+use Rattle.ipanema_cli.specs.Texts.{MayRead}
+use Rattle.ipanema_cli.specs.CheckTruths.{Holds, Spells}
+use Rattle.ipanema_cli.specs.SimulationTruths.{DoHoldPlayable, DoSimulate, MayHoldPlayable, MustSimulate, SaysHistory, SaysWaste, SimulatesTruly}
+use Rattle.ipanema_cli.specs.declared.answers.Answer.{Answer}
+use Rattle.ipanema_cli.specs.declared.answers.Answer.TheVariants as answer
+use Rattle.ipanema_cli.specs.declared.texts.TextKind.TheVariants as kind
+use Rattle.ipanema_cli.proofs.CheckTruths.{Stopped, at_4, at_5, at_6, answered_policy, not_long, refusal_not_0, stopped_not, stopped_refuses, tells_fault, verdict_answers}
+use Rattle.ipanema_cli.proofs.PolicyFacts.{judged_refuses, read_refuses, refused_text, resolved, same_policy, text_read}
+use Rattle.ipanema_cli.proofs.TraceTruths.{SamePlay, low_or_stopped, no_line, refusal_not_8, same_plan}
+use Rattle.ipanema_cli.proofs.WritesLemmas.{code_among, no_stop, whole}
+
+-- What serial play of the trace came to: a fault of it, or a history of which this is said.
+data Came (Says : Meaning → Plan → List Entry → List ℕ → Type 0) (p : Meaning) (jobs bytes : List ℕ) (code : ℕ) : Type 0 where
+  broke : (fault : LineFault) → plays.HasFault p jobs fault → bytes ≡ trace_faults.fault_line fault → code ≡ 2 → Came Says p jobs bytes code
+  ended : (history : List Entry) (made : Simulates p jobs EndsWhole history) → Says p made.plan history bytes → code ≡ 0 → Came Says p jobs bytes code
+  filled : (history : List Entry) (made : Simulates p jobs StopsFull history) → Says p made.plan history bytes → code ≡ 8 → Came Says p jobs bytes code
+
+-- what a command answers comes to that
+abbrev Comes : (Is : Simulating) (Says : Meaning → Plan → List Entry → List ℕ → Type 0) → Type 0
+Comes Is Says = (p : Meaning) (jobs : List ℕ) (s : SimulationAnswer) (code : ℕ) → Is p jobs s → code ≡ code_of (simulation_status s) → Came Says p jobs (joined (simulations.lines_of s)) code
+
+-- the bytes of a history's lines are its text
+text_of_lines : (history : List Entry) → joined (lines_of_history history) ≡ text_of_history history
+text_of_lines history = flat_map-map (λ l. l) line_of_entry history
+
+simulation_comes : Comes IsSimulationOf SaysHistory
+simulation_comes p jobs (simulation.Broken fault) code has own = broke fault has (append-nil (trace_faults.fault_line fault)) own
+simulation_comes p jobs (simulation.Played (played.Whole history)) code made own = ended history made (text_of_lines history) own
+simulation_comes p jobs (simulation.Played (played.Full history)) code made own = filled history made (text_of_lines history) own
+simulation_comes p jobs (simulation.Wasted waste) code is own = absurd is
+
+waste_comes : Comes IsWasteOf SaysWaste
+waste_comes p jobs (simulation.Broken fault) code has own = broke fault has (append-nil (trace_faults.fault_line fault)) own
+waste_comes p jobs (simulation.Played play) code is own = absurd is
+waste_comes p jobs (simulation.Wasted (wasted.Whole report)) code made own = ended made.history made.simulates (report, made.waste, refl) own
+waste_comes p jobs (simulation.Wasted (wasted.Full report)) code made own = filled made.history made.simulates (report, made.waste, refl) own
+
+-- what must come of a stop
+stopped_must : (policy trace : Told) (code : ℕ) → Stopped code → MustSimulate policy trace code
+stopped_must policy trace code stop = record {
+  reaches_end = λ p plan held none. elim stop [ at_4 e ↦ rw e refl | at_5 e ↦ rw e refl | at_6 e ↦ rw e refl ];
+  stops_full = λ p plan k held full. elim stop [ at_4 e ↦ rw e refl | at_5 e ↦ rw e refl | at_6 e ↦ rw e refl ];
+  faulty = λ p jobs fault held has. elim stop [ at_4 e ↦ rw e refl | at_5 e ↦ rw e refl | at_6 e ↦ rw e refl ];
+  refuses = λ p jobs held also unmet. elim stop [ at_4 e ↦ rw e refl | at_5 e ↦ rw e refl | at_6 e ↦ rw e refl ];
+  unjudged = λ jobs also. stopped_refuses policy code stop;
+}
+
+-- both files were read, and the policy can be played
+may_hold : (policy trace : Told) (text jobs : List ℕ) (p : Meaning) → MayRead kind.Policy policy text → MayRead kind.Trace trace jobs → IsPlayable text p → MayHoldPlayable policy trace p jobs
+may_hold policy trace text jobs p read trace_read playable = record {
+  text = text;
+  policy_read = read;
+  trace_read = trace_read;
+  playable = playable;
+  handlers = playable_law.meets p (resolved policy text p read playable.spells) playable.certified;
+}
+
+module _ (policy trace : Told) (p : Meaning) (jobs : List ℕ) (may : MayHoldPlayable policy trace p jobs) where
+  -- what is held is what was read
+  same_meaning : (other : Meaning) → Spells policy other → p ≡ other
+  same_meaning other held = same_policy policy may.text p other may.policy_read may.playable.spells held
+
+  held_simulation : (other : Meaning) (plan : Plan) (held : DoSimulate policy trace other plan) → SamePlay may.text jobs p other held.lines plan
+  held_simulation other plan held =
+      let same_jobs = text_read kind.Trace trace jobs held.jobs may.trace_read held.held.trace_held in
+      let is_policy = same_meaning other held.held.spells in
+      record {
+        policy = is_policy;
+        spells = subst (λ (t : List ℕ). SpellsTrace t held.lines) (sym same_jobs) held.spells;
+        means = subst (λ (q : Meaning). SpellsPlan q held.lines plan) (sym is_policy) held.means;
+      }
+
+  -- a fault of what is held is one of what was read
+  held_fault : (other : Meaning) (also : List ℕ) (fault : LineFault) → DoHoldPlayable policy trace other also → plays.HasFault other also fault → plays.HasFault p jobs fault
+  held_fault other also fault held has =
+      let same_jobs = text_read kind.Trace trace jobs also may.trace_read held.trace_held in
+      subst (λ (q : Meaning). plays.HasFault q jobs fault) (sym (same_meaning other held.spells))
+      (subst (λ (t : List ℕ). plays.HasFault other t fault) (sym same_jobs) has)
+
+  -- the policy that is held meets its handler obligations
+  held_handlers : (other : Meaning) → Spells policy other → MeetsHandlerObligations other
+  held_handlers other held = subst MeetsHandlerObligations (same_meaning other held) may.handlers
+
+  -- a round that might not fit in the one plan might not in the other
+  same_full : (other : Meaning) (made plan : Plan) (k : ℕ) → p ≡ other → made ≡ plan → IsFull plan (serial_rounds other plan k) → IsFull made (serial_rounds p made k)
+  same_full other made plan k same is_plan full =
+      subst (λ (x : Plan). IsFull x (serial_rounds p x k)) (sym is_plan) (subst (λ (q : Meaning). IsFull plan (serial_rounds q plan k)) (sym same) full)
+
+  held_full : (other : Meaning) (made plan : Plan) (k : ℕ) → p ≡ other → made ≡ plan → IsFull made (serial_rounds p made k) → IsFull plan (serial_rounds other plan k)
+  held_full other made plan k same is_plan full =
+      subst (λ (q : Meaning). IsFull plan (serial_rounds q plan k)) same (subst (λ (x : Plan). IsFull x (serial_rounds p x k)) is_plan full)
+
+  held_plan : (made plan : Plan) (other : Meaning) → plays.MeansPlan p jobs made → DoSimulate policy trace other plan → made ≡ plan
+  held_plan made plan other means held =
+      let s = held_simulation other plan held in
+      same_plan p jobs means.trace held.lines made plan means.spells means.means s.spells s.means
+
+  module _ (Says : Meaning → Plan → List Entry → List ℕ → Type 0) where
+    -- what was said is true
+    came_truly : (bytes : List ℕ) (before after : Option (List ℕ)) (code : ℕ) → Came Says p jobs bytes code → Adds bytes before after → SimulatesTruly Says policy trace before after code
+    came_truly bytes before after code (broke fault has is own) added = record {
+      whole = λ h. absurd (omega arith);
+      full = λ h. absurd (omega arith);
+      must = record {
+        reaches_end = λ other plan held none. absurd (never other plan held);
+        stops_full = λ other plan k held full. absurd (never other plan held);
+        faulty = λ other also found held has_it. rw own refl;
+        refuses = λ other also held holding unmet. absurd (unmet (held_handlers other held));
+        unjudged = λ also holding. judged_refuses policy may.text p code may.policy_read may.playable.spells may.playable.few;
+      };
+      lines = λ low. absurd (let bad = rw own at low in cc);
+      bad_text = λ h. inr (record { p = p; jobs = jobs; may = may; fault = fault; has = has; written = subst (λ (b : List ℕ). Adds b before after) is added });
+    }
+      where
+        never : (other : Meaning) (plan : Plan) → DoSimulate policy trace other plan → ⊥
+        never other plan held = let s = held_simulation other plan held in never_faulty p jobs held.lines plan fault s.spells s.means has
+    came_truly bytes before after code (ended history made says own) added = record {
+      whole = λ h. record { p = p; jobs = jobs; may = may; plan = made.plan; means = made.means; history = history; ends = made.ends; bytes = bytes; says = says; written = added };
+      full = λ h. absurd (omega arith);
+      must = record {
+        reaches_end = λ other plan held none. rw own refl;
+        stops_full = λ other plan k held full.
+            absurd (made.ends.fitted k (same_full other made.plan plan k (same_meaning other held.held.spells) (held_plan made.plan plan other made.means held) full));
+        faulty = λ other also found held has_it. absurd (never_faulty p jobs made.means.trace made.plan found made.means.spells made.means.means (held_fault other also found held has_it));
+        refuses = λ other also held holding unmet. absurd (unmet (held_handlers other held));
+        unjudged = λ also holding. judged_refuses policy may.text p code may.policy_read may.playable.spells may.playable.few;
+      };
+      lines = λ low. absurd (let bad = rw own at low in cc);
+      bad_text = λ h. absurd (omega arith);
+    }
+    came_truly bytes before after code (filled history made says own) added = record {
+      whole = λ h. absurd (omega arith);
+      full = λ h. record { p = p; jobs = jobs; may = may; plan = made.plan; means = made.means; history = history; ends = made.ends; bytes = bytes; says = says; written = added };
+      must = record {
+        reaches_end = λ other plan held none.
+            let k : ℕ = made.ends.rounds in
+            let here : IsFull made.plan (serial_rounds p made.plan k) = subst (IsFull made.plan) made.ends.serial made.ends.full in
+            absurd (none k (held_full other made.plan plan k (same_meaning other held.held.spells) (held_plan made.plan plan other made.means held) here));
+        stops_full = λ other plan k held full. rw own refl;
+        faulty = λ other also found held has_it. absurd (never_faulty p jobs made.means.trace made.plan found made.means.spells made.means.means (held_fault other also found held has_it));
+        refuses = λ other also held holding unmet. absurd (unmet (held_handlers other held));
+        unjudged = λ also holding. judged_refuses policy may.text p code may.policy_read may.playable.spells may.playable.few;
+      };
+      lines = λ low. absurd (let bad = rw own at low in cc);
+      bad_text = λ h. absurd (omega arith);
+    }
+
+module _ (Says : Meaning → Plan → List Entry → List ℕ → Type 0) where
+  pub stopped_simulation : (policy trace : Told) (before after : Option (List ℕ)) (code : ℕ) → Stopped code → SimulatesTruly Says policy trace before after code
+  stopped_simulation policy trace before after code stop = record {
+    whole = λ h. absurd (stopped_not code 0 (λ e. omega arith) (λ e. omega arith) (λ e. omega arith) stop h);
+    full = λ h. absurd (stopped_not code 8 (λ e. omega arith) (λ e. omega arith) (λ e. omega arith) stop h);
+    must = stopped_must policy trace code stop;
+    lines = λ low. absurd (low_or_stopped code low stop);
+    bad_text = λ h. absurd (stopped_not code 2 (λ e. omega arith) (λ e. omega arith) (λ e. omega arith) stop h);
+  }
+
+  -- a file is too long, which one doesn't matter
+  long_simulation : (policy trace : Told) (before after : Option (List ℕ)) (code : ℕ) → ((text jobs : List ℕ) → Holds kind.Policy policy text → Holds kind.Trace trace jobs → ⊥) → code ≡ 10
+      → SimulatesTruly Says policy trace before after code
+  long_simulation policy trace before after code none own = record {
+    whole = λ h. absurd (omega arith);
+    full = λ h. absurd (omega arith);
+    must = record {
+      reaches_end = λ p plan held _. absurd (none held.held.spells.text held.jobs held.held.spells.held held.held.trace_held);
+      stops_full = λ p plan k held _. absurd (none held.held.spells.text held.jobs held.held.spells.held held.held.trace_held);
+      faulty = λ p jobs fault held _. absurd (none held.spells.text jobs held.spells.held held.trace_held);
+      refuses = λ p jobs held also _. absurd (none held.text jobs held.held also);
+      unjudged = λ jobs also. record {
+        crowded = λ text p held _ _. absurd (none text jobs held also);
+        faulty = λ text fault held _. absurd (none text jobs held also);
+      };
+    };
+    lines = λ low. absurd (let bad = rw own at low in cc);
+    bad_text = λ h. absurd (omega arith);
+  }
+
+  -- the policy was judged, and can't be played
+  judged : (policy trace : Told) (v : Verdict) (text : List ℕ) (before after : Option (List ℕ)) (code : ℕ) → MayRead kind.Policy policy text → IsCheckOf text (checked.Judged v) → IsFalse (is_playable v)
+      → code ≡ code_of (verdict_status v) → code ≢ 0 → code ≢ 8 → code ≢ 2 → OneOf (1 ∷ 3 ∷ 4 ∷ 5 ∷ 6 ∷ []) code
+      → Adds (joined (check_lines (checked.Judged v))) before after → SimulatesTruly Says policy trace before after code
+  judged policy trace v text before after code read is unplayable own not_0 not_8 not_2 low added = record {
+    whole = λ h. absurd (not_0 h);
+    full = λ h. absurd (not_8 h);
+    must = record {
+      reaches_end = λ other plan held _. absurd (never other held.held.spells held.held.certain);
+      stops_full = λ other plan k held _. absurd (never other held.held.spells held.held.certain);
+      faulty = λ other jobs fault held _. absurd (never other held.spells held.certain);
+      refuses = λ other jobs held also _. low;
+      unjudged = λ jobs also. read_refuses policy text (checked.Judged v) code read is own;
+    };
+    lines = λ few. record {
+      answers = verdict_answers policy text v before after code read is own added;
+      uncertain = subst HasUncertainHandler (sym (answered_policy policy text v before after code read is own added)) uncertain;
+    };
+    bad_text = λ h. absurd (not_2 h);
+  }
+    where
+      p : Meaning
+      p = meaning_of (policy_of v)
+
+      uncertain : HasUncertainHandler p
+      uncertain = playable_law.others p (resolved policy text p read is.spells) v is.is unplayable
+
+      never : (other : Meaning) → Spells policy other → (HasUncertainHandler other → ⊥) → ⊥
+      never other held certain = certain (subst HasUncertainHandler (same_policy policy text p other read is.spells held) uncertain)
+
+  -- the policy can't be played
+  unplayed : (policy trace : Told) (c : CheckAnswer) (text : List ℕ) (before after : Option (List ℕ)) (code : ℕ) → MayRead kind.Policy policy text → IsCheckOf text c → IsFalse (lets_play c)
+      → code ≡ code_of (check_status c) → Adds (joined (check_lines c)) before after → SimulatesTruly Says policy trace before after code
+  unplayed policy trace (checked.Judged (verdict.Accepted kept)) text before after code read is unplayable own added = absurd (cc)
+  unplayed policy trace (checked.Judged (verdict.Refused answers kept)) text before after code read is unplayable own added =
+      judged policy trace (verdict.Refused answers kept) text before after code read is unplayable own (λ e. omega arith) (λ e. omega arith) (λ e. omega arith) (rw own refl) added
+  unplayed policy trace (checked.Judged (verdict.Undecided answers kept)) text before after code read is unplayable own added =
+      judged policy trace (verdict.Undecided answers kept) text before after code read is unplayable own (λ e. omega arith) (λ e. omega arith) (λ e. omega arith) (rw own refl) added
+  unplayed policy trace (checked.Unjudged why) text before after code read is unplayable own added = record {
+    whole = λ h. absurd (refusal_not_0 why code own h);
+    full = λ h. absurd (refusal_not_8 why code own h);
+    must = record {
+      reaches_end = λ p plan held _. absurd (refused_text policy text why p read is held.held.spells);
+      stops_full = λ p plan k held _. absurd (refused_text policy text why p read is held.held.spells);
+      faulty = λ p jobs fault held _. absurd (refused_text policy text why p read is held.spells);
+      refuses = λ p jobs held also _. absurd (refused_text policy text why p read is held);
+      unjudged = λ jobs also. read_refuses policy text (checked.Unjudged why) code read is own;
+    };
+    lines = λ low. absurd (no_line why code own low);
+    bad_text = λ h. inl (tells_fault policy text why before after code read is own added h);
+  }
+
+  simulates_truly : (Is : Simulating) → Comes Is Says → (policy trace : Told) (before after : Shown) (code : ℕ) (a : Answer) → AnswersSimulation Is policy trace a
+      → Writes a before after code → SimulatesTruly Says policy trace before.written after.written code
+  simulates_truly Is comes policy trace before after code (answer.Checked c) texts writes = elim (code_among _ _ _ _ writes) [
+    | inr e ↦ stopped_simulation policy trace before.written after.written code (at_5 e)
+    | inl e ↦ unplayed policy trace c texts.text before.written after.written code texts.policy_read texts.answers.0 texts.answers.1 e (whole _ _ _ _ writes (λ five. (no_stop (answer.Checked c)).1 (sym e ∙ five)))
+  ]
+  simulates_truly Is comes policy trace before after code (answer.Explained told) is writes = absurd is
+  simulates_truly Is comes policy trace before after code (answer.Proved certs) is writes = absurd is
+  simulates_truly Is comes policy trace before after code (answer.Verified v) is writes = absurd is
+  simulates_truly Is comes policy trace before after code (answer.Played outcome) is writes = absurd is
+  simulates_truly Is comes policy trace before after code (answer.Simulated s) texts writes = elim (code_among _ _ _ _ writes) [
+    | inr e ↦ stopped_simulation policy trace before.written after.written code (at_5 e)
+    | inl e ↦ came_truly policy trace texts.answers.0 texts.jobs (may_hold policy trace texts.text texts.jobs texts.answers.0 texts.policy_read texts.trace_read texts.answers.1) Says
+        (joined (simulations.lines_of s)) before.written after.written code (comes texts.answers.0 texts.jobs s code texts.answers.2 e)
+        (whole _ _ _ _ writes (λ five. (no_stop (answer.Simulated s)).1 (sym e ∙ five)))
+  ]
+  simulates_truly Is comes policy trace before after code (answer.Judged outcome) is writes = absurd is
+  simulates_truly Is comes policy trace before after code (answer.Made text) is writes = absurd is
+  simulates_truly Is comes policy trace before after code (answer.Benched told) is writes = absurd is
+  simulates_truly Is comes policy trace before after code (answer.TooLong kind.Policy) long writes = elim (code_among _ _ _ _ writes) [
+    | inr e ↦ stopped_simulation policy trace before.written after.written code (at_5 e)
+    | inl e ↦ long_simulation policy trace before.written after.written code (λ text jobs held also. not_long kind.Policy policy text long held) e
+  ]
+  simulates_truly Is comes policy trace before after code (answer.TooLong kind.Trace) long writes = elim (code_among _ _ _ _ writes) [
+    | inr e ↦ stopped_simulation policy trace before.written after.written code (at_5 e)
+    | inl e ↦ long_simulation policy trace before.written after.written code (λ text jobs held also. not_long kind.Trace trace jobs long.1 also) e
+  ]
+  simulates_truly Is comes policy trace before after code (answer.TooLong kind.History) is writes = absurd is
+  simulates_truly Is comes policy trace before after code (answer.TooLong kind.Certificates) is writes = absurd is
+  simulates_truly Is comes policy trace before after code answer.BadWords is writes = absurd is
+
+pub simulates : (policy trace : Told) (before after : Shown) (code : ℕ) (a : Answer) → AnswersSimulation IsSimulationOf policy trace a
+    → Writes a before after code → SimulatesTruly SaysHistory policy trace before.written after.written code
+simulates = simulates_truly SaysHistory IsSimulationOf simulation_comes
+
+pub wastes : (policy trace : Told) (before after : Shown) (code : ℕ) (a : Answer) → AnswersSimulation IsWasteOf policy trace a
+    → Writes a before after code → SimulatesTruly SaysWaste policy trace before.written after.written code
+wastes = simulates_truly SaysWaste IsWasteOf waste_comes
