@@ -13,7 +13,7 @@ use std::sync::{OnceLock, Wait};
 use std::thread::Threads;
 
 /// How often a core looks for the other one.
-const LOOKS: u32 = 50_000_000;
+const LOOKS: u32 = 2_000_000_000;
 
 /// A gate at which two cores wait for each other.
 #[derive(Drop)]
