@@ -53,6 +53,9 @@ class Policy:
             self.handler()
         self.next()
         self.filter = self.condition()
+        while self.peek() not in ("while", ""):
+            self.next()
+        self.batch = self.condition() if self.takes("while") else None
 
     def range(self):
         low = self.integer()
@@ -145,6 +148,8 @@ def obligations(policy):
     yield "B1", f"(and {fit} (= |self.nr| 0) (>= |victim.nr| 2) (not {policy.filter}))"
     yield "B2", f"(and {fit} {policy.filter} (not (>= |victim.nr| 2)))"
     yield "B3", f"(and {fit} {policy.filter} {queued} (not {narrows}))"
+    if policy.batch is not None:
+        yield "B4", f"(and {fit} {policy.batch} (>= |victim.nr| 1) {queued} (not {narrows}))"
     for event in EVENTS:
         guards = policy.guards[event]
         pairs = [f"(and {one} {other})" for at, one in enumerate(guards) for other in guards[at + 1:]]

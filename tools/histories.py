@@ -4,23 +4,25 @@ import re
 from collections import namedtuple
 
 MOST_CORES = 64
+FIRST_FORMAT_CORES = 32
 MOST_STOLEN = 8
-CORES = (0, MOST_CORES - 1)
-RANGES = {
-    "round": (1, 4096), "last": (1, 4096), "thread": (1, 1023), "core": CORES, "target": CORES, "victim": CORES,
-}
+MOST_READ = 65536
+RANGES = {"round": (1, 4096), "last": (1, 4096), "thread": (1, 1023), **dict.fromkeys(["core", "target", "victim"], (0, MOST_CORES - 1))}
 MAX_LINES = {"history": 65536, "report": 200000}
 
+# In the second format no colon stands where nothing is read, and in the first there always is one.
 HISTORY_FORMS = {
     "round": "round <round>",
-    "enter": "enter <thread> <core> <target> :<reads>",
-    "wake": "wake <thread> <core> <target> :<reads>",
+    "enter": "enter <thread> <core> <target><reads>",
+    "wake": "wake <thread> <core> <target><reads>",
     "nothing": "work <core> -",
     "work": "work <core> <thread> <outcome>",
-    "steal": "steal <core> <victim> <threads> :<reads>",
-    "fail": "fail <core> <victim> :<reads>",
-    "pass": "pass <core> :<reads>",
+    "steal": "steal <core> <victim> <threads><reads>",
+    "fail": "fail <core> <victim><reads>",
+    "pass": "pass <core><reads>",
 }
+MAY_READ_NOTHING = ("enter", "wake")
+HEADER = re.compile(rb"history 2 cores ([1-9][0-9]?)")
 
 REPORT_FORMS = {
     "round": "round <round> spread <spread> idle <idle>",
@@ -46,10 +48,18 @@ class Refused(Exception):
     """The text isn't of the form. The argument says where."""
 
 
+class History(list):
+    """The entries of a history. `cores` is the number that its header names, or None in the first format, which has no header."""
+
+    cores = None
+
+
 def pattern(form):
     """The regular expression of a form, with a group for each word in angle brackets."""
     number = r"0|[1-9][0-9]{0,18}"
-    words = {"outcome": "keep|queue|block|end", "reads": rf"(?: (?:{number}))*", "threads": rf"(?:{number})(?: (?:{number}))*"}
+    words = {
+        "outcome": "keep|queue|block|end", "threads": rf"(?:{number})(?: (?:{number}))*", "reads": rf"(?: :(?: (?:{number}))*)?",
+    }
     return re.compile(re.sub(r"<(\w+)>", lambda name: f"(?P<{name[1]}>{words.get(name[1], number)})", form))
 
 
@@ -66,34 +76,79 @@ def read_line(text, patterns):
 def value_of(name, word):
     if name == "outcome":
         return word
-    return [int(part) for part in word.split()] if name in ("reads", "threads") else int(word)
+    return [int(part) for part in word.replace(":", "").split()] if name in ("reads", "threads") else int(word)
 
 
 def is_in_range(name, value):
     if name == "reads":
-        return len(value) <= MOST_CORES and all(read <= 65536 for read in value)
+        return len(value) <= MOST_CORES and all(read <= MOST_READ for read in value)
     if name == "threads":
         return len(value) <= MOST_STOLEN and all(is_in_range("thread", thread) for thread in value)
     return name not in RANGES or RANGES[name][0] <= value <= RANGES[name][1]
 
 
-def read_lines(data, what, forms):
-    """The lines of the text, each of one of the forms and ended by a line feed."""
+def read_lines(data, what, forms, before=0):
+    """The lines of the text, each of one of the forms and ended by a line feed. So many lines stand before it."""
     patterns = {kind: pattern(form) for kind, form in forms.items()}
     parts = data.decode("ascii", "replace").split("\n")
     lines = []
     for number, text in enumerate(parts[:-1], 1):
         line = read_line(text, patterns)
         if line is None or number > MAX_LINES[what]:
-            raise Refused(f"line {number} is no line of a {what}")
+            refuse_line(number + before, what)
         lines.append(line)
     if parts[-1]:
-        raise Refused(f"line {len(parts)} is no line of a {what}: no line feed ends it")
+        raise Refused(f"line {len(parts) + before} is no line of a {what}: no line feed ends it")
     return lines
 
 
+def refuse_line(number, what="history"):
+    raise Refused(f"line {number} is no line of a {what}")
+
+
 def read_history(data):
-    return read_lines(data, "history", HISTORY_FORMS)
+    """The entries of a history of either format. Their reads are positions, whatever the text has."""
+    first, feed, rest = data.partition(b"\n")
+    if first.split(b" ")[0] != b"history":
+        return in_first_format(data)
+    header = HEADER.fullmatch(first)
+    if header is None or not feed or int(header[1]) > MOST_CORES:
+        refuse_line(1)
+    return in_second_format(rest, int(header[1]))
+
+
+def in_first_format(data):
+    history = History(read_lines(data, "history", HISTORY_FORMS))
+    for number, line in enumerate(history, 1):
+        cores = [line.values[name] for name in ("core", "target", "victim") if name in line.values]
+        reads = line.values.get("reads", [])
+        if max([*cores, len(reads) - 1], default=0) >= FIRST_FORMAT_CORES or ("reads" in line.values) != (" :" in line.text):
+            refuse_line(number)
+    return history
+
+
+def in_second_format(data, cores):
+    """The entries behind the header. A read is written as its distance from the start of the round, and there is one for each core."""
+    history = History(read_lines(data, "history", HISTORY_FORMS, 1))
+    history.cores = cores
+    start = 0
+    for number, line in enumerate(history, 1):
+        if "reads" in line.values:
+            check_distances(line, cores, number + 1)
+            line.values["reads"] = [start + distance for distance in line.values["reads"]]
+            if any(read > MOST_READ for read in line.values["reads"]):
+                refuse_line(number + 1)
+        if line.kind == "round":
+            start = number
+    return history
+
+
+def check_distances(line, cores, number):
+    """There are as many as cores, or none and no colon where nothing has to be read."""
+    count, has_colon = len(line.values["reads"]), " :" in line.text
+    nothing = line.kind in MAY_READ_NOTHING and not has_colon
+    if not nothing and count != cores:
+        refuse_line(number)
 
 
 def read_report(data):
@@ -131,7 +186,9 @@ def threads_of(values):
 
 
 def cores_of(history):
-    """How many cores the entries name. An entry with reads has one for each core."""
+    """How many cores the header names, or else the entries. An entry with reads has one for each core."""
+    if history.cores is not None:
+        return history.cores
     named = [line.values[name] + 1 for line in history for name in ("core", "target", "victim") if name in line.values]
     reads = [len(line.values["reads"]) for line in history if "reads" in line.values]
     return max(named + reads, default=0)

@@ -9,12 +9,12 @@ if expand('%:e') ==# 'trace'
   syntax keyword ipanemaStatement cores rounds entries core thread order
   syntax keyword ipanemaKeyword round weight run yield block forever
 elseif expand('%:e') ==# 'history'
-  syntax keyword ipanemaStatement round enter wake work steal fail pass
-  syntax keyword ipanemaKeyword keep queue block end
+  syntax keyword ipanemaStatement history round enter wake work steal fail pass
+  syntax keyword ipanemaKeyword cores keep queue block end
 else
   syntax match ipanemaComment /#.*/
   syntax keyword ipanemaStatement policy load place elect on filter choose steal
-  syntax keyword ipanemaKeyword thread in start here min max first when always and or not
+  syntax keyword ipanemaKeyword thread in start here min max first when while limit prefer always and or not
   syntax keyword ipanemaKeyword count weight enqueue tick yield block queue keep
   syntax match ipanemaKeyword /\<core\>/
   syntax match ipanemaReference /\<\%(self\|victim\|core\|t\)\s*\.\s*\h\w*/

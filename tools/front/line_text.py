@@ -152,14 +152,22 @@ def of_trace(text, number, word, ranges):
 
 # Histories: each form as its words, where a letter stands for a number. `T..` is one to eight threads.
 
-ENTRIES = ["round R", "enter T A C :", "wake T A C :", "work A -", "work A T keep", "work A T queue", "work A T block", "work A T end"]
-ENTRIES += ["steal A V T.. :", "fail A V :", "pass A :"]
+WORKS = ["work A -", "work A T keep", "work A T queue", "work A T block", "work A T end"]
+ATTEMPTS = ["steal A V T.. :", "fail A V :", "pass A :"]
+FIRST_FORMAT = ["round R", "enter T A C :", "wake T A C :", *WORKS, *ATTEMPTS]
+SECOND_FORMAT = ["round R", "enter T A C", "enter T A C :", "wake T A C", "wake T A C :", *WORKS, *ATTEMPTS]
 STOLEN = 8
-ENDS = {"R": ("a round", 1, 4096), "T": ("a thread", 1, 1023), **dict.fromkeys("ACV", ("a core", 0, CORES - 1))}
-READ = ("a position", 0, 65536)
+FIRST_FORMAT_CORES = 32
+MOST_ENTRIES = 65536
+HEADER = "history 2 cores N"
 
 
-def matched(form, words):
+def ends_of(cores):
+    """What each letter stands for, with the ends of its range."""
+    return {"R": ("a round", 1, 4096), "T": ("a thread", 1, 1023), **dict.fromkeys("ACV", ("a core", 0, cores - 1))}
+
+
+def matched(form, words, ends, read):
     """The numbers of a line by that form, each with its range and its place; nothing where it has another form."""
     parts = form.split(" ")
     if len(words) < len(parts) or (len(words) > len(parts) and parts[-1] != ":"):
@@ -167,13 +175,13 @@ def matched(form, words):
     found = []
     for n, (word, column) in enumerate(words):
         part = parts[n] if n < len(parts) else "READ"
-        if part not in ENDS and part != "READ":
+        if part not in ends and part != "READ":
             if word != part:
                 return None
         elif not word.isdigit():
             return None
         else:
-            found.append((word, column, *ENDS.get(part, READ)))
+            found.append((word, column, *ends.get(part, read)))
     return found
 
 
@@ -182,24 +190,57 @@ def spelled(form):
     return [form.replace("T..", " ".join("T" * count)) for count in range(1, STOLEN + 1)] if "T.." in form else [form]
 
 
-def of_history(text, number):
-    """The column and a sentence for the first bad line of a history."""
-    if number > 65536:
-        return 1, "a history has at most 65536 lines"
-    line = text.split(b"\n", number)[number - 1]
+def of_history(text, number, cores):
+    """The column and a sentence for the first bad line of a history, beside a trace of so many cores."""
+    lines = text.split(b"\n")
+    if lines[0].split(b" ")[0] != b"history":
+        return of_entry(lines, number, 0, FIRST_FORMAT, ends_of(FIRST_FORMAT_CORES), ("a position", 0, MOST_ENTRIES), None)
+    if number == 1:
+        return of_header(lines, cores)
+    start = max([at for at in range(1, number - 1) if lines[at].startswith(b"round ")], default=0)
+    read = ("a distance", 0, MOST_ENTRIES - start)
+    return of_entry(lines, number, 1, SECOND_FORMAT, ends_of(CORES), read, cores)
+
+
+def of_header(lines, cores):
+    """The same for the first line of the second format."""
+    found = re.fullmatch(rb"history 2 cores ([1-9][0-9]*)", lines[0])
+    if found is None:
+        return 1, f"the first line of a history is `{HEADER}`, or its first entry where it is of the first format"
+    if int(found[1][:25]) != cores:
+        return found.start(1) + 1, f"this history is of {found[1][:25].decode()} cores, and the trace has {cores}"
+    return len(lines[0]) + 1, "the last line lacks its line feed"
+
+
+def of_entry(lines, number, before, entries, ends, read, cores):
+    """The same for a line that is to be an entry, of a text with so many lines before its entries. An entry that reads, reads
+    as many cores as the trace has, where that number is given.
+    """
+    if number > MOST_ENTRIES + before:
+        return 1, f"a history has at most {MOST_ENTRIES} entries"
+    line = lines[number - 1]
     words = [(it.group().decode("latin-1"), it.start() + 1) for it in re.finditer(rb"[^ ]+", line)]
-    fitting = [found for entry in ENTRIES for form in spelled(entry) if (found := matched(form, words)) is not None]
+    fitting = [found for entry in entries for form in spelled(entry) if (found := matched(form, words, ends, read)) is not None]
     if not fitting:
-        first = words[0][0] if words else ""
-        forms = [f"`{it}{' P P ..' if it[-1] == ':' else ''}`" for it in ENTRIES if it.split(" ")[0] == first]
-        return 1, f"the form of this line is {' or '.join(forms)}, and it has another" if forms else "no entry begins so; entries begin with `round`, `enter`, `wake`, `work`, `steal`, `fail` and `pass`"
+        return 1, of_form(words[0][0] if words else "", entries)
     for word, column, what, low, high in fitting[0]:
         if not low <= int(word[:25]) <= high:
             return column, outside(word, low, high, what)
         if len(word) > 1 and word[0] == "0":
             return column, f"{word} has a zero before it, and is spelled {int(word)}"
-    if number > text.count(b"\n"):
+    if number == len(lines):
         return len(line) + 1, "the last line lacks its line feed"
     if b" ".join(word.encode("latin-1") for word, _ in words) != line:
         return 1, "one blank stands between two words, and none before or behind them"
+    count = sum(what == read[0] for _, _, what, _, _ in fitting[0])
+    if cores and ":" in (word for word, _ in words) and count != cores:
+        return len(line) + 1, f"behind the colon stands a distance for each core of the trace: {cores}, and here {count}"
     return 1, "this is no line of a history"
+
+
+def of_form(first, entries):
+    """Which forms a line may have that begins with that word."""
+    forms = [f"`{it}{' P P ..' if it[-1] == ':' else ''}`" for it in entries if it.split(" ")[0] == first]
+    if forms:
+        return f"the form of this line is {' or '.join(forms)}, and it has another"
+    return "no entry begins so; entries begin with `round`, `enter`, `wake`, `work`, `steal`, `fail` and `pass`"

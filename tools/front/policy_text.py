@@ -7,7 +7,7 @@ import os
 import re
 
 RESERVED = """policy load count weight core thread in start place here min max elect choose steal first on enqueue tick yield
-block when queue keep filter and or not always self victim t nr fresh""".split()
+block when queue keep filter and or not always self victim t while limit prefer nr fresh""".split()
 EVENTS = ["enqueue", "tick", "yield", "block"]
 COMPARISONS = ["==", "!=", "<", "<=", ">", ">="]
 TOKEN = re.compile(r"(?P<blank>[ \t\r\n]+|#[^\n]*)|(?P<word>[A-Za-z][A-Za-z0-9_]*)|(?P<number>[0-9]+)|(?P<symbol>\.\.|[=!<>]=|[.,:(){}+*=<>-])")
@@ -136,7 +136,16 @@ class Conditions:
         return found
 
     def filter(self):
-        return next(self.read(n + 1) for n, it in enumerate(self.tokens) if it.text == "filter" and self.tokens[n - 1].text != ".")
+        return self.behind("filter")
+
+    def batch(self):
+        """The condition behind `while`, if there is one."""
+        return self.behind("while")
+
+    def behind(self, word):
+        """The condition behind that word, if it stands anywhere but as an attribute."""
+        at = next((n for n, it in enumerate(self.tokens) if it.text == word and self.tokens[n - 1].text != "."), None)
+        return None if at is None else self.read(at + 1)
 
     def read(self, at):
         self.at = at
@@ -172,7 +181,7 @@ class Conditions:
         """Whether the right side of a comparison has ended."""
         token = self.tokens[self.at]
         behind_dot = self.tokens[self.at - 1].text == "."
-        return not behind_dot and token.text in ("and", "or", ")", ":", "choose")
+        return not behind_dot and token.text in ("and", "or", ")", ":", "choose", "limit")
 
 
 def count_of(outcome, cond):
@@ -200,6 +209,9 @@ def count_of(outcome, cond):
 def cases_of(tokens, name):
     """The number of cases of the obligation of that name, and how many comparisons count twice there; None for an unknown one."""
     conditions = Conditions(tokens)
+    if name == "B4":
+        batch = conditions.batch()
+        return (0, 0) if batch is None else count_of(True, batch)
     if name[0] == "B":
         return count_of(name != "B1", conditions.filter()) if name in ("B1", "B2", "B3") else None
     guards = conditions.guards(name[3:])

@@ -1,7 +1,7 @@
 # What the front adds to the program's answers, on standard error alone: its status and its output stay as they are. To be read by a
 # script of bash that has set `front`, the folder of this file. Sentences on a fault need python3; without it they are left out.
 
-commands=(check explain prove verify play run simulate waste replay report make bench)
+commands=(check explain prove verify play run simulate waste replay report migrate make bench)
 obligations=(B1 B2 B3 B4 {H1,H2}.{enqueue,tick,yield,block})
 
 say() {
@@ -21,6 +21,7 @@ usage_of() {
     waste) say '  ipanema waste POLICY TRACE              what did that history waste, and why did its steals fail?' ;;
     replay) say '  ipanema replay POLICY TRACE HISTORY     is that history whole?' ;;
     report) say '  ipanema report POLICY TRACE HISTORY     what did that history waste, and why did its steals fail?' ;;
+    migrate) say '  ipanema migrate POLICY TRACE HISTORY    write that history in the format of today, if it is whole' ;;
     make) say '  ipanema make SEED SIZE                  write a made trace of SIZE threads, 1 to 1023, drawn from a number SEED' ;;
     bench) say '  ipanema bench SEED SIZE                 play that trace under a built-in policy, and count' ;;
   esac
@@ -69,7 +70,7 @@ say_near() {
 words_of() {
   case "$1" in
     check | prove) echo 1 ;;
-    replay | report) echo 3 ;;
+    replay | report | migrate) echo 3 ;;
     *) echo 2 ;;
   esac
 }
@@ -141,7 +142,7 @@ say_not_accepted() {
   [ "$1" -eq 1 ] || verdict='undecided'
   case "$2" in
     prove) what='proved' ;;
-    replay | report) what='judged' ;;
+    replay | report | migrate) what='judged' ;;
   esac
   say "ipanema: the policy is $verdict, so nothing was $what; \`ipanema explain ${3@Q} NAME\` says more of a line above"
 }
@@ -179,7 +180,7 @@ answer() {
       4,*) say_file "$@" ;;
       2,* | 10,*) say_fault "$status" "$program" "$@" ;;
       [13],simulate | [13],waste) say_not_playable "$@" ;;
-      [13],prove | [13],play | [13],run | [13],replay | [13],report) say_not_accepted "$status" "$@" ;;
+      [13],prove | [13],play | [13],run | [13],replay | [13],report | [13],migrate) say_not_accepted "$status" "$@" ;;
     esac
   } >/dev/null
   exit "$status"

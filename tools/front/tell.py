@@ -17,7 +17,7 @@ import line_text as lines
 FILES = {"check": ["policy"], "explain": ["policy"], "play": ["policy", "trace"], "run": ["policy", "trace"]}
 FILES.update({"prove": ["policy"], "verify": ["policy", "certs"]})
 FILES.update(dict.fromkeys(["simulate", "waste"], ["policy", "trace"]))
-FILES.update(dict.fromkeys(["replay", "report"], ["policy", "trace", "history"]))
+FILES.update(dict.fromkeys(["replay", "report", "migrate"], ["policy", "trace", "history"]))
 LONGEST = {"policy": 65536, "trace": 4194304, "history": 33554432, "certs": 33554432}
 SECONDS = 60
 
@@ -113,6 +113,7 @@ def of_many(text, at, tokens):
     word = next(it.text for it in tokens if it.at == at)
     most = {"core": "8 attributes of cores", "thread": "8 attributes of threads", "when": "8 cases of one handler"}
     most.update({"t": "8 assignments of one case", "min": "4 keys of one order", "max": "4 keys of one order"})
+    most["prefer"] = "4 keys of one order"
     most.update(dict.fromkeys(policies.COMPARISONS, "16 comparisons of one condition"))
     return f"{quoted(word)} is one too many: there may be {most.get(word, '32 operators of one expression')}"
 
@@ -153,6 +154,7 @@ HERE = {
     "place": "`place` sees `core` alone, with `nr`, `load` and attributes of cores",
     "elect": "`elect` sees `t` alone, with `weight` and attributes of threads",
     "steal": "`steal` sees `t` alone, with `weight` and attributes of threads",
+    "while": "the condition after `while` sees `self` and `victim`, with `nr`, `load` and attributes of cores, and `t`, with `weight` and attributes of threads",
     "filter": "`filter` sees `self` and `victim`, with `nr`, `load` and attributes of cores",
     "choose": "`choose` sees `self` and `victim`, with `nr`, `load` and attributes of cores",
     "on": "a handler sees `t`, with `weight` and attributes of threads, and of `self` the attributes of cores; `t.fresh` only on `enqueue`",
@@ -177,6 +179,8 @@ def of_bad_range(text, at, tokens):
     n = next(n for n, it in enumerate(tokens) if it.at == at)
     if tokens[n - 1].text == "weight":
         return "a range of weights lies within 1..1048575, the lesser end first"
+    if tokens[n - 1].text == "limit":
+        return "one steal moves 1 to 8 threads"
     return "a range of an attribute lies within -1048575..1048575, the lesser end first, and its start lies in it"
 
 
@@ -215,12 +219,14 @@ def of_policy(file, text, at, word):
 # The faults of a trace and of a history are told by line_text.
 
 
-def of_lines(kind, file, text, number, word, policy):
-    if kind == "trace":
-        ranges = {"weight": weight_range(policy), "core": attributes(policy, "core")}
-        column, sentence = lines.of_trace(text, number, word, ranges)
-    else:
-        column, sentence = lines.of_history(text, number)
+def of_trace(file, text, number, word, policy):
+    ranges = {"weight": weight_range(policy), "core": attributes(policy, "core")}
+    column, sentence = lines.of_trace(text, number, word, ranges)
+    return f"{file}:{number}:{column}: {sentence}"
+
+
+def of_history(file, text, number, trace):
+    column, sentence = lines.of_history(text, number, lines.cores_of(trace.split(b"\n")))
     return f"{file}:{number}:{column}: {sentence}"
 
 
@@ -251,7 +257,7 @@ def of_too_many(file, text, name):
     count, twice = found
     said = f"{file}: {name} has {count:,} cases, and at most 256 are decided"
     if not twice:
-        return said + (". Their numbers multiply where an `or` stands below an `and`" if name in ("B2", "B3") else ". Their numbers multiply where an `and` stands below an `or`")
+        return said + (". Their numbers multiply where an `or` stands below an `and`" if name in ("B2", "B3", "B4") else ". Their numbers multiply where an `and` stands below an `or`")
     asks = "asks where it is false, so there each `==` counts twice" if name == "B1" or name[:2] == "H2" else "counts each `!=` twice, and each `==` under a `not`"
     return f"{said}. It {asks}: here {twice} do. `self.nr < 1` says what `self.nr == 0` says, and counts once"
 
@@ -281,8 +287,10 @@ def sentence(status, program, command, words):
     kind, *rest = ran.stdout.decode("ascii").split("\n")[0].split(" ")
     if kind == "policy":
         return of_policy(names["policy"], texts["policy"], int(rest[0]), rest[1])
-    if kind in ("trace", "history"):
-        return of_lines(kind, names[kind], texts[kind], int(rest[0]), rest[1], policies.tokens_of(texts["policy"]))
+    if kind == "trace":
+        return of_trace(names[kind], texts[kind], int(rest[0]), rest[1], policies.tokens_of(texts["policy"]))
+    if kind == "history":
+        return of_history(names[kind], texts[kind], int(rest[0]), texts["trace"])
     if kind == "certs":
         return of_certs(names[kind], texts[kind], int(rest[0]))
     if kind == "too-long":

@@ -1,4 +1,3 @@
-pub mod Once
 pub mod Steps
 pub mod Moving
 pub mod Reached

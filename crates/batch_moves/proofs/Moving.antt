@@ -19,9 +19,10 @@ use Rattle.round_model.proofs.Takings.{found-more, left-more, one_found, one_han
 use Rattle.run_queue.specs.Tasks.{IsSeenTask}
 use Rattle.core_state.specs.Views.{CoreView}
 use Rattle.batch_moves.specs.Code.Moved.{IsMoved}
-use Rattle.batch_moves.specs.Sides.{InEachPlan, MayTake, StandOnce}
-use Rattle.batch_moves.proofs.Once.{best-found, once-without}
-use Rattle.batch_moves.proofs.Steps.{moves-some, one-further}
+use Rattle.round_model.specs.Moves.{StandOnce}
+use Rattle.batch_moves.specs.Sides.{InEachPlan, MayTake}
+use Rattle.round_model.proofs.Once.{best-found, once-without}
+use Rattle.round_model.proofs.MoveSteps.{moves-some, one-further}
 
 -- the view with another core
 abbrev pub with_core : CoreView → ModelCore → CoreView

@@ -1,8 +1,6 @@
 -- Threads may go over between two cores that a legal history leaves.
-use Rattle.std.proofs.Common.{◌≡◌, ◌≢◌, ℕ, ◌<◌, ℤ, cond, List, count_by, length, option_to_list, slice_get, Some, sym, ap, subst, arith}
-use Rattle.std.proofs.lemmas.List.Sums.{sum_by-append}
+use Rattle.std.proofs.Common.{◌≡◌, ◌≢◌, ℕ, ◌<◌, ℤ, List, length, slice_get, Some, sym, ap, subst, arith}
 use Rattle.std.proofs.lemmas.Option.{get_or_from_slice_get}
-use Rattle.sched_base.specs.declared.task.Task.{Task}
 use Rattle.policy_tree.specs.Meaning.{Meaning}
 use Rattle.policy_eval.specs.Obligations.{MeetsHandlerObligations}
 use Rattle.policy_eval.specs.Ranges.{AreIn, attribute_ranges}
@@ -13,15 +11,15 @@ use Rattle.round_model.specs.declared.state.ModelCore.{ModelCore}
 use Rattle.round_model.specs.After.{after}
 use Rattle.round_model.specs.Bounds.{CoreInBounds, standing_count}
 use Rattle.round_model.specs.BoundsLaws.{IsBounded}
-use Rattle.round_model.specs.Cores.{Cores, consts_of, tasks_of}
+use Rattle.round_model.specs.Cores.{consts_of}
 use Rattle.round_model.specs.Fits.{Fits}
 use Rattle.round_model.specs.Legal.{Legal}
-use Rattle.round_model.specs.Moves.{is_task}
+use Rattle.round_model.specs.Moves.{StandOnce}
 use Rattle.round_model.proofs.Bounded.{bounds_law}
 use Rattle.round_model.proofs.Finding.{All-at}
-use Rattle.round_model.proofs.Totals.{total_has, total_is}
+use Rattle.round_model.proofs.Once.{queues_once}
 use Rattle.core_state.specs.Views.{CoreView}
-use Rattle.batch_moves.specs.Sides.{MayTake, StandOnce}
+use Rattle.batch_moves.specs.Sides.{MayTake}
 
 -- the constants of a core of the plan lie in their ranges
 pub consts_in : (p : Meaning) (plan : Plan) → Fits p plan → (c : ℕ) (consts : List ℤ) → slice_get plan.consts c ≡ Some consts → AreIn (attribute_ranges p.core_attrs) consts
@@ -30,20 +28,9 @@ consts_in p plan fits c consts is = All-at (AreIn (attribute_ranges p.core_attrs
 pub consts_are : (plan : Plan) (c : ℕ) (consts : List ℤ) → slice_get plan.consts c ≡ Some consts → consts ≡ consts_of plan c
 consts_are plan c consts is = sym (get_or_from_slice_get plan.consts c consts no_attributes is)
 
--- how many tasks of that number a core has
-abbrev standing_of : ℕ → ModelCore → ℕ
-standing_of id core = count_by (is_task id) (tasks_of core)
-
 module _ (p : Meaning) (plan : Plan) (fits : Fits p plan) (handlers : MeetsHandlerObligations p) (h : List Entry) (legal : Legal p plan h) where
   bounded : IsBounded p plan h
   bounded = bounds_law p plan h fits handlers legal
-
-  -- no thread stands twice in a queue
-  once_queued : (c : ℕ) → c < plan.cores → StandOnce (after p plan h c).queue
-  once_queued c there id =
-      let m : Cores = after p plan h in let core : ModelCore = m c in let one : Task → ℕ = λ t. cond (is_task id t) 1 0 in
-      let all = bounded.once id in let here = total_has (standing_of id) plan.cores m c there in
-      omega (arith, all, here, total_is (standing_of id) plan.cores m, sum_by-append one (option_to_list core.current) core.queue)
 
   pub may_take : (a v : ℕ) (y z : CoreView) → a < plan.cores → v < plan.cores → a ≢ v → y.core ≡ after p plan h a → y.room ≡ length plan.threads
       → z.core ≡ after p plan h v → MayTake p y z
@@ -56,5 +43,5 @@ module _ (p : Meaning) (plan : Plan) (fits : Fits p plan) (handlers : MeetsHandl
         victim_bounds = subst (CoreInBounds p) (sym other) (bounded.bounds.each v second);
         room = omega (arith, both, at_first, at_second, room);
         few = omega (arith, fits.few_threads, room);
-        once = subst (λ (core : ModelCore). StandOnce core.queue) (sym other) (once_queued v second);
+        once = subst (λ (core : ModelCore). StandOnce core.queue) (sym other) (queues_once p plan h fits handlers legal v second);
       }

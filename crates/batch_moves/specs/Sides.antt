@@ -1,17 +1,12 @@
 -- Two cores between which threads may move, and what is said of them by their plan.
-use Rattle.std.specs.Prelude.{◌≡◌, ℕ, ◌+◌, ◌≤◌, ℤ, List, count_by}
+use Rattle.std.specs.Prelude.{◌≡◌, ℕ, ◌+◌, ◌≤◌, ℤ, List}
 use Rattle.sched_base.specs.declared.limits.TheConstants.{MAX_THREADS}
-use Rattle.sched_base.specs.declared.task.Task.{Task}
 use Rattle.policy_tree.specs.Meaning.{Meaning}
 use Rattle.round_model.specs.declared.plan.Plan.{Plan}
 use Rattle.round_model.specs.Bounds.{CoreInBounds, standing_count}
 use Rattle.round_model.specs.Cores.{consts_of}
-use Rattle.round_model.specs.Moves.{is_task}
+use Rattle.round_model.specs.Moves.{StandOnce}
 use Rattle.core_state.specs.Views.{CoreView}
-
--- no number stands twice among the tasks
-abbrev pub StandOnce : List Task → Type 0
-StandOnce tasks = (id : ℕ) → count_by (is_task id) tasks ≤ 1
 
 -- threads of the victim may go over to the thief: each core is in bounds, the thief has room for all that stand at
 -- both, and no number stands twice in the victim's queue

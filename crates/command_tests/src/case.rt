@@ -10,6 +10,7 @@
 //! - `load N`, `put N`: the load or the put of that number fails, from 0;
 //! - `bite N`: a put takes at most so many bytes;
 //! - `times N`: the call is made so often, and each must answer so;
+//! - `whole N`: `replay` under the same policy and trace finds what is written whole, and of N entries;
 //! - `cut NAME`: the call is made with each beginning of that file that lacks more than its last line feed;
 //! - `cut NAME LINE`: it is made with each that ends within that line, from 1;
 //! - `into NAME`: what the last call wrote becomes the file of that name.

@@ -101,7 +101,7 @@ pub(crate) fn two_cores_meet<R: Threads + Wait + Sync>(
     let files = one_steal::files(alloc)?;
     let sink = sink(alloc, None, Vec::new(alloc))?;
     let answer = call_past(rt, alloc, &words, files, sink, &gate)?;
-    let Ok(history) = read_history(alloc, answer.bytes.as_slice()) else {
+    let Ok(history) = read_history(alloc, answer.bytes.as_slice(), 2) else {
         return Ok(false);
     };
     Ok(

@@ -11,8 +11,8 @@ const TRACE: &str =
 
 /// The history that `play` writes.
 pub(crate) const HISTORY: &str =
-    "round 1\nenter 1 0 0 :\nenter 2 0 0 :\nwork 0 1 keep\npass 0 : 4 1\nwork 1 -\n\
-    steal 1 0 2 : 5 6\n";
+    "history 2 cores 2\nround 1\nenter 1 0 0\nenter 2 0 0\nwork 0 1 keep\npass 0 : 3 0\nwork 1 -\n\
+    steal 1 0 2 : 4 5\n";
 
 /// The policy as the file `p`, and the trace as `t`.
 pub(crate) fn files(alloc: Global) -> Result<MemoryFiles, AllocError> {

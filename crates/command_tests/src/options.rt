@@ -23,6 +23,8 @@ pub(crate) struct Options<'a> {
     pub(crate) bite: Option<u64>,
     /// How often the call is made.
     pub(crate) times: u64,
+    /// Of how many entries `replay` is to find what is written whole.
+    pub(crate) whole: Option<u64>,
     /// The file that what is written becomes.
     pub(crate) into: Option<&'a str>,
     /// The file of which each call finds another beginning.
@@ -37,6 +39,7 @@ impl<'a> Options<'a> {
             puts: Vec::new(alloc),
             bite: None,
             times: 1,
+            whole: None,
             into: None,
             cut: None,
         }
@@ -59,6 +62,7 @@ impl<'a> Options<'a> {
             "put" => self.puts.push(number(value)?)?,
             "bite" => self.bite = Some(number(value)?),
             "times" => self.times = number(value)?,
+            "whole" => self.whole = Some(number(value)?),
             "into" => self.into = Some(value),
             "cut" => self.cut = Some(read_cut(value)?),
             _ => return Err(Misread::Form),

@@ -20,7 +20,7 @@ use std::thread::Threads;
 use std::{fs, io};
 
 /// The tables, in the order in which they are played.
-const TABLES: [&str; 12] = [
+const TABLES: [&str; 14] = [
     "statuses.cases",
     "words.cases",
     "check.cases",
@@ -30,6 +30,8 @@ const TABLES: [&str; 12] = [
     "simulate.cases",
     "run.cases",
     "histories.cases",
+    "batches.cases",
+    "migrate.cases",
     "made.cases",
     "hostile.cases",
     "sizes.cases",
@@ -48,6 +50,9 @@ enum Outcome {
 
 /// How many bytes of an answer that wasn't expected are printed at most.
 const SHOWN: usize = 400;
+
+/// The name under which what a call wrote is judged.
+const WRITTEN: &str = "written";
 
 /// Plays all tables.
 pub(crate) fn play_tables<R: Files + Print + Alloc + Threads + Wait + Sync>(
@@ -132,7 +137,7 @@ fn play_case<R: Threads + Wait + Sync>(
     let mut last = None;
     for turn in turns(shelf, case)? {
         let answer = play_turn(rt, alloc, shelf, case, turn)?;
-        if !case.expected.accepts(&answer) {
+        if !case.expected.accepts(&answer) || !is_whole(rt, alloc, shelf, case, &answer)? {
             return Ok(Outcome::Otherwise(turn, answer));
         }
         last = Some(answer);
@@ -142,6 +147,35 @@ fn play_case<R: Threads + Wait + Sync>(
         shelf.put(name, answer.bytes)?;
     }
     Ok(Outcome::Expected)
+}
+
+/// Whether `replay` under the same policy and trace finds what was written whole, and of as many entries as the case
+/// says, if it says so.
+fn is_whole<R: Threads + Wait + Sync>(
+    rt: &R,
+    alloc: Global,
+    shelf: &Shelf,
+    case: &Case,
+    answer: &Answer,
+) -> Result<bool, Misread> {
+    let (Some(entries), [_command, policy, trace]) = (case.options.whole, case.words.as_slice())
+    else {
+        return Ok(case.options.whole.is_none());
+    };
+    let mut words = Vec::new(alloc);
+    for word in ["replay", policy.as_str(), trace.as_str(), WRITTEN] {
+        words.push(String::from_str(alloc, word)?)?;
+    }
+    let files = shelf.files(Some((WRITTEN, answer.bytes.as_slice())), Vec::new(alloc))?;
+    let judged = call(
+        rt,
+        alloc,
+        &words,
+        files,
+        sink(alloc, None, Vec::new(alloc))?,
+    )?;
+    let whole = format!(in alloc; "whole {entries}\n")?;
+    Ok(judged.status == 0 && judged.bytes.as_slice() == whole.as_bytes())
 }
 
 /// The turns of a case. Where a file is cut, a turn is the length of a beginning of it.

@@ -5,7 +5,7 @@ use Rattle.std.specs.List.{list_all}
 use Rattle.std.specs.Str.{bytes_eq}
 use Rattle.obligations.specs.declared.names.ObName.{ObName}
 use Rattle.command_words.specs.Command.{Asked, asked_by, asked_plainly, bench, check, explain, is_plain, make, name_of, play}
-use Rattle.command_words.specs.Command.{prove, replay, report, run, simulate, verify, waste}
+use Rattle.command_words.specs.Command.{migrate, prove, replay, report, run, simulate, verify, waste}
 use Rattle.command_words.specs.Numbers.{is_size, seed_in, size_in}
 
 -- if a trace is to be made, its size is one, and if one is to be played too
@@ -100,6 +100,10 @@ reported : (policy trace history : List ℕ) → IsSized (Some (report policy tr
 reported policy trace history =
     record { made = λ s n e. absurd (let bad = e in cc); benched = λ s n e. absurd (let bad = e in cc) }
 
+migrated : (policy trace history : List ℕ) → IsSized (Some (migrate policy trace history))
+migrated policy trace history =
+    record { made = λ s n e. absurd (let bad = e in cc); benched = λ s n e. absurd (let bad = e in cc) }
+
 either : (b : Bool) (x y : Option Asked) → IsSized x → IsSized y → IsSized (cond b x y)
 either true x y here else_here = here
 either false x y here else_here = else_here
@@ -121,7 +125,8 @@ plainly (verb ∷ a ∷ b ∷ []) =
     (either (bytes_eq (codes "bench") verb) _ _ (benched (seed_in a) b) nothing)))))))
 plainly (verb ∷ a ∷ b ∷ c ∷ []) =
     either (bytes_eq (codes "replay") verb) _ _ (replayed a b c)
-    (either (bytes_eq (codes "report") verb) _ _ (reported a b c) nothing)
+    (either (bytes_eq (codes "report") verb) _ _ (reported a b c)
+    (either (bytes_eq (codes "migrate") verb) _ _ (migrated a b c) nothing))
 plainly (verb ∷ a ∷ b ∷ c ∷ d ∷ rest) = nothing
 
 pub asked-sized : (words : List (List ℕ)) → IsSized (asked_by words)

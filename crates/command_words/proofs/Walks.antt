@@ -109,6 +109,13 @@ report (one a) = simp a.plain
 report (two a b) = simp (a.plain, b.plain)
 report (three a b c) = simp (a.plain, b.plain, c.plain)
 
+migrate : (behind : Behind) → AgreesAt (codes "migrate" ∷ texts behind)
+unfolding clap_on_literals
+migrate none = refl
+migrate (one a) = simp a.plain
+migrate (two a b) = simp (a.plain, b.plain)
+migrate (three a b c) = simp (a.plain, b.plain, c.plain)
+
 make : (behind : Behind) → AgreesAt (codes "make" ∷ texts behind)
 unfolding clap_on_literals
 make none = refl
@@ -135,14 +142,15 @@ other : (v : Word) (behind : Behind)
     → bytes_eq (codes "waste") (text v) ≡ false
     → bytes_eq (codes "replay") (text v) ≡ false
     → bytes_eq (codes "report") (text v) ≡ false
+    → bytes_eq (codes "migrate") (text v) ≡ false
     → bytes_eq (codes "make") (text v) ≡ false
     → bytes_eq (codes "bench") (text v) ≡ false
     → AgreesAt (text v ∷ texts behind)
 unfolding clap_on_literals
-other v none a b c d e f g h i j k l = simp (v.plain, a, b, c, d, e, f, g, h, i, j, k, l)
-other v (one w) a b c d e f g h i j k l = simp (v.plain, w.plain, a, b, c, d, e, f, g, h, i, j, k, l)
-other v (two w x) a b c d e f g h i j k l = simp (v.plain, w.plain, x.plain, a, b, c, d, e, f, g, h, i, j, k, l)
-other v (three w x y) a b c d e f g h i j k l = simp (v.plain, w.plain, x.plain, y.plain, a, b, c, d, e, f, g, h, i, j, k, l)
+other v none a b c d e f g h i j k l m = simp (v.plain, a, b, c, d, e, f, g, h, i, j, k, l, m)
+other v (one w) a b c d e f g h i j k l m = simp (v.plain, w.plain, a, b, c, d, e, f, g, h, i, j, k, l, m)
+other v (two w x) a b c d e f g h i j k l m = simp (v.plain, w.plain, x.plain, a, b, c, d, e, f, g, h, i, j, k, l, m)
+other v (three w x y) a b c d e f g h i j k l m = simp (v.plain, w.plain, x.plain, y.plain, a, b, c, d, e, f, g, h, i, j, k, l, m)
 
 -- the verb is this one, or it isn't
 at_verb : (verb word : Text) (P : Text → Type 0) → P verb → (bytes_eq verb word ≡ false → P word) → P word
@@ -165,9 +173,10 @@ with_verb v behind =
     at_verb (codes "waste") (text v) P (waste behind) (λ h.
     at_verb (codes "replay") (text v) P (replay behind) (λ i.
     at_verb (codes "report") (text v) P (report behind) (λ j.
-    at_verb (codes "make") (text v) P (make behind) (λ k.
-    at_verb (codes "bench") (text v) P (bench behind) (λ l.
-    other v behind a b c d e f g h i j k l))))))))))))
+    at_verb (codes "migrate") (text v) P (migrate behind) (λ k.
+    at_verb (codes "make") (text v) P (make behind) (λ l.
+    at_verb (codes "bench") (text v) P (bench behind) (λ m.
+    other v behind a b c d e f g h i j k l m)))))))))))))
 
 no_words : AgreesAt []
 unfolding clap_on_literals

@@ -29,6 +29,8 @@ pub data Asked : Type 0 where
   replay : (policy trace history : List ℕ) → Asked
   -- to report of the history in the third file under the policy and the trace in the others
   report : (policy trace history : List ℕ) → Asked
+  -- to write the history in the third file in the second format, under the policy and the trace in the others
+  migrate : (policy trace history : List ℕ) → Asked
   -- to make the trace of so many threads that the seed determines
   make : (seed size : ℕ) → Asked
   -- to play that trace under the policy `fair`, and to tell what its history comes to
@@ -80,6 +82,7 @@ abbrev pub asked_by_three : List ℕ → List ℕ → List ℕ → List ℕ → 
 asked_by_three verb policy trace history =
     if bytes_eq (codes "replay") verb then Some (replay policy trace history)
     else if bytes_eq (codes "report") verb then Some (report policy trace history)
+    else if bytes_eq (codes "migrate") verb then Some (migrate policy trace history)
     else None
 
 -- the command that plain words are

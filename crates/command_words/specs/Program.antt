@@ -5,8 +5,8 @@ use Rattle.std.specs.Str.{bytes_eq}
 use Rattle.clap.specs.Words.{App, Row, Rule, Shape, Text, first_of, new_rule}
 use Rattle.clap.specs.Simple.{new_shape}
 use Rattle.clap.specs.declared.builder.ArgAction.TheVariants.{Set}
-use Rattle.command_words.specs.Command.{Asked, benched_by, check, explain, made_by, name_of, play, prove, replay}
-use Rattle.command_words.specs.Command.{report, run, simulate, verify, waste}
+use Rattle.command_words.specs.Command.{Asked, benched_by, check, explain, made_by, migrate, name_of, play, prove}
+use Rattle.command_words.specs.Command.{replay, report, run, simulate, verify, waste}
 
 -- a word that has to be there
 abbrev pub wanted : Text → Rule
@@ -41,6 +41,7 @@ commands =
     ∷ command_of (codes "waste") (codes "POLICY" ∷ codes "TRACE" ∷ [])
     ∷ command_of (codes "replay") (codes "POLICY" ∷ codes "TRACE" ∷ codes "HISTORY" ∷ [])
     ∷ command_of (codes "report") (codes "POLICY" ∷ codes "TRACE" ∷ codes "HISTORY" ∷ [])
+    ∷ command_of (codes "migrate") (codes "POLICY" ∷ codes "TRACE" ∷ codes "HISTORY" ∷ [])
     ∷ command_of (codes "make") (codes "SEED" ∷ codes "SIZE" ∷ [])
     ∷ command_of (codes "bench") (codes "SEED" ∷ codes "SIZE" ∷ [])
     ∷ []
@@ -66,11 +67,14 @@ asked_in verb rows =
     else if bytes_eq verb (codes "run") then Some (run (word_in rows (codes "POLICY")) (word_in rows (codes "TRACE")))
     else if bytes_eq verb (codes "simulate") then
     Some (simulate (word_in rows (codes "POLICY")) (word_in rows (codes "TRACE")))
-    else if bytes_eq verb (codes "waste") then Some (waste (word_in rows (codes "POLICY")) (word_in rows (codes "TRACE")))
+    else if bytes_eq verb (codes "waste")
+    then Some (waste (word_in rows (codes "POLICY")) (word_in rows (codes "TRACE")))
     else if bytes_eq verb (codes "replay") then
     Some (replay (word_in rows (codes "POLICY")) (word_in rows (codes "TRACE")) (word_in rows (codes "HISTORY")))
     else if bytes_eq verb (codes "report") then
     Some (report (word_in rows (codes "POLICY")) (word_in rows (codes "TRACE")) (word_in rows (codes "HISTORY")))
+    else if bytes_eq verb (codes "migrate") then
+    Some (migrate (word_in rows (codes "POLICY")) (word_in rows (codes "TRACE")) (word_in rows (codes "HISTORY")))
     else if bytes_eq verb (codes "make") then made_by (word_in rows (codes "SEED")) (word_in rows (codes "SIZE"))
     else if bytes_eq verb (codes "bench") then benched_by (word_in rows (codes "SEED")) (word_in rows (codes "SIZE"))
     else None

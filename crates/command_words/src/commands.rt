@@ -21,11 +21,12 @@ pub(crate) fn program<'a>(alloc: Global) -> Result<Command<'a>, AllocError>
     let program = with_command(program, alloc, "verify", &["POLICY", "CERTS"])?;
     let program = with_two(program, alloc, "play", "run", &["POLICY", "TRACE"])?;
     let program = with_two(program, alloc, "simulate", "waste", &["POLICY", "TRACE"])?;
-    let program = with_two(
+    let program = with_three(
         program,
         alloc,
         "replay",
         "report",
+        "migrate",
         &["POLICY", "TRACE", "HISTORY"],
     )?;
     with_two(program, alloc, "make", "bench", &["SEED", "SIZE"])
@@ -57,6 +58,24 @@ fn with_two<'a>(
 {
     let program = with_command(program, alloc, verb, ids)?;
     with_command(program, alloc, other, ids)
+}
+
+/// The program with three more commands, which want the words of the same names.
+fn with_three<'a>(
+    program: Command<'a>,
+    alloc: Global,
+    verb: &'a str,
+    other: &'a str,
+    third: &'a str,
+    ids: &[&'a str],
+) -> Result<Command<'a>, AllocError>
+    ensures { IfOk result (λ made. app_of made ≡ with_subcommand (with_subcommand
+        (with_subcommand (app_of program.entry) (command_of verb.now (map (λ id. id.now) ids.now)))
+        (command_of other.now (map (λ id. id.now) ids.now)))
+        (command_of third.now (map (λ id. id.now) ids.now))) }
+{
+    let program = with_two(program, alloc, verb, other, ids)?;
+    with_command(program, alloc, third, ids)
 }
 
 /// The program with one more command, which wants the words of these names.

@@ -67,6 +67,12 @@ pub enum Request<'a> {
         trace: &'a str,
         history: &'a str,
     },
+    /// To write the history in the third file in the second format, under the policy and the trace in the others.
+    Migrate {
+        policy: &'a str,
+        trace: &'a str,
+        history: &'a str,
+    },
     /// To make the trace of so many threads that the seed determines.
     Make {
         seed: u64,
@@ -113,43 +119,35 @@ fn request_from<'a>(matches: &ArgMatches<'a>) -> Request<'a>
 fn request_in<'a>(verb: &str, words: &ArgMatches<'a>) -> Request<'a>
     ensures { asked result ≡ asked_in verb.now (rows_of (found_of words.now)) }
 {
+    let policy = word_in(words, "POLICY");
+    let trace = word_in(words, "TRACE");
+    let history = word_in(words, "HISTORY");
     match verb {
-        "check" => Request::Check {
-            policy: word_in(words, "POLICY"),
-        },
-        "prove" => Request::Prove {
-            policy: word_in(words, "POLICY"),
-        },
-        "explain" => explanation_of(word_in(words, "POLICY"), word_in(words, "NAME")),
+        "check" => Request::Check { policy },
+        "prove" => Request::Prove { policy },
+        "explain" => explanation_of(policy, word_in(words, "NAME")),
         "verify" => Request::Verify {
-            policy: word_in(words, "POLICY"),
+            policy,
             certs: word_in(words, "CERTS"),
         },
-        "play" => Request::Play {
-            policy: word_in(words, "POLICY"),
-            trace: word_in(words, "TRACE"),
-        },
-        "run" => Request::Run {
-            policy: word_in(words, "POLICY"),
-            trace: word_in(words, "TRACE"),
-        },
-        "simulate" => Request::Simulate {
-            policy: word_in(words, "POLICY"),
-            trace: word_in(words, "TRACE"),
-        },
-        "waste" => Request::Waste {
-            policy: word_in(words, "POLICY"),
-            trace: word_in(words, "TRACE"),
-        },
+        "play" => Request::Play { policy, trace },
+        "run" => Request::Run { policy, trace },
+        "simulate" => Request::Simulate { policy, trace },
+        "waste" => Request::Waste { policy, trace },
         "replay" => Request::Replay {
-            policy: word_in(words, "POLICY"),
-            trace: word_in(words, "TRACE"),
-            history: word_in(words, "HISTORY"),
+            policy,
+            trace,
+            history,
         },
         "report" => Request::Report {
-            policy: word_in(words, "POLICY"),
-            trace: word_in(words, "TRACE"),
-            history: word_in(words, "HISTORY"),
+            policy,
+            trace,
+            history,
+        },
+        "migrate" => Request::Migrate {
+            policy,
+            trace,
+            history,
         },
         "make" => made_by(word_in(words, "SEED"), word_in(words, "SIZE")),
         "bench" => benched_by(word_in(words, "SEED"), word_in(words, "SIZE")),

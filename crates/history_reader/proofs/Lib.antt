@@ -4,7 +4,11 @@ pub mod Decision
 pub mod Digits
 pub mod EachText
 pub mod Entries
+pub mod OneLine
 pub mod OneReading
 pub mod Parts
 pub mod Positions
+pub mod Pushes
+pub mod ReadsTexts
 pub mod Threads
+pub mod WholeTexts

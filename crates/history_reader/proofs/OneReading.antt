@@ -1,218 +1,122 @@
--- A text is read in one way: it spells one history at most, or has one first bad line, and not both.
-use Rattle.std.proofs.Common.{◌≡◌, ◌⊎◌, inl, inr, ℕ, ◌+◌, ◌≤◌, List, [], ◌∷◌, ◌++◌, All, codes, get_or, length, append_assoc, length-append, Result, Ok, Err, IfOk, IfErr, ap, ap₂, sym, subst, ◌∙◌, refl, arith}
-use Rattle.std.proofs.lemmas.List.{append-nil, get_or_at}
+-- Lines are read in one way: they spell one history at most, or have one first bad line, and not both.
+use Rattle.std.proofs.Common.{◌≡◌, ◌⊎◌, inl, inr, ℕ, suc, ◌≤◌, List, [], ◌∷◌, ◌++◌, All, length, append_assoc, length-append, ap, ap₂, sym, subst, ◌∙◌, refl, arith}
+use Rattle.std.specs.List.{flat_map}
+use Rattle.std.proofs.lemmas.List.{append-nil}
 use Rattle.std.proofs.lemmas.List.Elements.{All-head, All-tail}
 use Rattle.sched_base.specs.declared.limits.TheConstants.{MAX_ENTRIES}
-use Rattle.round_model.specs.declared.entry.Did.{Did}
-use Rattle.round_model.specs.declared.entry.Did.TheVariants as did
 use Rattle.round_model.specs.declared.entry.Entry.{Entry}
-use Rattle.round_model.specs.declared.entry.Entry.TheVariants as entry
-use Rattle.sched_history.specs.Ranges.{AreReads, IsCoreNumber, IsPrintable, IsThreadNumber, NamesThread}
-use Rattle.sched_history.specs.Spelling.{line_of_entry, spaced, spaced_number, text_of_history, words_of_entry}
-use Rattle.history_reader.specs.Answers.{IsFaultOf, IsUnlessMemory}
-use Rattle.history_reader.specs.Code.Cuts.{StartsWith}
-use Rattle.history_reader.specs.Code.Kinds.{kind_of, name_of, rest_of, rest_of_did, rest_of_reads}
-use Rattle.history_reader.specs.Reading.{BeginsWithNone, IsFirstBadLine, SpellsHistory}
-use Rattle.history_reader.specs.declared.fault.HistoryFault.{HistoryFault}
-use Rattle.history_reader.specs.declared.fault.HistoryFault.TheVariants.{BadLine, Memory}
-use Rattle.history_reader.proofs.Cutting.{same_cut}
-use Rattle.history_reader.proofs.Entries.{fate_of, no_dash, space_lacks, starts_did, starts_rest, thread_of, words_lack_feed, words_parts}
-use Rattle.history_reader.proofs.Parts.{same_number}
-use Rattle.history_reader.proofs.Positions.{same_spaced}
-use Rattle.history_reader.proofs.Threads.{colon_no_thread, same_threads, starts_behind}
+use Rattle.sched_history.specs.declared.forms.LineForm.{LineForm}
+use Rattle.sched_history.specs.Lines.{entry_lines, form_after, form_behind}
+use Rattle.sched_history.specs.Ranges.{IsPrintable, IsPrintableLine}
+use Rattle.sched_history.specs.Spelling.{line_in, line_of}
+use Rattle.sched_history.proofs.EntryLines.{form_after-cons, form_after-nil}
+use Rattle.history_reader.specs.Reading.{BeginsWithNone, IsFirstBadOf, SpellsLines}
+use Rattle.history_reader.proofs.OneLine.{same_line}
+use Rattle.history_reader.proofs.Pushes.{line_some}
 
--- a number, and what stands behind it
-same_core : (one two : ℕ) (more others : List ℕ) → IsCoreNumber one → IsCoreNumber two → StartsWith 32 more →
-    StartsWith 32 others → spaced_number one ++ more ≡ spaced_number two ++ others → (one ≡ two) × (more ≡ others)
-same_core one two more others is_one is_two starts_one starts_two same =
-    same_number one two more others (omega (arith, is_one)) (omega (arith, is_two)) starts_one starts_two same
+abbrev text_at : ℕ → LineForm → List Entry → List ℕ
+text_at k f es = flat_map line_of (entry_lines k f es)
 
-same_thread : (one two : ℕ) (more others : List ℕ) → IsThreadNumber one → IsThreadNumber two → StartsWith 32 more →
-    StartsWith 32 others → spaced_number one ++ more ≡ spaced_number two ++ others → (one ≡ two) × (more ≡ others)
-same_thread one two more others is_one is_two starts_one starts_two same =
-    same_number one two more others (omega (arith, is_one.1)) (omega (arith, is_two.1)) starts_one starts_two same
-
-same_reads : (one two : List ℕ) → AreReads one → AreReads two → rest_of_reads one ≡ rest_of_reads two → one ≡ two
-same_reads one two are_one are_two same =
-    let positions : spaced one ≡ spaced two = cc same in
-    same_spaced one two are_one.positions are_two.positions positions
-
-same_did : (one two : Did) → NamesThread one → NamesThread two → rest_of_did one ≡ rest_of_did two → one ≡ two
-same_did did.Nothing did.Nothing is_one is_two same = refl
-same_did did.Nothing two is_one is_two same = absurd (no_dash (thread_of two) (fate_of two) is_two refl same)
-same_did one did.Nothing is_one is_two same = absurd (no_dash (thread_of one) (fate_of one) is_one refl (sym same))
-same_did (did.Kept t) (did.Kept u) is_one is_two same =
-    ap (λ n. did.Kept n) (same_thread t u (codes " keep") (codes " keep") is_one is_two refl refl same).0
-same_did (did.Queued t) (did.Queued u) is_one is_two same =
-    ap (λ n. did.Queued n) (same_thread t u (codes " queue") (codes " queue") is_one is_two refl refl same).0
-same_did (did.Blocked t) (did.Blocked u) is_one is_two same =
-    ap (λ n. did.Blocked n) (same_thread t u (codes " block") (codes " block") is_one is_two refl refl same).0
-same_did (did.Ended t) (did.Ended u) is_one is_two same =
-    ap (λ n. did.Ended n) (same_thread t u (codes " end") (codes " end") is_one is_two refl refl same).0
-same_did one two is_one is_two same =
-    let parts = same_thread (thread_of one) (thread_of two) (fate_of one) (fate_of two) is_one is_two refl refl same in
-    absurd (omega (arith, ap (λ xs. get_or xs 1 0) (parts.1)))
-
--- entries with the same first word and the same rest are one
-same_rest : (one two : Entry) → IsPrintable one → IsPrintable two → name_of (kind_of one) ≡ name_of (kind_of two) →
-    rest_of one ≡ rest_of two → one ≡ two
-same_rest (entry.Round a) (entry.Round b) is_one is_two name same =
-    let whole = append-nil (spaced_number a) ∙ same ∙ sym (append-nil (spaced_number b)) in
-    ap (λ n. entry.Round n) (same_number a b [] [] (omega (arith, is_one.1)) (omega (arith, is_two.1)) tt tt whole).0
-same_rest (entry.Enter t b a r) (entry.Enter u c d s) is_one is_two name same =
-    let first = same_thread t u _ _ is_one.0 is_two.0 refl refl same in
-    let second = same_core b c _ _ is_one.1 is_two.1 refl refl first.1 in
-    let third = same_core a d _ _ is_one.2 is_two.2 refl refl second.1 in
-    let last = same_reads r s is_one.3 is_two.3 third.1 in
-    cc (first.0, second.0, third.0, last)
-same_rest (entry.Wake t b a r) (entry.Wake u c d s) is_one is_two name same =
-    let first = same_thread t u _ _ is_one.0 is_two.0 refl refl same in
-    let second = same_core b c _ _ is_one.1 is_two.1 refl refl first.1 in
-    let third = same_core a d _ _ is_one.2 is_two.2 refl refl second.1 in
-    let last = same_reads r s is_one.3 is_two.3 third.1 in
-    cc (first.0, second.0, third.0, last)
-same_rest (entry.Work b what) (entry.Work c then) is_one is_two name same =
-    let first = same_core b c _ _ is_one.0 is_two.0 (starts_did what) (starts_did then) same in
-    let last = same_did what then is_one.1 is_two.1 first.1 in
-    cc (first.0, last)
-same_rest (entry.Steal b f t r) (entry.Steal c g u s) is_one is_two name same =
-    let first = same_core b c _ _ is_one.0 is_two.0 refl refl same in
-    let second = same_core f g _ _ is_one.1 is_two.1 (starts_behind t (rest_of_reads r) refl) (starts_behind u (rest_of_reads s) refl) first.1 in
-    let third = same_threads t u (rest_of_reads r) (rest_of_reads s) is_one.2.numbers is_two.2.numbers refl refl (colon_no_thread r) (colon_no_thread s) second.1 in
-    let last = same_reads r s is_one.3 is_two.3 third.1 in
-    cc (first.0, second.0, third.0, last)
-same_rest (entry.Fail b f r) (entry.Fail c g s) is_one is_two name same =
-    let first = same_core b c _ _ is_one.0 is_two.0 refl refl same in
-    let second = same_core f g _ _ is_one.1 is_two.1 refl refl first.1 in
-    let last = same_reads r s is_one.2 is_two.2 second.1 in
-    cc (first.0, second.0, last)
-same_rest (entry.Pass b r) (entry.Pass c s) is_one is_two name same =
-    let first = same_core b c _ _ is_one.0 is_two.0 refl refl same in
-    let last = same_reads r s is_one.1 is_two.1 first.1 in
-    cc (first.0, last)
-same_rest one two is_one is_two name same = absurd (omega (arith, ap (λ xs. get_or xs 0 0 + get_or xs 1 0) name))
-
--- the words of an entry are those of no other
-same_words : (one two : Entry) → IsPrintable one → IsPrintable two → words_of_entry one ≡ words_of_entry two → one ≡ two
-same_words one two is_one is_two same =
-    let parts = same_cut 32 (name_of (kind_of one)) (rest_of one) (name_of (kind_of two)) (rest_of two)
-    (space_lacks (kind_of one)) (space_lacks (kind_of two)) (starts_rest one) (starts_rest two)
-    (sym (words_parts one) ∙ same ∙ words_parts two) in
-    same_rest one two is_one is_two parts.0 parts.1
-
--- the line that a text begins with is that of one entry
-pub same_line : (one two : Entry) (rest behind : List ℕ) → IsPrintable one → IsPrintable two →
-    line_of_entry one ++ rest ≡ line_of_entry two ++ behind → (one ≡ two) × (rest ≡ behind)
-same_line one two rest behind is_one is_two same =
-    let whole = sym (append_assoc (words_of_entry one) (codes "\n") rest) ∙ same ∙
-    append_assoc (words_of_entry two) (codes "\n") behind in
-    let parts = same_cut 10 (words_of_entry one) (10 ∷ rest) (words_of_entry two) (10 ∷ behind)
-    (words_lack_feed one is_one) (words_lack_feed two is_two) refl refl whole in
-    (same_words one two is_one is_two parts.0, cc (parts.1))
+-- behind these entries the text begins with the line of that one
+record Further (k : ℕ) (f : LineForm) (front : List Entry) (rest : List ℕ) (e : Entry) (tail : List ℕ) : Type 0 where
+  printable : IsPrintable (form_after k f front) e
+  text_is : rest ≡ line_in (form_after k f front) e ++ tail
 
 -- of two fronts of a text that are lines of entries one is a front of the other
-data Fronts (one : List Entry) (rest : List ℕ) (two : List Entry) (behind : List ℕ) : Type 0 where
-  first_shorter : (more : List Entry) → two ≡ one ++ more → rest ≡ text_of_history more ++ behind →
-      Fronts one rest two behind
-  first_longer : (more : List Entry) → one ≡ two ++ more → behind ≡ text_of_history more ++ rest →
-      Fronts one rest two behind
+data Fronts (k : ℕ) (f : LineForm) (one : List Entry) (rest : List ℕ) (two : List Entry) (behind : List ℕ) : Type 0 where
+  same_fronts : one ≡ two → rest ≡ behind → Fronts k f one rest two behind
+  first_shorter : (e : Entry) (more : List Entry) (tail : List ℕ) → two ≡ one ++ e ∷ more → Further k f one rest e tail → Fronts k f one rest two behind
+  first_longer : (e : Entry) (more : List Entry) (tail : List ℕ) → one ≡ two ++ e ∷ more → Further k f two behind e tail → Fronts k f one rest two behind
 
-fronts : (one two : List Entry) (rest behind : List ℕ) → All IsPrintable one → All IsPrintable two →
-    text_of_history one ++ rest ≡ text_of_history two ++ behind → Fronts one rest two behind
-fronts [] two rest behind is_one is_two same = first_shorter two refl same
-fronts (e ∷ one) [] rest behind is_one is_two same = first_longer (e ∷ one) refl (sym same)
-fronts (e ∷ one) (f ∷ two) rest behind is_one is_two same =
-    let whole = sym (append_assoc (line_of_entry e) (text_of_history one) rest) ∙ same ∙
-    append_assoc (line_of_entry f) (text_of_history two) behind in
-    let parts = same_line e f (text_of_history one ++ rest) (text_of_history two ++ behind)
-    (All-head IsPrintable e one is_one) (All-head IsPrintable f two is_two) whole in
-    by parts.0 (fronts one two rest behind (All-tail IsPrintable e one is_one) (All-tail IsPrintable f two is_two)
-    parts.1)
+-- a front of no entry
+none_before : (k : ℕ) (f : LineForm) (e : Entry) (es : List Entry) (rest behind : List ℕ) → All IsPrintableLine (entry_lines k f (e ∷ es))
+    → rest ≡ text_at k f (e ∷ es) ++ behind → Further k f [] rest e (text_at (suc k) (form_behind (suc k) e f) es ++ behind)
+none_before k f e es rest behind are same = record {
+  printable = subst (λ (g : LineForm). IsPrintable g e) (sym (form_after-nil k f))
+      (All-head IsPrintableLine (record { form = f; entry = e }) (entry_lines (suc k) (form_behind (suc k) e f) es) are);
+  text_is = same
+      ∙ (append_assoc (line_in f e) (text_at (suc k) (form_behind (suc k) e f) es) behind
+      ∙ ap (λ (g : LineForm). line_in g e ++ (text_at (suc k) (form_behind (suc k) e f) es ++ behind)) (sym (form_after-nil k f)));
+}
+
+-- a front with one entry more before it
+longer : (k : ℕ) (f : LineForm) (x y : Entry) (front : List Entry) (rest : List ℕ) (e : Entry) (tail : List ℕ) → x ≡ y
+    → Further (suc k) (form_behind (suc k) x f) front rest e tail → Further k f (y ∷ front) rest e tail
+longer k f x y front rest e tail first further =
+    let form_is = ap (λ (z : Entry). form_after (suc k) (form_behind (suc k) z f) front) first ∙ form_after-cons k f y front in
+    record {
+      printable = subst (λ (g : LineForm). IsPrintable g e) form_is further.printable;
+      text_is = further.text_is ∙ ap (λ (g : LineForm). line_in g e ++ tail) form_is;
+    }
+
+fronts : (k : ℕ) (f : LineForm) (one two : List Entry) (rest behind : List ℕ) → All IsPrintableLine (entry_lines k f one)
+    → All IsPrintableLine (entry_lines k f two) → text_at k f one ++ rest ≡ text_at k f two ++ behind → Fronts k f one rest two behind
+fronts k f [] [] rest behind is_one is_two same = same_fronts refl same
+fronts k f [] (y ∷ two) rest behind is_one is_two same =
+    first_shorter y two (text_at (suc k) (form_behind (suc k) y f) two ++ behind) refl (none_before k f y two rest behind is_two same)
+fronts k f (x ∷ one) [] rest behind is_one is_two same =
+    first_longer x one (text_at (suc k) (form_behind (suc k) x f) one ++ rest) refl (none_before k f x one behind rest is_one (sym same))
+fronts k f (x ∷ one) (y ∷ two) rest behind is_one is_two same =
+    let later : Entry → List Entry → List ℕ = λ z es. text_at (suc k) (form_behind (suc k) z f) es in
+    let whole = sym (append_assoc (line_in f x) (later x one) rest) ∙ same ∙ append_assoc (line_in f y) (later y two) behind in
+    let parts = same_line f x y (later x one ++ rest) (later y two ++ behind)
+    (All-head IsPrintableLine (record { form = f; entry = x }) (entry_lines (suc k) (form_behind (suc k) x f) one) is_one)
+    (All-head IsPrintableLine (record { form = f; entry = y }) (entry_lines (suc k) (form_behind (suc k) y f) two) is_two) whole in
+    let tail_one = All-tail IsPrintableLine (record { form = f; entry = x }) (entry_lines (suc k) (form_behind (suc k) x f) one) is_one in
+    let tail_two = subst (λ (z : Entry). All IsPrintableLine (entry_lines (suc k) (form_behind (suc k) z f) two)) (sym parts.0)
+    (All-tail IsPrintableLine (record { form = f; entry = y }) (entry_lines (suc k) (form_behind (suc k) y f) two) is_two) in
+    let behind_first = subst (λ (z : Entry). later x one ++ rest ≡ later z two ++ behind) (sym parts.0) parts.1 in
+    by parts.0 (fronts (suc k) (form_behind (suc k) x f) one two rest behind tail_one tail_two behind_first)
   where
-    by : e ≡ f → Fronts one rest two behind → Fronts (e ∷ one) rest (f ∷ two) behind
-    by first (first_shorter more is rest_is) = first_shorter more (ap₂ (λ x xs. x ∷ xs) (sym first) is) rest_is
-    by first (first_longer more is behind_is) = first_longer more (ap₂ (λ x xs. x ∷ xs) first is) behind_is
+    by : x ≡ y → Fronts (suc k) (form_behind (suc k) x f) one rest two behind → Fronts k f (x ∷ one) rest (y ∷ two) behind
+    by first (same_fronts is rest_is) = same_fronts (ap₂ (λ z zs. z ∷ zs) first is) rest_is
+    by first (first_shorter e more tail is further) =
+        first_shorter e more tail (ap₂ (λ z zs. z ∷ zs) (sym first) is) (longer k f x x one rest e tail refl further)
+    by first (first_longer e more tail is further) =
+        first_longer e more tail (ap₂ (λ z zs. z ∷ zs) first is) (longer k f x y two behind e tail first further)
 
--- behind a bad line's front no further entry is read
-no_more : (front more whole : List Entry) (rest behind : List ℕ) → All IsPrintable whole → length whole ≤ MAX_ENTRIES →
-    (length front ≡ MAX_ENTRIES) ⊎ BeginsWithNone rest → whole ≡ front ++ more → rest ≡ text_of_history more ++ behind →
-    more ≡ []
-no_more front [] whole rest behind are few bad is rest_is = refl
-no_more front (e ∷ more) whole rest behind are few (inl full) is rest_is =
-    absurd (omega (arith, few, full, ap length is, length-append front (e ∷ more)))
-no_more front (e ∷ more) whole rest behind are few (inr none) is rest_is =
-    let one : IsPrintable e = subst IsPrintable
-    (ap (λ xs. get_or xs (length front) e) is ∙ get_or_at front e more e (length front) refl)
-    (are (length front) e (omega (arith, ap length is, length-append front (e ∷ more)))) in
-    absurd (none e (text_of_history more ++ behind)
-    (one, rest_is ∙ append_assoc (line_of_entry e) (text_of_history more) behind))
+module _ (f : LineForm) where
+  -- behind a bad line's front no further entry is read
+  no_more : (front whole : List Entry) (rest : List ℕ) (e : Entry) (more : List Entry) (tail : List ℕ) → length whole ≤ MAX_ENTRIES
+      → (length front ≡ MAX_ENTRIES) ⊎ BeginsWithNone (form_after 0 f front) rest → whole ≡ front ++ e ∷ more → Further 0 f front rest e tail → ⊥
+  no_more front whole rest e more tail few (inl full) is further =
+      omega (arith, few, full, ap length is, length-append front (e ∷ more))
+  no_more front whole rest e more tail few (inr none) is further = none e tail (further.printable, further.text_is)
 
--- of two spellings of a text
-pub one_history : (text : List ℕ) (one two : List Entry) → SpellsHistory text one → SpellsHistory text two → one ≡ two
-one_history text one two is_one is_two =
-    by (fronts one two [] [] is_one.printable is_two.printable
-    (append-nil (text_of_history one) ∙ sym is_one.text_is ∙ is_two.text_is ∙
-    sym (append-nil (text_of_history two))))
-  where
-    nothing : (more : List Entry) → [] ≡ text_of_history more ++ [] → more ≡ []
-    nothing [] same = refl
-    nothing (e ∷ more) same =
-        absurd (omega (
-          arith,
-          ap length same,
-          length-append (text_of_history (e ∷ more)) [],
-          length-append (line_of_entry e) (text_of_history more),
-          length-append (words_of_entry e) (codes "\n"),
-        ))
+  -- where nothing is left, no entry is
+  nothing_left : (front : List Entry) (e : Entry) (tail : List ℕ) → Further 0 f front [] e tail → ⊥
+  nothing_left front e tail further =
+      let some = line_some (form_after 0 f front) e tail in
+      omega (arith, some, ap length further.text_is)
 
-    by : Fronts one [] two [] → one ≡ two
-    by (first_shorter more is rest_is) = sym (is ∙ ap (λ xs. one ++ xs) (nothing more rest_is) ∙ append-nil one)
-    by (first_longer more is behind_is) = is ∙ ap (λ xs. two ++ xs) (nothing more behind_is) ∙ append-nil two
+  pub one_spelling : (lines : List ℕ) (one two : List Entry) → SpellsLines f lines one → SpellsLines f lines two → one ≡ two
+  one_spelling lines one two is_one is_two =
+      by (fronts 0 f one two [] [] is_one.printable.lines is_two.printable.lines
+      (append-nil (text_at 0 f one) ∙ (sym is_one.text_is ∙ (is_two.text_is ∙ sym (append-nil (text_at 0 f two))))))
+    where
+      by : Fronts 0 f one [] two [] → one ≡ two
+      by (same_fronts is rest_is) = is
+      by (first_shorter e more tail is further) = absurd (nothing_left one e tail further)
+      by (first_longer e more tail is further) = absurd (nothing_left two e tail further)
 
-pub one_bad_line : (text : List ℕ) (one two : ℕ) → IsFirstBadLine text one → IsFirstBadLine text two → one ≡ two
-one_bad_line text one two is_one is_two =
-    by (fronts is_one.front is_two.front is_one.rest is_two.rest is_one.printable is_two.printable
-    (sym is_one.text_is ∙ is_two.text_is))
-  where
-    by : Fronts is_one.front is_one.rest is_two.front is_two.rest → one ≡ two
-    by (first_shorter more is rest_is) =
-        let none = no_more is_one.front more is_two.front is_one.rest is_two.rest is_two.printable is_two.few is_one.bad
-        is rest_is in
-        omega (arith, ap length none, ap length is, length-append is_one.front more, is_one.number, is_two.number)
-    by (first_longer more is behind_is) =
-        let none = no_more is_two.front more is_one.front is_two.rest is_one.rest is_one.printable is_one.few is_two.bad
-        is behind_is in
-        omega (arith, ap length none, ap length is, length-append is_two.front more, is_one.number, is_two.number)
+  pub one_first_bad : (lines : List ℕ) (one two : ℕ) → IsFirstBadOf f lines one → IsFirstBadOf f lines two → one ≡ two
+  one_first_bad lines one two is_one is_two =
+      by (fronts 0 f is_one.front is_two.front is_one.rest is_two.rest is_one.printable.lines is_two.printable.lines
+      (sym is_one.text_is ∙ is_two.text_is))
+    where
+      by : Fronts 0 f is_one.front is_one.rest is_two.front is_two.rest → one ≡ two
+      by (same_fronts is rest_is) = omega (arith, ap length is, is_one.number, is_two.number)
+      by (first_shorter e more tail is further) =
+          absurd (no_more is_one.front is_two.front is_one.rest e more tail is_two.printable.few is_one.bad is further)
+      by (first_longer e more tail is further) =
+          absurd (no_more is_two.front is_one.front is_two.rest e more tail is_one.printable.few is_two.bad is further)
 
-pub not_both : (text : List ℕ) (history : List Entry) (line : ℕ) → SpellsHistory text history →
-    IsFirstBadLine text line → ⊥
-not_both text history line spells bad =
-    by (fronts bad.front history bad.rest [] bad.printable spells.printable
-    (sym bad.text_is ∙ spells.text_is ∙ sym (append-nil (text_of_history history))))
-  where
-    nil_behind : (front rest : List ℕ) → front ++ rest ≡ [] → rest ≡ []
-    nil_behind [] rest same = same
-    nil_behind (x ∷ front) rest same = absurd (cc same)
-
-    by : Fronts bad.front bad.rest history [] → ⊥
-    by (first_shorter more is rest_is) =
-        let none = no_more bad.front more history bad.rest [] spells.printable spells.few bad.bad is rest_is in
-        bad.some (rest_is ∙ ap (λ xs. text_of_history xs ++ []) none)
-    by (first_longer more is nothing) =
-        bad.some (nil_behind (text_of_history more) bad.rest (sym nothing))
-
--- what a reader has to answer
-pub must_give : (text : List ℕ) (result : Result (List Entry) HistoryFault) →
-    IfOk result (λ history. SpellsHistory text history) → IfErr result (IsFaultOf text) → (history : List Entry) →
-    SpellsHistory text history → IsUnlessMemory (Ok history) result
-must_give text (Ok read) given fault history spells = ap (λ h. Ok h) (one_history text read history given spells)
-must_give text (Err (BadLine line)) given fault history spells = absurd (not_both text history line spells fault)
-must_give text (Err Memory) given fault history spells = tt
-
-pub must_refuse : (text : List ℕ) (result : Result (List Entry) HistoryFault) →
-    IfOk result (λ history. SpellsHistory text history) → IfErr result (IsFaultOf text) → (line : ℕ) →
-    IsFirstBadLine text line → IsUnlessMemory (Err (BadLine line)) result
-must_refuse text (Ok read) given fault line bad = absurd (not_both text read line given bad)
-must_refuse text (Err (BadLine other)) given fault line bad =
-    ap (λ n. Err (BadLine n)) (one_bad_line text other line fault bad)
-must_refuse text (Err Memory) given fault line bad = tt
+  pub spelled_or_bad : (lines : List ℕ) (history : List Entry) (line : ℕ) → SpellsLines f lines history → IsFirstBadOf f lines line → ⊥
+  spelled_or_bad lines history line spells bad =
+      by (fronts 0 f bad.front history bad.rest [] bad.printable.lines spells.printable.lines
+      (sym bad.text_is ∙ (spells.text_is ∙ sym (append-nil (text_at 0 f history)))))
+    where
+      by : Fronts 0 f bad.front bad.rest history [] → ⊥
+      by (same_fronts is rest_is) = bad.some rest_is
+      by (first_shorter e more tail is further) = no_more bad.front history bad.rest e more tail spells.printable.few bad.bad is further
+      by (first_longer e more tail is further) = nothing_left history e tail further

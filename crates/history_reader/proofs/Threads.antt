@@ -1,17 +1,14 @@
 -- Threads one behind another, as they are read, and what stands behind them.
-use Rattle.std.proofs.Common.{◌≡◌, ◌≢◌, ℕ, ◌+◌, ◌<◌, ◌≤◌, ◌^◌, List, [], ◌∷◌, ◌++◌, All, codes, decimal, length, get_or, append_assoc, length-append, ap, ap₂, sym, ◌∙◌, refl, arith}
+use Rattle.std.proofs.Common.{◌≡◌, ◌≢◌, ℕ, ◌<◌, ◌≤◌, ◌^◌, List, [], ◌∷◌, ◌++◌, All, length, append_assoc, length-append, ap, ap₂, sym, ◌∙◌, refl, arith}
 use Rattle.std.proofs.lemmas.List.{append-nil, flat_map_more}
 use Rattle.std.proofs.lemmas.List.Elements.{All-append, All-head, All-nil, All-push, All-tail}
 use Rattle.sched_base.specs.declared.limits.TheConstants.{MAX_STOLEN}
 use Rattle.sched_history.specs.Ranges.{AreStolen, IsThreadNumber}
 use Rattle.sched_history.specs.Spelling.{spaced, spaced_number}
 use Rattle.history_reader.specs.Code.Cuts.{Lacks, StartsWith}
-use Rattle.history_reader.specs.Code.Kinds.{rest_of_reads}
 use Rattle.history_reader.specs.Code.Numbers.{BeginsWithNoNumber, BeginsWithNumber, BeginsWithThreads}
-use Rattle.history_reader.proofs.Cutting.{same_cut}
-use Rattle.history_reader.proofs.Digits.{decimal_lacks, decimal_lacks_other}
-use Rattle.history_reader.proofs.Parts.{lacks_text, same_number}
-use Rattle.history_reader.proofs.Positions.{number_lacks, spaced-cons, spaced-nil, starts_spaced}
+use Rattle.history_reader.proofs.Parts.{same_number}
+use Rattle.history_reader.proofs.Positions.{number_lacks, spaced-cons, spaced-nil}
 
 small_thread : (thread : ℕ) → IsThreadNumber thread → thread < 2 ^ 64
 small_thread thread is = let high = is.1 in omega (arith, high)
@@ -101,16 +98,6 @@ is_full text read rest full reads = record {
     by all tail are ([], whole, rest_is, fit) = (whole ∙ append-nil read, rest_is ∙ ap (λ xs. xs ++ tail) spaced-nil)
     by all tail are (next ∷ more, whole, rest_is, fit) =
         absurd (omega (arith, are.few, ap length whole, length-append read (next ∷ more), full))
-
--- reads begin with no thread
-pub colon_no_thread : (reads : List ℕ) → BeginsWithNoNumber IsThreadNumber (rest_of_reads reads)
-colon_no_thread reads thread behind begins =
-    let text : codes ":" ++ spaced reads ≡ decimal thread ++ behind = cc (begins.text_is) in
-    let small = small_thread thread begins.right in
-    let parts = same_cut 32 (codes ":") (spaced reads) (decimal thread) behind (lacks_text 32 (codes ":") refl)
-    (decimal_lacks 32 thread (omega arith) small) (starts_spaced reads) begins.space text in
-    let first : length (decimal thread) ≡ 1 = ap length (sym parts.0) in
-    decimal_lacks_other 58 thread refl small 0 0 (omega (arith, first)) (sym (ap (λ xs. get_or xs 0 0) parts.0))
 
 -- a text of threads, and of what is no thread, is that of one list
 pub same_threads : (one two more others : List ℕ) → All IsThreadNumber one → All IsThreadNumber two → StartsWith 32 more → StartsWith 32 others

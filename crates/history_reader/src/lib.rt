@@ -7,9 +7,10 @@ mod laws;
 mod line;
 mod numbers;
 mod reading;
+mod reads;
 mod rests;
 mod work;
 
 pub use fault::HistoryFault;
-pub use laws::law_one_reading;
+pub use laws::{law_bad_header, law_one_reading};
 pub use reading::read_history;

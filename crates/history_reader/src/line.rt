@@ -1,13 +1,15 @@
 //! Reads the line of an entry.
 
 ghost use Rattle.std.specs.Prelude.{◌≡◌, ◌≢◌, MatchOption};
-ghost use Rattle.history_reader.specs.Code.Kinds.{IsLineOf, IsLineOfNone, IsNoRestOf, IsRestOf, name_of};
+ghost use Rattle.history_reader.specs.Code.Kinds.{IsLineOf, IsLineOfNone, IsNoRestOf, IsRestOf};
+ghost use Rattle.history_reader.specs.Code.Kinds.{IsRightForm, name_of};
 ghost use Rattle.history_reader.specs.Reading.{BeginsWith, BeginsWithNone};
 
 use crate::cuts::{cut, front};
 use crate::rests::{enter_in, fail_in, pass_in, round_in, steal_in, wake_in};
 use crate::work::work_in;
 use round_model::Entry;
+use sched_history::LineForm;
 
 /// A kind of entry.
 #[derive(Clone, Copy)]
@@ -29,41 +31,44 @@ pub enum Kind {
 }
 
 /// The entry that the text begins with, and what stands behind its line.
-pub fn entry_at(text: &[u8]) -> Option<(Entry, &[u8])>
+pub fn entry_at(text: &[u8], form: LineForm) -> Option<(Entry, &[u8])>
+    requires { IsRightForm form }
     ensures { MatchOption result
-        (BeginsWithNone text.now)
-        (λ found. BeginsWith text.now found.0 found.1.now) }
+        (BeginsWithNone form text.now)
+        (λ found. BeginsWith form text.now found.0 found.1.now) }
 {
     let (line, behind) = cut(text, b'\n')?;
-    let entry = entry_in(line)?;
+    let entry = entry_in(line, form)?;
     Some((entry, behind))
 }
 
 /// The entry whose line it is, without its line feed.
-fn entry_in(line: &[u8]) -> Option<Entry>
+fn entry_in(line: &[u8], form: LineForm) -> Option<Entry>
+    requires { IsRightForm form }
     ensures { MatchOption result
-        (IsLineOfNone line.now)
-        (λ entry. IsLineOf line.now entry) }
+        (IsLineOfNone form line.now)
+        (λ entry. IsLineOf form line.now entry) }
 {
     let (word, rest) = front(line, b' ');
     let kind = kind_named(word)?;
-    entry_of(kind, rest)
+    entry_of(kind, rest, form)
 }
 
 /// The entry of that kind, behind whose first word the text stands.
-fn entry_of(kind: Kind, rest: &[u8]) -> Option<Entry>
+fn entry_of(kind: Kind, rest: &[u8], form: LineForm) -> Option<Entry>
+    requires { IsRightForm form }
     ensures { MatchOption result
-        (IsNoRestOf kind rest.now)
-        (λ entry. IsRestOf kind rest.now entry) }
+        (IsNoRestOf form kind rest.now)
+        (λ entry. IsRestOf form kind rest.now entry) }
 {
     match kind {
-        Kind::Round => round_in(rest),
-        Kind::Enter => enter_in(rest),
-        Kind::Wake => wake_in(rest),
-        Kind::Work => work_in(rest),
-        Kind::Steal => steal_in(rest),
-        Kind::Fail => fail_in(rest),
-        Kind::Pass => pass_in(rest),
+        Kind::Round => round_in(rest, form),
+        Kind::Enter => enter_in(rest, form),
+        Kind::Wake => wake_in(rest, form),
+        Kind::Work => work_in(rest, form),
+        Kind::Steal => steal_in(rest, form),
+        Kind::Fail => fail_in(rest, form),
+        Kind::Pass => pass_in(rest, form),
     }
 }
 

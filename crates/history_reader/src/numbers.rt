@@ -1,16 +1,12 @@
 //! Reads numbers, each behind one space and in its one spelling, with a space or nothing behind it.
 
-ghost use Rattle.std.specs.Prelude.{◌≡◌, ◌≢◌, List, MatchOption, ℕ};
-ghost use Rattle.sched_history.specs.Ranges.{AreReads, IsCoreNumber, IsPosition, IsRoundNumber, IsThreadNumber};
-ghost use Rattle.sched_history.specs.Spelling.{spaced};
-ghost use Rattle.history_reader.specs.Code.Kinds.{rest_of_reads};
+ghost use Rattle.std.specs.Prelude.{MatchOption};
+ghost use Rattle.sched_history.specs.Ranges.{IsCoreNumber, IsRoundNumber, IsThreadNumber};
 ghost use Rattle.history_reader.specs.Code.Numbers.{BeginsWithNoNumber, BeginsWithNumber, BeginsWithThreads, IsWithin};
 
 use crate::cuts::front;
-use sched_base::{
-    CoreId, MAX_CORES, MAX_ENTRIES, MAX_ROUNDS, MAX_STOLEN, MAX_THREADS, Pos, Reads, Stolen,
-    ThreadId,
-};
+use sched_base::{CoreId, MAX_CORES, MAX_ROUNDS, MAX_STOLEN, MAX_THREADS, Stolen, ThreadId};
+use sched_history::{FIRST_FORMAT_CORES, LineForm};
 use text_forms::exact_number_in;
 
 /// The number of a round that the text begins with, and what stands behind it.
@@ -48,53 +44,19 @@ pub fn threads_at(text: &[u8]) -> (Stolen, &[u8])
 }
 
 /// The number of a core that the text begins with, and what stands behind it.
-pub fn core_at(text: &[u8]) -> Option<(CoreId, &[u8])>
+pub fn core_at(text: &[u8], form: LineForm) -> Option<(CoreId, &[u8])>
     ensures { MatchOption result
-        (BeginsWithNoNumber IsCoreNumber text.now)
-        (λ found. BeginsWithNumber IsCoreNumber text.now found.0 found.1.now) }
+        (BeginsWithNoNumber (IsCoreNumber form) text.now)
+        (λ found. BeginsWithNumber (IsCoreNumber form) text.now found.0 found.1.now) }
 {
-    number_at(text, 0, MAX_CORES as u32 - 1)
-}
-
-/// The positions of which the text is, with the colon before them.
-pub fn reads_in(text: &[u8]) -> Option<Reads>
-    ensures { MatchOption result
-        ((reads : List ℕ) → AreReads reads → text.now ≢ rest_of_reads reads)
-        (λ reads. AreReads reads × (text.now ≡ rest_of_reads reads)) }
-{
-    positions_in(text.strip_prefix(b" :".as_slice())?)
-}
-
-/// The positions of which the text is.
-fn positions_in(text: &[u8]) -> Option<Reads>
-    ensures { MatchOption result
-        ((reads : List ℕ) → AreReads reads → text.now ≢ spaced reads)
-        (λ reads. AreReads reads × (text.now ≡ spaced reads)) }
-{
-    let mut reads = Reads::empty();
-    let mut rest = text;
-    while !rest.is_empty() {
-        if reads.len() as usize == MAX_CORES {
-            return None;
-        }
-        let (position, behind) = position_at(rest)?;
-        reads.push(position);
-        rest = behind;
+    match form {
+        LineForm::First => number_at(text, 0, FIRST_FORMAT_CORES as u32 - 1),
+        LineForm::Second { .. } => number_at(text, 0, MAX_CORES as u32 - 1),
     }
-    Some(reads)
-}
-
-/// The position that the text begins with, and what stands behind it.
-fn position_at(text: &[u8]) -> Option<(Pos, &[u8])>
-    ensures { MatchOption result
-        (BeginsWithNoNumber IsPosition text.now)
-        (λ found. BeginsWithNumber IsPosition text.now found.0 found.1.now) }
-{
-    number_at(text, 0, MAX_ENTRIES)
 }
 
 /// The number between these two that the text begins with, and what stands behind it.
-fn number_at(text: &[u8], least: u32, most: u32) -> Option<(u32, &[u8])>
+pub fn number_at(text: &[u8], least: u32, most: u32) -> Option<(u32, &[u8])>
     ensures { MatchOption result
         (BeginsWithNoNumber (IsWithin least most) text.now)
         (λ found. BeginsWithNumber (IsWithin least most) text.now found.0 found.1.now) }

@@ -11,14 +11,15 @@ ghost use Rattle.history_reader.specs.declared.line.Kind.TheVariants as kinds;
 use crate::numbers::{core_at, thread_at};
 use round_model::{Did, Entry};
 use sched_base::ThreadId;
+use sched_history::LineForm;
 
 /// The unit behind whose first word the text stands.
-pub fn work_in(text: &[u8]) -> Option<Entry>
+pub fn work_in(text: &[u8], form: LineForm) -> Option<Entry>
     ensures { MatchOption result
-        (IsNoRestOf kinds.Work text.now)
-        (λ entry. IsRestOf kinds.Work text.now entry) }
+        (IsNoRestOf form kinds.Work text.now)
+        (λ entry. IsRestOf form kinds.Work text.now entry) }
 {
-    let (by, rest) = core_at(text)?;
+    let (by, rest) = core_at(text, form)?;
     let did = did_in(rest)?;
     Some(Entry::Work { by, did })
 }

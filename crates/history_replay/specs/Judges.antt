@@ -49,19 +49,20 @@ pub record Tells (p : Meaning) (plan : Plan) (history : List Entry) (report : Fu
 abbrev pub TellsOf : Meaning → Plan → List Entry → HistoryAnswer → Type 0
 TellsOf p plan history (answer.Whole count) = ⊥
 TellsOf p plan history (answer.Reported report) = Tells p plan history report
+TellsOf p plan history (answer.Migrated judged) = ⊥
 TellsOf p plan history (answer.Refused why) = ⊥
 
 module _ (p : Meaning) (trace text : List ℕ) where
   -- the one text means this plan, and the other spells this history
   pub record Gives (plan : Plan) (history : List Entry) : Type 0 where
     pub means : MeansPlan p trace plan
-    pub spells : SpellsHistory text history
+    pub spells : SpellsHistory plan.cores text history
 
   -- the texts give no whole history, and this is the first reason: a fault of the trace before one of the history's
   -- text, and that before the judgement
   abbrev pub HasRefusal : HistoryRefusal → Type 0
   HasRefusal (refusal.Trace fault) = HasFault p trace fault
-  HasRefusal (refusal.BadLine line) = ((plan : Plan) × MeansPlan p trace plan) × IsFirstBadLine text line
+  HasRefusal (refusal.BadLine line) = (plan : Plan) × MeansPlan p trace plan × IsFirstBadLine plan.cores text line
   HasRefusal (refusal.Illegal position) =
       (plan : Plan) × (history : List Entry) × Gives plan history × IsFirstIllegal p plan history position
   HasRefusal (refusal.Short count) =
@@ -88,6 +89,7 @@ module _ (p : Meaning) (trace text : List ℕ) where
   abbrev pub IsReplayOf : HistoryAnswer → Type 0
   IsReplayOf (answer.Whole count) = GivesWhole count
   IsReplayOf (answer.Reported report) = ⊥
+  IsReplayOf (answer.Migrated judged) = ⊥
   IsReplayOf (answer.Refused why) = HasRefusal why
 
   -- they give a whole history, of which that is told
@@ -102,4 +104,12 @@ module _ (p : Meaning) (trace text : List ℕ) where
   abbrev pub IsReportOf : HistoryAnswer → Type 0
   IsReportOf (answer.Whole count) = ⊥
   IsReportOf (answer.Reported report) = GivesReport report
+  IsReportOf (answer.Migrated judged) = ⊥
   IsReportOf (answer.Refused why) = HasRefusal why
+
+  -- they give the whole history that migrate answers
+  abbrev pub IsMigrationOf : HistoryAnswer → Type 0
+  IsMigrationOf (answer.Whole count) = ⊥
+  IsMigrationOf (answer.Reported report) = ⊥
+  IsMigrationOf (answer.Migrated judged) = IsJudged judged
+  IsMigrationOf (answer.Refused why) = HasRefusal why

@@ -1,5 +1,7 @@
 -- What is written of a history that was judged.
 use Rattle.std.specs.Prelude.{ℕ, List, [], ◌∷◌, ◌++◌, codes, decimal}
+use Rattle.sched_history.specs.Ranges.{CanBePrinted}
+use Rattle.sched_history.specs.Spelling.{lines_of_history}
 use Rattle.sched_report.specs.Lines.{report_lines}
 use Rattle.trace_play.specs.Told.{fault_line}
 use Rattle.history_replay.specs.declared.answer.HistoryAnswer.{HistoryAnswer}
@@ -26,4 +28,12 @@ whole_line count = numbered_line (codes "whole ") count (codes "\n")
 abbrev pub lines_of : HistoryAnswer → List (List ℕ)
 lines_of (answer.Whole count) = whole_line count ∷ []
 lines_of (answer.Reported report) = report_lines report
+lines_of (answer.Migrated judged) = lines_of_history judged.plan.cores judged.history
 lines_of (answer.Refused why) = refusal_line why ∷ []
+
+-- the answer can be written: a history that is migrated has a text of the second format
+abbrev pub IsShown : HistoryAnswer → Type 0
+IsShown (answer.Whole count) = Unit {0}
+IsShown (answer.Reported report) = Unit {0}
+IsShown (answer.Migrated judged) = CanBePrinted judged.plan.cores judged.history
+IsShown (answer.Refused why) = Unit {0}

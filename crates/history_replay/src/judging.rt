@@ -86,7 +86,7 @@ pub fn judge_texts(
     ensures stop { IfErr result (IsJudgeStop (meaning_of policy.now) trace.now history.now) }
 {
     let plan = plan_text(alloc, policy, trace)?;
-    let history = read_history(alloc, history)?;
+    let history = read_history(alloc, history, plan.cores)?;
     let _replayed = replay(alloc, policy, &plan, &history)?;
     Ok(Judged { plan, history })
 }

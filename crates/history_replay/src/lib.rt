@@ -7,6 +7,6 @@ mod answer;
 mod judging;
 mod refusal;
 
-pub use answer::{HistoryAnswer, replay_texts, report_texts};
+pub use answer::{HistoryAnswer, migrate_texts, replay_texts, report_texts};
 pub use judging::{JudgeStop, Judged, judge_texts};
 pub use refusal::HistoryRefusal;

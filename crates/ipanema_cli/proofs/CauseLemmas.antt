@@ -23,20 +23,21 @@ use Rattle.trace_play.specs.declared.cores.PlayedCores.TheVariants as cores
 use Rattle.history_replay.specs.declared.answer.HistoryAnswer.{HistoryAnswer}
 use Rattle.history_replay.specs.declared.answer.HistoryAnswer.TheVariants as judged
 use Rattle.history_replay.specs.declared.refusal.HistoryRefusal.TheVariants as no_history
-use Rattle.history_replay.specs.Judges.{IsReplayOf, IsReportOf}
+use Rattle.history_replay.specs.Judges.{IsMigrationOf, IsReplayOf, IsReportOf}
 use Rattle.trace_play.specs.Plays as plays
 use Rattle.trace_run.specs.Runs.{IsRunOf}
+use Rattle.round_model.specs.declared.serial.Played.{Played}
 use Rattle.round_model.specs.declared.serial.Played.TheVariants as played
 use Rattle.trace_simulation.specs.declared.answer.PlayedWaste.TheVariants as wasted
 use Rattle.trace_simulation.specs.declared.answer.SimulationAnswer.{SimulationAnswer}
 use Rattle.trace_simulation.specs.declared.answer.SimulationAnswer.TheVariants as simulation
 use Rattle.trace_simulation.specs.Simulations.{IsSimulationOf, IsWasteOf}
 use Rattle.ipanema_cli.specs.Answers.{AnswersCheck, AnswersExplain, AnswersJudging, AnswersPlay, AnswersProve, AnswersVerify, IsAnswer, Judging, Playing, output_of, status_of}
-use Rattle.command_words.specs.Command.{Asked, bench, check, explain, make, play, prove, replay, report, run, simulate, verify, waste}
+use Rattle.command_words.specs.Command.{Asked, bench, check, explain, make, migrate, play, prove, replay, report, run, simulate, verify, waste}
 use Rattle.ipanema_cli.specs.Ends.{Ends, answered, unread, no_memory}
 use Rattle.ipanema_cli.specs.Causes.{HasCause, Judges, OneOf, Plays, SaysCrowded, SaysTooLong, Verifies}
 use Rattle.ipanema_cli.specs.Simulations.{AnswersSimulation, Simulating}
-use Rattle.ipanema_cli.specs.Status.{check_status, code_of, outcome_status, refusal_status, simulation_status, verify_status}
+use Rattle.ipanema_cli.specs.Status.{check_status, code_of, outcome_status, refusal_status, played_status, simulation_status, verify_status}
 use Rattle.ipanema_cli.specs.Loads.{IsFileOf, IsOneOfThree}
 use Rattle.ipanema_cli.specs.Stops.{IsUnread}
 use Rattle.ipanema_cli.specs.Texts.{MayRead, room_of, too_long_line}
@@ -66,8 +67,11 @@ verify_low (verified.Unjudged (refusal.Crowded name)) n a b c d e = c (sym e)
 -- what a trace comes to that is simulated has none but the numbers 0, 2 and 8
 simulation_low : (s : SimulationAnswer) (n : ℕ) → n ≢ 0 → n ≢ 2 → n ≢ 8 → code_of (simulation_status s) ≡ n → ⊥
 simulation_low (simulation.Broken fault) n a b c e = b (sym e)
-simulation_low (simulation.Played (played.Whole history)) n a b c e = a (sym e)
-simulation_low (simulation.Played (played.Full history)) n a b c e = c (sym e)
+simulation_low (simulation.Played made) n a b c e = by made.played e
+  where
+    by : (play : Played) → code_of (played_status play) ≡ n → ⊥
+    by (played.Whole history) e = a (sym e)
+    by (played.Full history) e = c (sym e)
 simulation_low (simulation.Wasted (wasted.Whole told)) n a b c e = a (sym e)
 simulation_low (simulation.Wasted (wasted.Full told)) n a b c e = c (sym e)
 
@@ -89,6 +93,7 @@ seven (answer.Played (play_answer.Played (cores.Full closed))) e = absurd (omega
 seven (answer.Simulated s) e = absurd (simulation_low s 7 (λ h. omega arith) (λ h. omega arith) (λ h. omega arith) e)
 seven (answer.Judged (judged.Whole count)) e = absurd (omega arith)
 seven (answer.Judged (judged.Reported told)) e = absurd (omega arith)
+seven (answer.Judged (judged.Migrated given)) e = absurd (omega arith)
 seven (answer.Judged (judged.Refused (no_history.Trace fault))) e = absurd (omega arith)
 seven (answer.Judged (judged.Refused (no_history.BadLine line))) e = absurd (omega arith)
 seven (answer.Judged (judged.Refused (no_history.Illegal position))) e = absurd (omega arith)
@@ -114,6 +119,7 @@ eight (answer.Played outcome) e = inl (outcome, refl)
 eight (answer.Simulated s) e = inr (s, refl)
 eight (answer.Judged (judged.Whole count)) e = absurd (omega arith)
 eight (answer.Judged (judged.Reported told)) e = absurd (omega arith)
+eight (answer.Judged (judged.Migrated given)) e = absurd (omega arith)
 eight (answer.Judged (judged.Refused (no_history.Trace fault))) e = absurd (omega arith)
 eight (answer.Judged (judged.Refused (no_history.BadLine line))) e = absurd (omega arith)
 eight (answer.Judged (judged.Refused (no_history.Illegal position))) e = absurd (omega arith)
@@ -161,6 +167,7 @@ eleven (answer.Played (play_answer.Played (cores.Full closed))) e = absurd (omeg
 eleven (answer.Simulated s) e = absurd (simulation_low s 11 (λ h. omega arith) (λ h. omega arith) (λ h. omega arith) e)
 eleven (answer.Judged (judged.Whole count)) e = absurd (omega arith)
 eleven (answer.Judged (judged.Reported told)) e = absurd (omega arith)
+eleven (answer.Judged (judged.Migrated given)) e = absurd (omega arith)
 eleven (answer.Judged (judged.Refused (no_history.Trace fault))) e = absurd (omega arith)
 eleven (answer.Judged (judged.Refused (no_history.BadLine line))) e = absurd (omega arith)
 eleven (answer.Judged (judged.Refused (no_history.Illegal position))) e = absurd (omega arith)
@@ -182,6 +189,7 @@ played_for (Some (simulate policy trace)) told outcome is = absurd is
 played_for (Some (waste policy trace)) told outcome is = absurd is
 played_for (Some (replay policy trace history)) told outcome is = absurd is
 played_for (Some (report policy trace history)) told outcome is = absurd is
+played_for (Some (migrate policy trace history)) told outcome is = absurd is
 played_for (Some (make seed size)) told outcome is = absurd is
 played_for (Some (bench seed size)) told outcome is = absurd is
 
@@ -197,6 +205,7 @@ simulated_for (Some (simulate policy trace)) told s is = (policy, trace, inr (in
 simulated_for (Some (waste policy trace)) told s is = (policy, trace, inr (inr (inr refl)))
 simulated_for (Some (replay policy trace history)) told s is = absurd is
 simulated_for (Some (report policy trace history)) told s is = absurd is
+simulated_for (Some (migrate policy trace history)) told s is = absurd is
 simulated_for (Some (make seed size)) told s is = absurd is
 simulated_for (Some (bench seed size)) told s is = absurd is
 
@@ -211,7 +220,8 @@ judged_for (Some (run policy trace)) told h is = absurd is
 judged_for (Some (simulate policy trace)) told h is = absurd is
 judged_for (Some (waste policy trace)) told h is = absurd is
 judged_for (Some (replay policy trace history)) told h is = (policy, trace, history, inl refl)
-judged_for (Some (report policy trace history)) told h is = (policy, trace, history, inr refl)
+judged_for (Some (report policy trace history)) told h is = (policy, trace, history, inr (inl refl))
+judged_for (Some (migrate policy trace history)) told h is = (policy, trace, history, inr (inr refl))
 judged_for (Some (make seed size)) told h is = absurd is
 judged_for (Some (bench seed size)) told h is = absurd is
 
@@ -227,6 +237,7 @@ verified_for (Some (simulate policy trace)) told v is = absurd is
 verified_for (Some (waste policy trace)) told v is = absurd is
 verified_for (Some (replay policy trace history)) told v is = absurd is
 verified_for (Some (report policy trace history)) told v is = absurd is
+verified_for (Some (migrate policy trace history)) told v is = absurd is
 verified_for (Some (make seed size)) told v is = absurd is
 verified_for (Some (bench seed size)) told v is = absurd is
 
@@ -243,6 +254,7 @@ for_no_command (Some (simulate policy trace)) told is = absurd is
 for_no_command (Some (waste policy trace)) told is = absurd is
 for_no_command (Some (replay policy trace history)) told is = absurd is
 for_no_command (Some (report policy trace history)) told is = absurd is
+for_no_command (Some (migrate policy trace history)) told is = absurd is
 for_no_command (Some (make seed size)) told is = absurd is
 for_no_command (Some (bench seed size)) told is = absurd is
 
@@ -468,6 +480,7 @@ long_file (Some (waste policy trace)) told a kind.History name held is file tell
 long_file (Some (waste policy trace)) told a kind.Certificates name held is file tells long = absurd file
 long_file (Some (replay policy trace history)) told a which name held is file tells long = long_of_three IsReplayOf policy trace history told a which name held is file tells long
 long_file (Some (report policy trace history)) told a which name held is file tells long = long_of_three IsReportOf policy trace history told a which name held is file tells long
+long_file (Some (migrate policy trace history)) told a which name held is file tells long = long_of_three IsMigrationOf policy trace history told a which name held is file tells long
 long_file (Some (make seed size)) told a which name held is file tells long = absurd file
 long_file (Some (bench seed size)) told a which name held is file tells long = absurd file
 
@@ -529,6 +542,8 @@ module _ (told : List ℕ → Told) (before after : Option (List ℕ)) where
       inr (ten_of_three (Some (replay policy trace history)) policy trace history refl IsReplayOf c is e added)
   ten (Some (report policy trace history)) (answer.Checked c) is e added =
       inr (ten_of_three (Some (report policy trace history)) policy trace history refl IsReportOf c is e added)
+  ten (Some (migrate policy trace history)) (answer.Checked c) is e added =
+      inr (ten_of_three (Some (migrate policy trace history)) policy trace history refl IsMigrationOf c is e added)
   ten (Some (make seed size)) (answer.Checked c) is e added = absurd is
   ten (Some (bench seed size)) (answer.Checked (checked.Judged (verdict.Accepted kept))) is e added = absurd (omega arith)
   ten (Some (bench seed size)) (answer.Checked (checked.Judged (verdict.Refused answers kept))) is e added = absurd (omega arith)
@@ -548,6 +563,7 @@ module _ (told : List ℕ → Told) (before after : Option (List ℕ)) where
   ten (Some (waste policy trace)) (answer.Explained told) is e added = absurd is
   ten (Some (replay policy trace history)) (answer.Explained told) is e added = absurd is
   ten (Some (report policy trace history)) (answer.Explained told) is e added = absurd is
+  ten (Some (migrate policy trace history)) (answer.Explained told) is e added = absurd is
   ten (Some (make seed size)) (answer.Explained told) is e added = absurd is
   ten (Some (bench seed size)) (answer.Explained told) is e added = absurd is
   ten asked (answer.Proved certs) is e added = absurd (omega arith)
@@ -564,12 +580,14 @@ module _ (told : List ℕ → Told) (before after : Option (List ℕ)) where
   ten (Some (waste policy trace)) (answer.Verified (verified.Unjudged why)) is e added = absurd is
   ten (Some (replay policy trace history)) (answer.Verified (verified.Unjudged why)) is e added = absurd is
   ten (Some (report policy trace history)) (answer.Verified (verified.Unjudged why)) is e added = absurd is
+  ten (Some (migrate policy trace history)) (answer.Verified (verified.Unjudged why)) is e added = absurd is
   ten (Some (make seed size)) (answer.Verified (verified.Unjudged why)) is e added = absurd is
   ten (Some (bench seed size)) (answer.Verified (verified.Unjudged why)) is e added = absurd is
   ten (Some (verify policy certs)) (answer.Verified (verified.Unjudged why)) is e added =
       inr (crowded_by (Some (verify policy certs)) policy is.text why refl is.policy_read is.answers e added)
   ten asked (answer.Judged (judged.Whole count)) is e added = absurd (omega arith)
   ten asked (answer.Judged (judged.Reported told)) is e added = absurd (omega arith)
+  ten asked (answer.Judged (judged.Migrated given)) is e added = absurd (omega arith)
   ten asked (answer.Judged (judged.Refused (no_history.Trace fault))) is e added = absurd (omega arith)
   ten asked (answer.Judged (judged.Refused (no_history.BadLine line))) is e added = absurd (omega arith)
   ten asked (answer.Judged (judged.Refused (no_history.Illegal position))) is e added = absurd (omega arith)

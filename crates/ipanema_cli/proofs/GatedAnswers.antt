@@ -1,7 +1,7 @@
 -- Answers, with what they say of the gate and without.
 use Rattle.std.proofs.Common.{◌≢◌, ℕ, List, Option, Some, None, refl}
 use Rattle.sched_io.specs.Told.{Told}
-use Rattle.command_words.specs.Command.{Asked, bench, check, explain, make, play, prove, replay, report, run, simulate, verify, waste}
+use Rattle.command_words.specs.Command.{Asked, bench, check, explain, make, migrate, play, prove, replay, report, run, simulate, verify, waste}
 use Rattle.trace_run.specs.Runs.{IsGatedRunOf, IsRunOf}
 use Rattle.ipanema_cli.specs.Answers.{AnswersPlay, IsAnswer, IsGatedAnswer}
 use Rattle.ipanema_cli.specs.declared.answers.Answer.{Answer}
@@ -45,6 +45,7 @@ module _ (Passed : ℕ → ℕ → Type 0) where
   plain (Some (waste policy trace)) told a is = is
   plain (Some (replay policy trace history)) told a is = is
   plain (Some (report policy trace history)) told a is = is
+  plain (Some (migrate policy trace history)) told a is = is
   plain (Some (make seed size)) told a is = is
   plain (Some (bench seed size)) told a is = is
 
@@ -61,6 +62,7 @@ module _ (Passed : ℕ → ℕ → Type 0) where
   ungated (Some (waste policy trace)) told a other is = is
   ungated (Some (replay policy trace history)) told a other is = is
   ungated (Some (report policy trace history)) told a other is = is
+  ungated (Some (migrate policy trace history)) told a other is = is
   ungated (Some (make seed size)) told a other is = is
   ungated (Some (bench seed size)) told a other is = is
 
@@ -83,5 +85,6 @@ module _ (Passed : ℕ → ℕ → Type 0) where
   gated_length (Some (waste policy trace)) told which is = is
   gated_length (Some (replay policy trace history)) told which is = is
   gated_length (Some (report policy trace history)) told which is = is
+  gated_length (Some (migrate policy trace history)) told which is = is
   gated_length (Some (make seed size)) told which is = is
   gated_length (Some (bench seed size)) told which is = is

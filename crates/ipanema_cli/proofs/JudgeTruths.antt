@@ -20,16 +20,19 @@ use Rattle.round_model.specs.Legal.{Whole}
 use Rattle.job_trace.specs.declared.trace.Numbered.{Numbered}
 use Rattle.job_trace.specs.Plans.{SpellsPlan}
 use Rattle.trace_play.specs.declared.fault.LineFault.{LineFault}
-use Rattle.trace_play.specs.Plays.{HasFault}
+use Rattle.trace_play.specs.Plays.{HasFault, MeansPlan}
 use Rattle.trace_play.proofs.OnePlay.{never_faulty, one_plan, one_trace}
-use Rattle.history_reader.specs.Reading.{IsFirstBadLine}
-use Rattle.history_reader.proofs.OneReading.{not_both, one_history}
+use Rattle.sched_history.specs.Spelling.{lines_of_history}
+use Rattle.history_reader.specs.Reading.{IsFirstBadLine, SpellsHistory}
+use Rattle.history_reader.proofs.EachText.{one_reading}
+use Rattle.history_reader.proofs.WholeTexts.{not_both, one_history}
 use Rattle.history_judge.proofs.Judged.{one_judgement}
 use Rattle.history_replay.specs.declared.answer.HistoryAnswer.{HistoryAnswer}
 use Rattle.history_replay.specs.declared.answer.HistoryAnswer.TheVariants as judged
 use Rattle.history_replay.specs.declared.refusal.HistoryRefusal.{HistoryRefusal}
 use Rattle.history_replay.specs.declared.refusal.HistoryRefusal.TheVariants as no_history
-use Rattle.history_replay.specs.Judges.{Gives, HasRefusal, IsReplayOf, IsReportOf}
+use Rattle.history_replay.specs.Judges.{Gives, HasRefusal, IsMigrationOf, IsReplayOf, IsReportOf}
+use Rattle.history_replay.proofs.Migrating.{can_be_printed}
 use Rattle.history_replay.specs.Lines as histories
 use Rattle.sched_report.specs.Lines.{report_lines}
 use Rattle.round_laws.proofs.MainTheorem.{main_theorem}
@@ -38,11 +41,12 @@ use Rattle.ipanema_cli.specs.Ends.{Writes}
 use Rattle.ipanema_cli.specs.Status.{check_status, code_of, history_refusal_status, history_status, refusal_status, verdict_status}
 use Rattle.ipanema_cli.specs.Texts.{MayRead}
 use Rattle.ipanema_cli.specs.CheckTruths.{Decides, Holds, Refuses, Spells}
-use Rattle.ipanema_cli.specs.JudgeTruths.{DoHoldAll, JudgesTruly, MayJudge, MustJudge, SaysReport, SaysWhole, TellsWhy}
+use Rattle.ipanema_cli.specs.JudgeTruths.{DoHoldAll, JudgesTruly, MayJudge, MustJudge, SaysMigrated, SaysReport, SaysWhole, TellsWhy}
 use Rattle.ipanema_cli.specs.JudgeTruths.{illegal, short}
 use Rattle.ipanema_cli.specs.declared.answers.Answer.{Answer}
 use Rattle.ipanema_cli.specs.declared.answers.Answer.TheVariants as answer
 use Rattle.ipanema_cli.specs.declared.texts.TextKind.TheVariants as kind
+use Rattle.ipanema_cli.proofs.SimulationTruths.{text_of_lines}
 use Rattle.ipanema_cli.proofs.CheckTruths.{Stopped, at_4, at_5, at_6, not_long, refusal_not_0, stopped_not, stopped_refuses, tells_fault, verdict_answers}
 use Rattle.ipanema_cli.proofs.TraceTruths.{low_or_stopped, no_line, refused_left}
 use Rattle.ipanema_cli.proofs.PolicyFacts.{judged_refuses, read_decides, read_refuses, refused_text, resolved, same_policy, text_read}
@@ -57,7 +61,7 @@ stopped_must policy trace history code stop = record {
   whole = λ p jobs lines plan entries held gives is. elim stop [ at_4 e ↦ rw e refl | at_5 e ↦ rw e refl | at_6 e ↦ rw e refl ];
   not_whole = λ p jobs lines plan entries held gives is. elim stop [ at_4 e ↦ rw e refl | at_5 e ↦ rw e refl | at_6 e ↦ rw e refl ];
   faulty = λ p jobs lines fault held has. elim stop [ at_4 e ↦ rw e refl | at_5 e ↦ rw e refl | at_6 e ↦ rw e refl ];
-  bad_line = λ p jobs lines line held bad. elim stop [ at_4 e ↦ rw e refl | at_5 e ↦ rw e refl | at_6 e ↦ rw e refl ];
+  bad_line = λ p jobs lines plan line held means bad. elim stop [ at_4 e ↦ rw e refl | at_5 e ↦ rw e refl | at_6 e ↦ rw e refl ];
   decides = λ p jobs lines held also too none. stopped_not code 3 (λ e. omega arith) (λ e. omega arith) (λ e. omega arith) stop;
   refuses = λ p jobs lines held also too unmet. elim stop [ at_4 e ↦ rw e refl | at_5 e ↦ rw e refl | at_6 e ↦ rw e refl ];
   unjudged = λ jobs lines also too. stopped_refuses policy code stop;
@@ -86,7 +90,7 @@ long_judge Says policy trace history before after code none own =
         whole = λ p jobs lines plan entries held _ _. absurd (never p jobs lines held);
         not_whole = λ p jobs lines plan entries held _ _. absurd (never p jobs lines held);
         faulty = λ p jobs lines fault held _. absurd (never p jobs lines held);
-        bad_line = λ p jobs lines line held _. absurd (never p jobs lines held);
+        bad_line = λ p jobs lines plan line held _ _. absurd (never p jobs lines held);
         decides = λ p jobs lines held also too _ three. none held.text jobs lines held.held also too;
         refuses = λ p jobs lines held also too _. absurd (none held.text jobs lines held.held also too);
         unjudged = λ jobs lines also too. record {
@@ -106,7 +110,7 @@ must_of policy trace history code left decides refuses = record {
   whole = λ p jobs lines plan entries held _ _. rw (left p held.spells held.meets) refl;
   not_whole = λ p jobs lines plan entries held _ _. rw (left p held.spells held.meets) refl;
   faulty = λ p jobs lines fault held _. rw (left p held.spells held.meets) refl;
-  bad_line = λ p jobs lines line held _. rw (left p held.spells held.meets) refl;
+  bad_line = λ p jobs lines plan line held _ _. rw (left p held.spells held.meets) refl;
   decides = λ p jobs lines held also too none. decides.decides p held none;
   refuses = λ p jobs lines held also too unmet. decides.refuses p held unmet;
   unjudged = λ jobs lines also too. refuses;
@@ -162,14 +166,19 @@ record SameGiven (plan other : Plan) (entries others : List Entry) : Type 0 wher
   same_plan : plan ≡ other
   same_entries : entries ≡ others
 
+same_means : (p : Meaning) (jobs : List ℕ) (plan other : Plan) → MeansPlan p jobs plan → MeansPlan p jobs other → plan ≡ other
+same_means p jobs plan other first second =
+    let same = one_trace jobs first.trace second.trace first.spells second.spells in
+    one_plan p second.trace plan other (subst (λ (l : List Numbered). SpellsPlan p l plan) same first.means) second.means
+
 same_given : (p : Meaning) (jobs lines : List ℕ) (plan other : Plan) (entries others : List Entry) → Gives p jobs lines plan entries → Gives p jobs lines other others
     → SameGiven plan other entries others
 same_given p jobs lines plan other entries others one two =
-    let first = one.means in let second = two.means in
-    let same = one_trace jobs first.trace second.trace first.spells second.spells in
+    let same = same_means p jobs plan other one.means two.means in
     record {
-      same_plan = one_plan p second.trace plan other (subst (λ (l : List Numbered). SpellsPlan p l plan) same first.means) second.means;
-      same_entries = one_history lines entries others one.spells two.spells;
+      same_plan = same;
+      same_entries = one_history plan.cores lines entries others one.spells
+          (subst (λ (x : Plan). SpellsHistory x.cores lines others) (sym same) two.spells);
     }
 
 module _ (policy trace history : Told) (text jobs lines : List ℕ) (p : Meaning) (read : Read policy trace history text jobs lines p) where
@@ -200,10 +209,18 @@ module _ (policy trace history : Told) (text jobs lines : List ℕ) (p : Meaning
       subst (λ (q : Meaning). HasFault q jobs fault) (sym (the_policy other held.spells))
       (subst (λ (t : List ℕ). HasFault other t fault) (sym (text_read kind.Trace trace jobs also_jobs read.trace_read held.trace_held)) has)
 
-  still_bad : (other : Meaning) (also_jobs also_lines : List ℕ) (line : ℕ) → DoHoldAll policy trace history other also_jobs also_lines
-      → IsFirstBadLine also_lines line → IsFirstBadLine lines line
-  still_bad other also_jobs also_lines line held bad =
-      subst (λ (t : List ℕ). IsFirstBadLine t line) (sym (text_read kind.History history lines also_lines read.history_read held.history_held)) bad
+  still_means : (other : Meaning) (also_jobs also_lines : List ℕ) (also : Plan) → DoHoldAll policy trace history other also_jobs also_lines
+      → MeansPlan other also_jobs also → MeansPlan p jobs also
+  still_means other also_jobs also_lines also held means =
+      subst (λ (q : Meaning). MeansPlan q jobs also) (sym (the_policy other held.spells))
+      (subst (λ (t : List ℕ). MeansPlan other t also) (sym (text_read kind.Trace trace jobs also_jobs read.trace_read held.trace_held)) means)
+
+  still_bad : (other : Meaning) (also_jobs also_lines : List ℕ) (plan also : Plan) (line : ℕ) → MeansPlan p jobs plan
+      → DoHoldAll policy trace history other also_jobs also_lines → MeansPlan other also_jobs also
+      → IsFirstBadLine also.cores also_lines line → IsFirstBadLine plan.cores lines line
+  still_bad other also_jobs also_lines plan also line here held means bad =
+      subst (λ (t : List ℕ). IsFirstBadLine plan.cores t line) (sym (text_read kind.History history lines also_lines read.history_read held.history_held))
+      (subst (λ (x : Plan). IsFirstBadLine x.cores also_lines line) (sym (same_means p jobs plan also here (still_means other also_jobs also_lines also held means))) bad)
 
   still_whole : (other : Meaning) (also_jobs also_lines : List ℕ) (plan also : Plan) (entries others : List Entry) → Gives p jobs lines plan entries
       → DoHoldAll policy trace history other also_jobs also_lines → Gives other also_jobs also_lines also others → Whole other also others → Whole p plan entries
@@ -256,7 +273,8 @@ module _ (policy trace history : Told) (text jobs lines : List ℕ) (p : Meaning
           absurd (none (whole_still other also_jobs also_lines plan also entries others gives held also_gives is));
       faulty = λ other also_jobs also_lines fault held has.
           absurd (never_faulty p jobs gives.means.trace plan fault gives.means.spells gives.means.means (still_faulty other also_jobs also_lines fault held has));
-      bad_line = λ other also_jobs also_lines line held bad. absurd (not_both lines entries line gives.spells (still_bad other also_jobs also_lines line held bad));
+      bad_line = λ other also_jobs also_lines also line held means bad.
+          absurd (not_both plan.cores lines entries line gives.spells (still_bad other also_jobs also_lines plan also line gives.means held means bad));
       decides = λ other also_jobs also_lines held also too none three. absurd (omega arith);
       refuses = λ other also_jobs also_lines held also too unmet. absurd (unmet (still_met other held));
       unjudged = λ also_jobs also_lines also too. judged_refuses policy text p code read.policy_read read.accepted.spells read.accepted.few;
@@ -277,7 +295,8 @@ module _ (policy trace history : Told) (text jobs lines : List ℕ) (p : Meaning
       not_whole = λ other also_jobs also_lines also others held also_gives none. rw own refl;
       faulty = λ other also_jobs also_lines fault held has.
           absurd (never_faulty p jobs gives.means.trace plan fault gives.means.spells gives.means.means (still_faulty other also_jobs also_lines fault held has));
-      bad_line = λ other also_jobs also_lines line held bad. absurd (not_both lines entries line gives.spells (still_bad other also_jobs also_lines line held bad));
+      bad_line = λ other also_jobs also_lines also line held means bad.
+          absurd (not_both plan.cores lines entries line gives.spells (still_bad other also_jobs also_lines plan also line gives.means held means bad));
       decides = λ other also_jobs also_lines held also too none three. absurd (omega arith);
       refuses = λ other also_jobs also_lines held also too unmet. absurd (unmet (still_met other held));
       unjudged = λ also_jobs also_lines also too. judged_refuses policy text p code read.policy_read read.accepted.spells read.accepted.few;
@@ -292,7 +311,7 @@ module _ (policy trace history : Told) (text jobs lines : List ℕ) (p : Meaning
     whole = λ other also_jobs also_lines also others held also_gives is. absurd (never also others (still_given other also_jobs also_lines also others held also_gives));
     not_whole = λ other also_jobs also_lines also others held also_gives none. absurd (never also others (still_given other also_jobs also_lines also others held also_gives));
     faulty = λ other also_jobs also_lines fault held has. rw own refl;
-    bad_line = λ other also_jobs also_lines line held bad. rw own refl;
+    bad_line = λ other also_jobs also_lines also line held means bad. rw own refl;
     decides = λ other also_jobs also_lines held also too none three. absurd (omega arith);
     refuses = λ other also_jobs also_lines held also too unmet. absurd (unmet (still_met other held));
     unjudged = λ also_jobs also_lines also too. judged_refuses policy text p code read.policy_read read.accepted.spells read.accepted.few;
@@ -320,7 +339,9 @@ module _ (policy trace history : Told) (text jobs lines : List ℕ) (p : Meaning
   refused_history Says (no_history.BadLine line) before after code has own added = record {
     whole = λ h. absurd (omega arith);
     not_whole = λ h. absurd (omega arith);
-    must = must_refuse code own (λ plan entries gives. not_both lines entries line gives.spells has.1);
+    must = must_refuse code own (λ plan entries gives.
+        let same = same_means p jobs plan has.0 gives.means has.1 in
+        not_both plan.cores lines entries line gives.spells (subst (λ (x : Plan). IsFirstBadLine x.cores lines line) (sym same) has.2));
     lines = λ low. absurd (let bad = rw own at low in cc);
     bad_text = λ h. inr (inr (record {
       text = text;
@@ -331,10 +352,10 @@ module _ (policy trace history : Told) (text jobs lines : List ℕ) (p : Meaning
       history_read = read.history_read;
       p = p;
       accepted = read.accepted;
-      plan = has.0.0;
-      means = has.0.1;
+      plan = has.0;
+      means = has.1;
       line = line;
-      bad = has.1;
+      bad = has.2;
       written = added;
     }));
   }
@@ -351,6 +372,7 @@ replay_answer policy trace history text jobs lines p read (judged.Whole count) b
     judged_whole policy trace history text jobs lines p read SaysWhole is.plan is.history line before after code is.gives is.whole
     (ap histories.whole_line is.count_is) own (one_line line before after added)
 replay_answer policy trace history text jobs lines p read (judged.Reported report) before after code is own added = absurd is
+replay_answer policy trace history text jobs lines p read (judged.Migrated given) before after code is own added = absurd is
 replay_answer policy trace history text jobs lines p read (judged.Refused why) before after code is own added =
     refused_history policy trace history text jobs lines p read SaysWhole why before after code is own (one_line (histories.refusal_line why) before after added)
 
@@ -358,11 +380,26 @@ replay_answer policy trace history text jobs lines p read (judged.Refused why) b
 report_answer : (policy trace history : Told) (text jobs lines : List ℕ) (p : Meaning) → Read policy trace history text jobs lines p → (h : HistoryAnswer) (before after : Option (List ℕ)) (code : ℕ)
     → IsReportOf p jobs lines h → code ≡ code_of (history_status h) → Adds (joined (histories.lines_of h)) before after → JudgesTruly SaysReport policy trace history before after code
 report_answer policy trace history text jobs lines p read (judged.Whole count) before after code is own added = absurd is
+report_answer policy trace history text jobs lines p read (judged.Migrated given) before after code is own added = absurd is
 report_answer policy trace history text jobs lines p read (judged.Reported report) before after code is own added =
     judged_whole policy trace history text jobs lines p read SaysReport is.plan is.history (joined (report_lines report)) before after code is.gives is.whole
     (report, is.tells, refl) own added
 report_answer policy trace history text jobs lines p read (judged.Refused why) before after code is own added =
     refused_history policy trace history text jobs lines p read SaysReport why before after code is own (one_line (histories.refusal_line why) before after added)
+
+-- and those of `migrate`
+migrate_answer : (policy trace history : Told) (text jobs lines : List ℕ) (p : Meaning) → Read policy trace history text jobs lines p → (h : HistoryAnswer) (before after : Option (List ℕ)) (code : ℕ)
+    → IsMigrationOf p jobs lines h → code ≡ code_of (history_status h) → Adds (joined (histories.lines_of h)) before after → JudgesTruly SaysMigrated policy trace history before after code
+migrate_answer policy trace history text jobs lines p read (judged.Whole count) before after code is own added = absurd is
+migrate_answer policy trace history text jobs lines p read (judged.Reported report) before after code is own added = absurd is
+migrate_answer policy trace history text jobs lines p read (judged.Migrated given) before after code is own added =
+    let cores : ℕ = given.plan.cores in let entries = given.history in
+    let same = text_of_lines cores entries in
+    let again = (one_reading cores).a_text entries (can_be_printed p jobs lines given is) in
+    judged_whole policy trace history text jobs lines p read SaysMigrated given.plan entries (joined (lines_of_history cores entries)) before after code is.gives is.whole
+    (same, subst (λ (bytes : List ℕ). SpellsHistory cores bytes entries) (sym same) again) own added
+migrate_answer policy trace history text jobs lines p read (judged.Refused why) before after code is own added =
+    refused_history policy trace history text jobs lines p read SaysMigrated why before after code is own (one_line (histories.refusal_line why) before after added)
 
 -- what follows for a command from what its answers to judged histories are worth
 judges : (Is : Judging) (Says : Saying) → ((policy trace history : Told) (text jobs lines : List ℕ) (p : Meaning) → Read policy trace history text jobs lines p → (h : HistoryAnswer) (before after : Option (List ℕ)) (code : ℕ)
@@ -408,3 +445,7 @@ replays = judges IsReplayOf SaysWhole replay_answer
 pub reports : (policy trace history : Told) (before after : Shown) (code : ℕ) (a : Answer) → AnswersJudging IsReportOf policy trace history a
     → Writes a before after code → JudgesTruly SaysReport policy trace history before.written after.written code
 reports = judges IsReportOf SaysReport report_answer
+
+pub migrates : (policy trace history : Told) (before after : Shown) (code : ℕ) (a : Answer) → AnswersJudging IsMigrationOf policy trace history a
+    → Writes a before after code → JudgesTruly SaysMigrated policy trace history before.written after.written code
+migrates = judges IsMigrationOf SaysMigrated migrate_answer

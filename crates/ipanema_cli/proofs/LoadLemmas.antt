@@ -3,7 +3,7 @@ use Rattle.std.proofs.Common.{◌≡◌, ℕ, List, Option, Some, None, subst, s
 use Rattle.sched_io.specs.Loads.{AreRequested, LoadRequest}
 use Rattle.sched_io.specs.Told.{Told}
 use Rattle.sched_io.proofs.WrittenLemmas.{Grows-nil}
-use Rattle.command_words.specs.Command.{Asked, bench, check, explain, make, play, prove, replay, report, run, simulate, verify, waste}
+use Rattle.command_words.specs.Command.{Asked, bench, check, explain, make, migrate, play, prove, replay, report, run, simulate, verify, waste}
 use Rattle.ipanema_cli.specs.Loads.{FirstAreLoaded, MayGoOn, files_of}
 
 -- none of them is behind one that isn't read
@@ -19,6 +19,7 @@ goes_nowhere (Some (simulate policy trace)) told = λ more. absurd (omega arith)
 goes_nowhere (Some (waste policy trace)) told = λ more. absurd (omega arith)
 goes_nowhere (Some (replay policy trace history)) told = record { policy_read = λ more. absurd (omega arith); trace_read = λ more. absurd (omega arith) }
 goes_nowhere (Some (report policy trace history)) told = record { policy_read = λ more. absurd (omega arith); trace_read = λ more. absurd (omega arith) }
+goes_nowhere (Some (migrate policy trace history)) told = record { policy_read = λ more. absurd (omega arith); trace_read = λ more. absurd (omega arith) }
 goes_nowhere (Some (make seed size)) told = tt
 goes_nowhere (Some (bench seed size)) told = tt
 

@@ -1,5 +1,5 @@
 -- From how `play` ends to the truth of what it says.
-use Rattle.std.proofs.Common.{◌≡◌, ℕ, List, [], ◌∷◌, Option, refl, sym, arith, subst}
+use Rattle.std.proofs.Common.{◌≡◌, ℕ, List, [], ◌∷◌, length, Option, refl, sym, arith, subst}
 use Rattle.sched_io.specs.Shown.{Shown}
 use Rattle.sched_io.specs.Told.{Told}
 use Rattle.sched_io.specs.Written.{Adds}
@@ -11,6 +11,7 @@ use Rattle.round_model.specs.SerialEnds.{EndsWhole, IsFull, StopsFull}
 use Rattle.round_model.specs.SerialRounds.{serial_rounds}
 use Rattle.round_laws.proofs.MainTheorem.{main_theorem}
 use Rattle.sched_history.specs.Spelling.{text_of_history}
+use Rattle.core_state.specs.Views.{ClosedView}
 use Rattle.history_merge.specs.Merged.{merged}
 use Rattle.trace_play.specs.declared.answer.PlayAnswer.{PlayAnswer}
 use Rattle.trace_play.specs.declared.answer.PlayAnswer.TheVariants as play_answer
@@ -36,7 +37,7 @@ pub stopped_play : (policy trace : Told) (before after : Option (List ℕ)) (cod
 stopped_play policy trace before after code stop = stopped_trace EndsWhole StopsFull MustPlay must_of policy trace before after code stop
 
 played_whole : (policy trace : Told) (text jobs : List ℕ) (p : Meaning) (history : List Entry) (before after : Option (List ℕ)) (code : ℕ) → Read policy trace text jobs p
-    → plays.PlaysText p jobs (played.Whole history) → code ≡ 0 → Adds (text_of_history history) before after → PlaysTruly policy trace before after code
+    → (made : plays.PlaysText p jobs (played.Whole history)) → code ≡ 0 → Adds (text_of_history made.plan.cores history) before after → PlaysTruly policy trace before after code
 played_whole policy trace text jobs p history before after code read made own added = record {
   whole = λ h.
       let may = may_play policy trace text jobs p made.trace made.plan read made.spells made.means made.fits in
@@ -56,7 +57,7 @@ played_whole policy trace text jobs p history before after code read made own ad
 }
 
 played_full : (policy trace : Told) (text jobs : List ℕ) (p : Meaning) (history : List Entry) (before after : Option (List ℕ)) (code : ℕ) → Read policy trace text jobs p
-    → plays.PlaysText p jobs (played.Full history) → code ≡ 8 → Adds (text_of_history history) before after → PlaysTruly policy trace before after code
+    → (made : plays.PlaysText p jobs (played.Full history)) → code ≡ 8 → Adds (text_of_history made.plan.cores history) before after → PlaysTruly policy trace before after code
 played_full policy trace text jobs p history before after code read made own added = record {
   whole = λ h. absurd (omega arith);
   full = λ h.
@@ -77,12 +78,17 @@ played_full policy trace text jobs p history before after code read made own add
   bad_text = λ h. absurd (omega arith);
 }
 
+-- the cores that are left are the plan's
+pub of_plan : (closed : ClosedView) (plan : Plan) (before after : Option (List ℕ)) → length closed.cores ≡ plan.cores
+    → Adds (text_of_history (length closed.cores) (merged closed)) before after → Adds (text_of_history plan.cores (merged closed)) before after
+of_plan closed plan before after count added = subst (λ (cores : ℕ). Adds (text_of_history cores (merged closed)) before after) count added
+
 -- the trace was read
 answered_trace : (policy trace : Told) (text jobs : List ℕ) (p : Meaning) (play : PlayAnswer) (before after : Option (List ℕ)) (code : ℕ) → Read policy trace text jobs p
     → plays.IsPlayOf p jobs play → code ≡ code_of (play_status play) → Adds (plays.output_of play) before after → PlaysTruly policy trace before after code
 answered_trace policy trace text jobs p (play_answer.Broken fault) before after code read is own added = broken_trace EndsWhole StopsFull MustPlay must_of policy trace text jobs p fault before after code read is own added
-answered_trace policy trace text jobs p (play_answer.Played (cores.Whole closed)) before after code read is own added = played_whole policy trace text jobs p (merged closed) before after code read is own added
-answered_trace policy trace text jobs p (play_answer.Played (cores.Full closed)) before after code read is own added = played_full policy trace text jobs p (merged closed) before after code read is own added
+answered_trace policy trace text jobs p (play_answer.Played (cores.Whole closed)) before after code read is own added = played_whole policy trace text jobs p (merged closed) before after code read is.plays own (of_plan closed is.plays.plan before after is.count added)
+answered_trace policy trace text jobs p (play_answer.Played (cores.Full closed)) before after code read is own added = played_full policy trace text jobs p (merged closed) before after code read is.plays own (of_plan closed is.plays.plan before after is.count added)
 
 pub plays_truly : (policy trace : Told) (before after : Shown) (code : ℕ) (a : Answer) → AnswersPlay plays.IsPlayOf policy trace a
     → Writes a before after code → PlaysTruly policy trace before.written after.written code

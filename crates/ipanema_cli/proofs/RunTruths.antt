@@ -29,6 +29,7 @@ use Rattle.ipanema_cli.specs.Status.{code_of}
 use Rattle.ipanema_cli.specs.TraceTruths.{DoPlay, MustAnswer, MustRun, RunsTruly}
 use Rattle.ipanema_cli.specs.declared.answers.Answer.{Answer}
 use Rattle.ipanema_cli.proofs.CheckTruths.{Stopped}
+use Rattle.ipanema_cli.proofs.PlayTruths.{of_plan}
 use Rattle.ipanema_cli.proofs.TraceTruths.{Read, broken_trace, held_play, may_play, others_played, same_plan, stopped_trace, traces_truly, weaker_0, weaker_8, weaker_both}
 
 must_of : (policy trace : Told) (code : ℕ) → ((p : Meaning) (plan : Plan) → DoPlay policy trace p plan → OneOf (3 ∷ 4 ∷ 5 ∷ 6 ∷ []) code) → MustAnswer policy trace code → MustRun policy trace code
@@ -52,7 +53,7 @@ module _ (Passed : ℕ → ℕ → Type 0) where
   stopped_run policy trace before after code stop = stopped_trace (GatedEnds Passed) (GatedStops Passed) MustRun must_of policy trace before after code stop
 
   ran_whole : (policy trace : Told) (text jobs : List ℕ) (p : Meaning) (history : List Entry) (before after : Option (List ℕ)) (code : ℕ) → Read policy trace text jobs p
-      → (made : RunsText p jobs (played.Whole history)) → AllPassed Passed made.plan (rounds_begun history) → code ≡ 0 → Adds (text_of_history history) before after → RunsTruly Passed policy trace before after code
+      → (made : RunsText p jobs (played.Whole history)) → AllPassed Passed made.plan (rounds_begun history) → code ≡ 0 → Adds (text_of_history made.plan.cores history) before after → RunsTruly Passed policy trace before after code
   ran_whole policy trace text jobs p history before after code read made past own added = record {
     whole = λ h.
         let may = may_play policy trace text jobs p made.trace made.plan read made.spells made.means made.fits in
@@ -77,7 +78,7 @@ module _ (Passed : ℕ → ℕ → Type 0) where
           none history (subst (λ (q : Meaning). Whole q plan history) s.policy (subst (λ (x : Plan). Whole p x history) is_plan made.ran.whole)) (subst (λ (x : Plan). HadRoom x history) is_plan made.ran.roomy)
 
   ran_full : (policy trace : Told) (text jobs : List ℕ) (p : Meaning) (history : List Entry) (before after : Option (List ℕ)) (code : ℕ) → Read policy trace text jobs p
-      → (made : RunsText p jobs (played.Full history)) → AllPassed Passed made.plan (rounds_begun history) → code ≡ 8 → Adds (text_of_history history) before after → RunsTruly Passed policy trace before after code
+      → (made : RunsText p jobs (played.Full history)) → AllPassed Passed made.plan (rounds_begun history) → code ≡ 8 → Adds (text_of_history made.plan.cores history) before after → RunsTruly Passed policy trace before after code
   ran_full policy trace text jobs p history before after code read made past own added =
       let may = may_play policy trace text jobs p made.trace made.plan read made.spells made.means made.fits in
       record {
@@ -102,9 +103,9 @@ module _ (Passed : ℕ → ℕ → Type 0) where
       → IsGatedRunOf Passed p jobs play → code ≡ code_of (play_status play) → Adds (plays.output_of play) before after → RunsTruly Passed policy trace before after code
   answered_trace policy trace text jobs p (play_answer.Broken fault) before after code read is own added = broken_trace (GatedEnds Passed) (GatedStops Passed) MustRun must_of policy trace text jobs p fault before after code read is.0 own added
   answered_trace policy trace text jobs p (play_answer.Played (cores.Whole closed)) before after code read is own added =
-      ran_whole policy trace text jobs p (merged closed) before after code read is.0 (past_by Passed p jobs (cores.Whole closed) is.1 is.0) own added
+      ran_whole policy trace text jobs p (merged closed) before after code read is.0.runs (past_by Passed p jobs (cores.Whole closed) is.1 is.0.runs) own (of_plan closed is.0.runs.plan before after is.0.count added)
   answered_trace policy trace text jobs p (play_answer.Played (cores.Full closed)) before after code read is own added =
-      ran_full policy trace text jobs p (merged closed) before after code read is.0 (past_by Passed p jobs (cores.Full closed) is.1 is.0) own added
+      ran_full policy trace text jobs p (merged closed) before after code read is.0.runs (past_by Passed p jobs (cores.Full closed) is.1 is.0.runs) own (of_plan closed is.0.runs.plan before after is.0.count added)
 
   pub runs_truly : (policy trace : Told) (before after : Shown) (code : ℕ) (a : Answer) → AnswersPlay (IsGatedRunOf Passed) policy trace a
       → Writes a before after code → RunsTruly Passed policy trace before.written after.written code

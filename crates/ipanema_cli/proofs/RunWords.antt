@@ -5,11 +5,11 @@ use Rattle.std.specs.Str.{bytes_eq}
 use Rattle.std.proofs.lemmas.Slice.Eq.{bytes_eq-Decides}
 use Rattle.std.specs.Borrow.{Bor}
 use Rattle.command_words.specs.Asks.{asked}
-use Rattle.command_words.specs.Command.{Asked, asked_by, asked_by_two, asked_plainly, bench, benched_by, check, explain, is_plain, made_by, make, name_of, play, prove, replay, report, run, simulate, sized_by, verify, waste}
+use Rattle.command_words.specs.Command.{Asked, asked_by, asked_by_two, asked_plainly, bench, benched_by, check, explain, is_plain, made_by, make, migrate, name_of, play, prove, replay, report, run, simulate, sized_by, verify, waste}
 use Rattle.command_words.specs.Numbers.{seed_in, size_in}
 use Rattle.obligations.specs.declared.names.ObName.{ObName}
 use Rattle.command_words.specs.declared.request.Request.{Request}
-use Rattle.command_words.specs.declared.request.Request.TheVariants.{Bench, Check, Explain, Make, Play, Prove, Replay, Report, Run, Simulate, Unknown, Verify, Waste}
+use Rattle.command_words.specs.declared.request.Request.TheVariants.{Bench, Check, Explain, Make, Migrate, Play, Prove, Replay, Report, Run, Simulate, Unknown, Verify, Waste}
 
 pub no_run : (request : Request) → ((policy trace : Bor (List ℕ)) → request ≡ Run policy trace → ⊥) → (r : Request) → request ≡ r → (policy trace : List ℕ) → asked r ≡ Some (run policy trace) → ⊥
 no_run request never (Check p) same policy trace is = cc
@@ -22,6 +22,7 @@ no_run request never (Simulate p t) same policy trace is = cc
 no_run request never (Waste p t) same policy trace is = cc
 no_run request never (Replay p t h) same policy trace is = cc
 no_run request never (Report p t h) same policy trace is = cc
+no_run request never (Migrate p t h) same policy trace is = cc
 no_run request never (Make seed size) same policy trace is = cc
 no_run request never (Bench seed size) same policy trace is = cc
 no_run request never Unknown same policy trace is = cc
@@ -92,17 +93,18 @@ one true b file policy trace e = cc
 one false true file policy trace e = cc
 one false false file policy trace e = cc
 
-three : (a b : Bool) (p t h policy trace : List ℕ) → (if a then Some (replay p t h) else if b then Some (report p t h) else None) ≡ Some (run policy trace) → ⊥
-three true b p t h policy trace e = cc
-three false true p t h policy trace e = cc
-three false false p t h policy trace e = cc
+three : (a b c : Bool) (p t h policy trace : List ℕ) → (if a then Some (replay p t h) else if b then Some (report p t h) else if c then Some (migrate p t h) else None) ≡ Some (run policy trace) → ⊥
+three true b c p t h policy trace e = cc
+three false true c p t h policy trace e = cc
+three false false true p t h policy trace e = cc
+three false false false p t h policy trace e = cc
 
 plainly : (words : List (List ℕ)) → (slice_get words 0 ≢ Some (codes "run")) → (policy trace : List ℕ) → asked_plainly words ≡ Some (run policy trace) → ⊥
 plainly [] other policy trace e = cc
 plainly (verb ∷ []) other policy trace e = cc
 plainly (verb ∷ first ∷ []) other policy trace e = one (bytes_eq (codes "check") verb) (bytes_eq (codes "prove") verb) first policy trace e
 plainly (verb ∷ first ∷ second ∷ []) other policy trace e = two verb first second policy trace (λ same. other (ap Some same)) e
-plainly (verb ∷ first ∷ second ∷ third ∷ []) other policy trace e = three (bytes_eq (codes "replay") verb) (bytes_eq (codes "report") verb) first second third policy trace e
+plainly (verb ∷ first ∷ second ∷ third ∷ []) other policy trace e = three (bytes_eq (codes "replay") verb) (bytes_eq (codes "report") verb) (bytes_eq (codes "migrate") verb) first second third policy trace e
 plainly (verb ∷ first ∷ second ∷ third ∷ more ∷ words) other policy trace e = cc
 
 -- words that don't begin with `run` ask for no run

@@ -1,6 +1,6 @@
 -- From how a command that simulates a trace ends to the truth of what it says.
 use Rattle.std.specs.Prelude.{IsFalse}
-use Rattle.std.proofs.Common.{◌≡◌, ◌≢◌, ℕ, inl, inr, List, [], ◌∷◌, Option, append-nil, refl, sym, ◌∙◌, arith, subst}
+use Rattle.std.proofs.Common.{◌≡◌, ◌≢◌, ℕ, inl, inr, List, [], ◌∷◌, ◌++◌, Option, append-nil, ap, refl, sym, ◌∙◌, arith, subst}
 use Rattle.std.proofs.lemmas.List.Folds.{flat_map-map}
 use Rattle.sched_io.specs.Puts.{joined}
 use Rattle.sched_io.specs.Shown.{Shown}
@@ -20,12 +20,14 @@ use Rattle.policy_check.specs.declared.answer.CheckAnswer.{CheckAnswer}
 use Rattle.policy_check.specs.declared.answer.CheckAnswer.TheVariants as checked
 use Rattle.round_model.specs.declared.entry.Entry.{Entry}
 use Rattle.round_model.specs.declared.plan.Plan.{Plan}
+use Rattle.round_model.specs.declared.serial.Played.{Played}
 use Rattle.round_model.specs.declared.serial.Played.TheVariants as played
-use Rattle.round_model.specs.SerialEnds.{EndsWhole, IsFull, StopsFull}
+use Rattle.round_model.specs.SerialEnds.{EndsWhole, IsFull, IsPlayed, StopsFull}
 use Rattle.round_model.specs.SerialRounds.{serial_rounds}
 use Rattle.job_trace.specs.Plans.{SpellsPlan}
 use Rattle.job_trace.specs.TraceText.{SpellsTrace}
-use Rattle.sched_history.specs.Spelling.{line_of_entry, lines_of_history, text_of_history}
+use Rattle.sched_history.specs.Lines.{entry_lines}
+use Rattle.sched_history.specs.Spelling.{header, line_of, lines_of_history, second_form, text_of_history}
 use Rattle.trace_play.specs.declared.fault.LineFault.{LineFault}
 use Rattle.trace_play.specs.Plays as plays
 use Rattle.trace_play.specs.Told as trace_faults
@@ -38,7 +40,7 @@ use Rattle.trace_simulation.specs.Simulations.{IsSimulationOf, IsWasteOf, Simula
 use Rattle.ipanema_cli.specs.Causes.{OneOf}
 use Rattle.ipanema_cli.specs.Ends.{Writes}
 use Rattle.ipanema_cli.specs.Simulations.{AnswersSimulation, IsPlayable, Simulating, lets_play}
-use Rattle.ipanema_cli.specs.Status.{check_status, code_of, simulation_status, verdict_status}
+use Rattle.ipanema_cli.specs.Status.{check_status, code_of, played_status, simulation_status, verdict_status}
 use Rattle.ipanema_cli.specs.Texts.{MayRead}
 use Rattle.ipanema_cli.specs.CheckTruths.{Holds, Spells}
 use Rattle.ipanema_cli.specs.SimulationTruths.{DoHoldPlayable, DoSimulate, MayHoldPlayable, MustSimulate, SaysHistory, SaysWaste, SimulatesTruly}
@@ -61,13 +63,18 @@ abbrev Comes : (Is : Simulating) (Says : Meaning → Plan → List Entry → Lis
 Comes Is Says = (p : Meaning) (jobs : List ℕ) (s : SimulationAnswer) (code : ℕ) → Is p jobs s → code ≡ code_of (simulation_status s) → Came Says p jobs (joined (simulations.lines_of s)) code
 
 -- the bytes of a history's lines are its text
-text_of_lines : (history : List Entry) → joined (lines_of_history history) ≡ text_of_history history
-text_of_lines history = flat_map-map (λ l. l) line_of_entry history
+pub text_of_lines : (cores : ℕ) (history : List Entry) → joined (lines_of_history cores history) ≡ text_of_history cores history
+text_of_lines cores history =
+    ap (λ (bytes : List ℕ). header cores ++ bytes) (flat_map-map (λ l. l) line_of (entry_lines 0 (second_form cores) history))
 
 simulation_comes : Comes IsSimulationOf SaysHistory
 simulation_comes p jobs (simulation.Broken fault) code has own = broke fault has (append-nil (trace_faults.fault_line fault)) own
-simulation_comes p jobs (simulation.Played (played.Whole history)) code made own = ended history made (text_of_lines history) own
-simulation_comes p jobs (simulation.Played (played.Full history)) code made own = filled history made (text_of_lines history) own
+simulation_comes p jobs (simulation.Played made) code is own = by made.played is.played own
+  where
+    by : (play : Played) → IsPlayed p made.plan play → code ≡ code_of (played_status play)
+        → Came SaysHistory p jobs (joined (lines_of_history made.plan.cores (plays.history_of play))) code
+    by (played.Whole history) ends own = ended history (record { plan = made.plan; means = is.means; ends = ends }) (text_of_lines made.plan.cores history) own
+    by (played.Full history) ends own = filled history (record { plan = made.plan; means = is.means; ends = ends }) (text_of_lines made.plan.cores history) own
 simulation_comes p jobs (simulation.Wasted waste) code is own = absurd is
 
 waste_comes : Comes IsWasteOf SaysWaste

@@ -1,7 +1,7 @@
 -- From how a command that plays a trace ends to the truth of what it says, as far as that isn't of its play.
 use Rattle.std.specs.List.{list_any}
 use Rattle.std.specs.Prelude.{IsFalse}
-use Rattle.std.proofs.Common.{◌≡◌, ◌≢◌, ℕ, ◌==◌, ◌||◌, Bool, true, false, inl, inr, List, [], ◌∷◌, Option, append-nil, refl, sym, ◌∙◌, arith, subst}
+use Rattle.std.proofs.Common.{◌≡◌, ◌≢◌, ℕ, ◌==◌, ◌||◌, Bool, true, false, inl, inr, List, [], ◌∷◌, ◌++◌, length, Option, append-nil, ap, refl, sym, ◌∙◌, arith, subst}
 use Rattle.std.proofs.lemmas.List.Folds.{flat_map-map}
 use Rattle.sched_io.specs.Puts.{joined}
 use Rattle.sched_io.specs.Shown.{Shown}
@@ -32,7 +32,8 @@ use Rattle.trace_play.specs.declared.answer.PlayAnswer.TheVariants as play_answe
 use Rattle.trace_play.specs.declared.fault.LineFault.{LineFault}
 use Rattle.trace_play.specs.Plays as plays
 use Rattle.trace_play.specs.Told as trace_faults
-use Rattle.sched_history.specs.Spelling.{line_of_entry}
+use Rattle.sched_history.specs.Lines.{entry_lines}
+use Rattle.sched_history.specs.Spelling.{header, line_of, second_form}
 use Rattle.history_merge.specs.Merged.{merged}
 use Rattle.trace_play.proofs.OnePlay.{never_faulty, one_plan, one_trace}
 use Rattle.ipanema_cli.specs.Answers.{AnswersPlay, IsAccepted, Playing, accepts, play_status}
@@ -180,7 +181,9 @@ others_played policy trace text jobs p lines plan code read spells means other_c
 -- the bytes of the lines are those of the answer
 played_lines : (p : PlayAnswer) → joined (plays.lines_of p) ≡ plays.output_of p
 played_lines (play_answer.Broken fault) = append-nil (trace_faults.fault_line fault)
-played_lines (play_answer.Played left) = flat_map-map (λ l. l) line_of_entry (merged (plays.closed_of left))
+played_lines (play_answer.Played left) =
+    let closed = plays.closed_of left in
+    ap (λ (bytes : List ℕ). header (length closed.cores) ++ bytes) (flat_map-map (λ l. l) line_of (entry_lines 0 (second_form (length closed.cores)) (merged closed)))
 
 -- what a status promises of its play follows where nothing was played
 module _ (Ends Stops : Meaning → Plan → List Entry → Type 0) (Must : Told → Told → ℕ → Type 0)

@@ -2,11 +2,11 @@
 use Rattle.std.proofs.Common.{◌≡◌, ◌≢◌, ℕ, List, Option, Result, Ok, Err, IfErr, IfOk, Some, None, arith, refl}
 use Rattle.sched_io.specs.Shown.{Shown}
 use Rattle.sched_io.specs.Told.{Told}
-use Rattle.command_words.specs.Command.{Asked, bench, check, explain, make, play, prove, replay, report, run, simulate, verify, waste}
+use Rattle.command_words.specs.Command.{Asked, bench, check, explain, make, migrate, play, prove, replay, report, run, simulate, verify, waste}
 use Rattle.ipanema_cli.specs.Answers.{IsGatedAnswer}
 use Rattle.ipanema_cli.specs.Ends.{Concludes, Writes}
 use Rattle.ipanema_cli.specs.Stops.{IsStop, IsUnread}
-use Rattle.ipanema_cli.specs.JudgeTruths.{SaysReport, SaysWhole}
+use Rattle.ipanema_cli.specs.JudgeTruths.{SaysMigrated, SaysReport, SaysWhole}
 use Rattle.ipanema_cli.specs.SimulationTruths.{SaysHistory, SaysWaste}
 use Rattle.ipanema_cli.specs.Truths.{IsTruthful, NonePassed}
 use Rattle.ipanema_cli.specs.declared.answers.Answer.{Answer}
@@ -17,7 +17,7 @@ use Rattle.ipanema_cli.proofs.BenchTruths.{benches, stopped_bench}
 use Rattle.ipanema_cli.proofs.CheckTruths.{Stopped, at_4, at_6, checks, stopped_check}
 use Rattle.ipanema_cli.proofs.ExplainTruths.{explains, stopped_explain}
 use Rattle.ipanema_cli.proofs.GatedAnswers.{gated_length}
-use Rattle.ipanema_cli.proofs.JudgeTruths.{replays, reports, stopped_judge}
+use Rattle.ipanema_cli.proofs.JudgeTruths.{migrates, replays, reports, stopped_judge}
 use Rattle.ipanema_cli.proofs.MakeTruths.{makes, stopped_make}
 use Rattle.ipanema_cli.proofs.PlayTruths.{plays_truly, stopped_play}
 use Rattle.ipanema_cli.proofs.ProveTruths.{proves, stopped_prove}
@@ -39,6 +39,7 @@ passed_by_any Passed (Some (simulate policy trace)) told before after code other
 passed_by_any Passed (Some (waste policy trace)) told before after code other is = is
 passed_by_any Passed (Some (replay policy trace history)) told before after code other is = is
 passed_by_any Passed (Some (report policy trace history)) told before after code other is = is
+passed_by_any Passed (Some (migrate policy trace history)) told before after code other is = is
 passed_by_any Passed (Some (make seed size)) told before after code other is = is
 passed_by_any Passed (Some (bench seed size)) told before after code other is = is
 
@@ -57,6 +58,7 @@ module _ (Passed : ℕ → ℕ → Type 0) where
   stopped (Some (waste policy trace)) told read_fault before after code stop cause = stopped_simulation SaysWaste (told policy) (told trace) before after code stop
   stopped (Some (replay policy trace history)) told read_fault before after code stop cause = stopped_judge SaysWhole (told policy) (told trace) (told history) before after code stop
   stopped (Some (report policy trace history)) told read_fault before after code stop cause = stopped_judge SaysReport (told policy) (told trace) (told history) before after code stop
+  stopped (Some (migrate policy trace history)) told read_fault before after code stop cause = stopped_judge SaysMigrated (told policy) (told trace) (told history) before after code stop
   stopped (Some (make seed size)) told read_fault before after code stop cause = stopped_make seed size before after code stop cause
   stopped (Some (bench seed size)) told read_fault before after code stop cause = stopped_bench seed size before after code stop cause
 
@@ -74,6 +76,7 @@ module _ (Passed : ℕ → ℕ → Type 0) where
   answers (Some (waste policy trace)) told before after code a is writes = wastes (told policy) (told trace) before after code a is writes
   answers (Some (replay policy trace history)) told before after code a is writes = replays (told policy) (told trace) (told history) before after code a is writes
   answers (Some (report policy trace history)) told before after code a is writes = reports (told policy) (told trace) (told history) before after code a is writes
+  answers (Some (migrate policy trace history)) told before after code a is writes = migrates (told policy) (told trace) (told history) before after code a is writes
   answers (Some (make seed size)) told before after code a is writes = makes seed size before after code a is writes
   answers (Some (bench seed size)) told before after code a is writes = benches seed size before after code a is writes
 

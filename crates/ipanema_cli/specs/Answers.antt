@@ -30,13 +30,13 @@ use Rattle.trace_run.specs.Runs.{IsGatedRunOf, IsRunOf}
 use Rattle.trace_simulation.specs.Lines as simulations
 use Rattle.trace_simulation.specs.Simulations.{IsShown, IsSimulationOf, IsWasteOf}
 use Rattle.history_replay.specs.declared.answer.HistoryAnswer.{HistoryAnswer}
-use Rattle.history_replay.specs.Judges.{IsReplayOf, IsReportOf}
+use Rattle.history_replay.specs.Judges.{IsMigrationOf, IsReplayOf, IsReportOf}
 use Rattle.history_replay.specs.Lines as histories
 use Rattle.fair_policy.specs.Fair.{fair_meaning}
 use Rattle.bench_play.specs.Bench.{IsBench}
 use Rattle.bench_play.specs.Lines.{bench_lines}
-use Rattle.command_words.specs.Command.{Asked, bench, check, explain, make, play, prove, replay, report, run, simulate}
-use Rattle.command_words.specs.Command.{verify, waste}
+use Rattle.command_words.specs.Command.{Asked, bench, check, explain, make, migrate, play, prove, replay, report, run}
+use Rattle.command_words.specs.Command.{simulate, verify, waste}
 use Rattle.ipanema_cli.specs.Simulations.{AnswersSimulation}
 use Rattle.ipanema_cli.specs.Status.{check_status, explain_status, history_status, simulation_status, verify_status}
 use Rattle.ipanema_cli.specs.Texts.{MayBeLong, MayRead, too_long_line}
@@ -95,7 +95,7 @@ CanBePut (answer.Proved certs) = Unit {0}
 CanBePut (answer.Verified v) = Unit {0}
 CanBePut (answer.Played outcome) = plays.IsShown outcome
 CanBePut (answer.Simulated outcome) = IsShown outcome
-CanBePut (answer.Judged outcome) = Unit {0}
+CanBePut (answer.Judged outcome) = histories.IsShown outcome
 CanBePut (answer.Made text) = Unit {0}
 CanBePut (answer.Benched told) = Unit {0}
 CanBePut (answer.TooLong which) = Unit {0}
@@ -289,6 +289,7 @@ Judging = Meaning → (trace history : List ℕ) → HistoryAnswer → Type 0
 abbrev pub judging_of : HistoryCommand → Judging
 judging_of history_command.Replay = IsReplayOf
 judging_of history_command.Report = IsReportOf
+judging_of history_command.Migrate = IsMigrationOf
 
 module _ (Is : Judging) where
   -- the command's answer to these texts: where the policy isn't accepted, that of `check`
@@ -380,6 +381,8 @@ IsAnswer (Some (replay policy trace history)) told a =
     AnswersJudging IsReplayOf (told policy) (told trace) (told history) a
 IsAnswer (Some (report policy trace history)) told a =
     AnswersJudging IsReportOf (told policy) (told trace) (told history) a
+IsAnswer (Some (migrate policy trace history)) told a =
+    AnswersJudging IsMigrationOf (told policy) (told trace) (told history) a
 IsAnswer (Some (make seed size)) told a = AnswersMake seed size a
 IsAnswer (Some (bench seed size)) told a = AnswersBench seed size a
 

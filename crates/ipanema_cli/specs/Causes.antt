@@ -10,7 +10,7 @@ use Rattle.policy_check.specs.Checks.{IsCrowded}
 use Rattle.policy_check.specs.Lines.{refusal_line}
 use Rattle.policy_check.specs.declared.reading.Refusal.TheVariants.{Crowded}
 use Rattle.ipanema_cli.specs.Answers.{IsAnswer, lines_of}
-use Rattle.command_words.specs.Command.{Asked, play, replay, report, run, simulate, verify, waste}
+use Rattle.command_words.specs.Command.{Asked, migrate, play, replay, report, run, simulate, verify, waste}
 use Rattle.ipanema_cli.specs.Loads.{IsFileOf}
 use Rattle.ipanema_cli.specs.Stops.{IsUnread}
 use Rattle.ipanema_cli.specs.Texts.{MayRead, room_of, too_long_line}
@@ -42,7 +42,7 @@ SaysCrowded asked told before after =
 -- the command judges a history
 abbrev pub Judges : Option Asked → Type 0
 Judges asked = (policy trace history : List ℕ) × ((asked ≡ Some (replay policy trace history))
-    ⊎ (asked ≡ Some (report policy trace history)))
+    ⊎ ((asked ≡ Some (report policy trace history)) ⊎ (asked ≡ Some (migrate policy trace history))))
 
 -- the command plays a trace
 abbrev pub Plays : Option Asked → Type 0

@@ -12,7 +12,8 @@ use Rattle.round_laws.specs.MainTheorem.{KeepsLaws}
 use Rattle.trace_play.specs.declared.fault.LineFault.{LineFault}
 use Rattle.sched_report.specs.declared.rows.FullReport.{FullReport}
 use Rattle.sched_report.specs.Lines.{report_lines}
-use Rattle.history_reader.specs.Reading.{IsFirstBadLine}
+use Rattle.sched_history.specs.Spelling.{text_of_history}
+use Rattle.history_reader.specs.Reading.{IsFirstBadLine, SpellsHistory}
 use Rattle.history_judge.specs.Judgement.{IsFirstIllegal, IsTooShort}
 use Rattle.history_replay.specs.declared.refusal.HistoryRefusal.TheVariants as refusal
 use Rattle.history_replay.specs.Judges.{Gives, Tells}
@@ -86,7 +87,7 @@ pub record BadHistory (policy trace history : Told) (before after : Option (List
   pub plan : Plan
   pub means : plays.MeansPlan p jobs plan
   pub line : ℕ
-  pub bad : IsFirstBadLine lines line
+  pub bad : IsFirstBadLine plan.cores lines line
   pub written : Adds (refusal_line (refusal.BadLine line)) before after
 
 -- When each status of a command that judges a history must come, if the outside lets it be. A policy with an open
@@ -102,8 +103,9 @@ pub record MustJudge (policy trace history : Told) (code : ℕ) : Type 0 where
   -- a trace that means no plan gets its fault, and so does a text that is no history
   pub faulty : (p : Meaning) (jobs lines : List ℕ) (fault : LineFault) → DoHoldAll policy trace history p jobs lines →
       plays.HasFault p jobs fault → OneOf (2 ∷ 3 ∷ 4 ∷ 5 ∷ 6 ∷ []) code
-  pub bad_line : (p : Meaning) (jobs lines : List ℕ) (line : ℕ) → DoHoldAll policy trace history p jobs lines →
-      IsFirstBadLine lines line → OneOf (2 ∷ 3 ∷ 4 ∷ 5 ∷ 6 ∷ []) code
+  pub bad_line : (p : Meaning) (jobs lines : List ℕ) (plan : Plan) (line : ℕ) →
+      DoHoldAll policy trace history p jobs lines → plays.MeansPlan p jobs plan →
+      IsFirstBadLine plan.cores lines line → OneOf (2 ∷ 3 ∷ 4 ∷ 5 ∷ 6 ∷ []) code
   -- no policy is left undecided of which no system is open
   pub decides : (p : Meaning) (jobs lines : List ℕ) → Spells policy p → Holds kind.Trace trace jobs →
       Holds kind.History history lines → (SomeIsOpen p → ⊥) → code ≢ 3
@@ -134,3 +136,8 @@ SaysWhole p plan entries bytes = bytes ≡ whole_line (length entries)
 abbrev pub SaysReport : Meaning → Plan → List Entry → List ℕ → Type 0
 SaysReport p plan entries bytes =
     (report : FullReport) × Tells p plan entries report × (bytes ≡ joined (report_lines report))
+
+-- `migrate` says the history's text of the second format, which spells the same history.
+abbrev pub SaysMigrated : Meaning → Plan → List Entry → List ℕ → Type 0
+SaysMigrated p plan entries bytes =
+    (bytes ≡ text_of_history plan.cores entries) × SpellsHistory plan.cores bytes entries

@@ -2,8 +2,8 @@
 use Rattle.std.specs.Prelude.{◌≡◌, ℕ, ◌<◌, List, [], ◌∷◌, Option, Some, None, take}
 use Rattle.sched_io.specs.Loads.{AreRequested, LoadRequest, load_request}
 use Rattle.sched_io.specs.Told.{Told}
-use Rattle.command_words.specs.Command.{Asked, bench, check, explain, make, play, prove, replay, report, run, simulate}
-use Rattle.command_words.specs.Command.{verify, waste}
+use Rattle.command_words.specs.Command.{Asked, bench, check, explain, make, migrate, play, prove, replay, report, run}
+use Rattle.command_words.specs.Command.{simulate, verify, waste}
 use Rattle.ipanema_cli.specs.Texts.{MayRead, room_of}
 use Rattle.ipanema_cli.specs.declared.texts.TextKind.{TextKind}
 use Rattle.ipanema_cli.specs.declared.texts.TextKind.TheVariants as kind
@@ -52,6 +52,7 @@ IsFileOf (Some (waste policy trace)) kind.History name = ⊥
 IsFileOf (Some (waste policy trace)) kind.Certificates name = ⊥
 IsFileOf (Some (replay policy trace history)) which name = IsOneOfThree policy trace history which name
 IsFileOf (Some (report policy trace history)) which name = IsOneOfThree policy trace history which name
+IsFileOf (Some (migrate policy trace history)) which name = IsOneOfThree policy trace history which name
 IsFileOf (Some (make seed size)) which name = ⊥
 IsFileOf (Some (bench seed size)) which name = ⊥
 
@@ -82,6 +83,7 @@ files_of (Some (simulate policy trace)) = two_files policy trace
 files_of (Some (waste policy trace)) = two_files policy trace
 files_of (Some (replay policy trace history)) = three_files policy trace history
 files_of (Some (report policy trace history)) = three_files policy trace history
+files_of (Some (migrate policy trace history)) = three_files policy trace history
 files_of (Some (make seed size)) = []
 files_of (Some (bench seed size)) = []
 
@@ -101,8 +103,8 @@ pub record LoadsOfThree (policy trace history : List ℕ) (told : List ℕ → T
 abbrev pub GoesOnOfTwo : (policy : Told) → ℕ → Type 0
 GoesOnOfTwo policy count = 1 < count → (text : List ℕ) × MayRead kind.Policy policy text
 
--- Just the first of the files of a policy and a trace are loaded, each once and with its limit, where the source tells of
--- its loads.
+-- Just the first of the files of a policy and a trace are loaded, each once and with its limit, where the source tells
+-- of its loads.
 pub record LoadsOfTwo (policy trace : List ℕ) (told : List ℕ → Told) (before after : Option (List LoadRequest)) :
     Type 0 where
   pub count : ℕ
@@ -120,6 +122,8 @@ MayGoOn (Some (verify policy certs)) told count = GoesOnOfTwo (told policy) coun
 MayGoOn (Some (replay policy trace history)) told count =
     GoesOnOfThree (told policy) (told trace) (told history) count
 MayGoOn (Some (report policy trace history)) told count =
+    GoesOnOfThree (told policy) (told trace) (told history) count
+MayGoOn (Some (migrate policy trace history)) told count =
     GoesOnOfThree (told policy) (told trace) (told history) count
 MayGoOn (Some (make seed size)) told count = Unit {0}
 MayGoOn (Some (bench seed size)) told count = Unit {0}

@@ -110,7 +110,7 @@ pub record SimulatesTruly (Says : Meaning → Plan → List Entry → List ℕ �
 
 -- `simulate` says the text of the history.
 abbrev pub SaysHistory : Meaning → Plan → List Entry → List ℕ → Type 0
-SaysHistory p plan history bytes = bytes ≡ text_of_history history
+SaysHistory p plan history bytes = bytes ≡ text_of_history plan.cores history
 
 -- `waste` says what the history wasted and why its steals failed, where an entry explains that: its rows, one for each
 -- round, longest still stretch and failed steal, and its totals.

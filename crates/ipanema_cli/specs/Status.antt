@@ -12,6 +12,7 @@ use Rattle.policy_check.specs.declared.reading.Refusal.{Refusal}
 use Rattle.policy_check.specs.declared.reading.Refusal.TheVariants as refusal
 use Rattle.policy_check.specs.declared.verifying.VerifyAnswer.{VerifyAnswer}
 use Rattle.policy_check.specs.declared.verifying.VerifyAnswer.TheVariants as verify
+use Rattle.round_model.specs.declared.serial.Played.{Played}
 use Rattle.round_model.specs.declared.serial.Played.TheVariants as played
 use Rattle.trace_simulation.specs.declared.answer.PlayedWaste.TheVariants as wasted
 use Rattle.trace_simulation.specs.declared.answer.SimulationAnswer.{SimulationAnswer}
@@ -82,12 +83,17 @@ history_refusal_status (history_refusal.Short count) = status.NotWhole
 abbrev pub history_status : HistoryAnswer → Status
 history_status (history.Whole count) = status.Done
 history_status (history.Reported report) = status.Done
+history_status (history.Migrated given) = status.Done
 history_status (history.Refused why) = history_refusal_status why
+
+-- the status of a play
+abbrev pub played_status : Played → Status
+played_status (played.Whole history) = status.Done
+played_status (played.Full history) = status.HistoryFull
 
 -- the status of what a trace comes to that is simulated
 abbrev pub simulation_status : SimulationAnswer → Status
 simulation_status (simulation.Broken fault) = status.BadText
-simulation_status (simulation.Played (played.Whole history)) = status.Done
-simulation_status (simulation.Played (played.Full history)) = status.HistoryFull
+simulation_status (simulation.Played made) = played_status made.played
 simulation_status (simulation.Wasted (wasted.Whole report)) = status.Done
 simulation_status (simulation.Wasted (wasted.Full report)) = status.HistoryFull

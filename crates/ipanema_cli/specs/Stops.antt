@@ -2,8 +2,8 @@
 use Rattle.std.specs.Prelude.{◌≡◌, ◌⊎◌, ℕ, List, Option, Some, None}
 use Rattle.sched_io.specs.Told.{Told, missing}
 use Rattle.ipanema_cli.specs.Answers.{IsAnswer, IsTooLongOfThree}
-use Rattle.command_words.specs.Command.{Asked, bench, check, explain, make, play, prove, replay, report, run, simulate}
-use Rattle.command_words.specs.Command.{verify, waste}
+use Rattle.command_words.specs.Command.{Asked, bench, check, explain, make, migrate, play, prove, replay, report, run}
+use Rattle.command_words.specs.Command.{simulate, verify, waste}
 use Rattle.ipanema_cli.specs.Simulations.{IsTooLongOfTwo}
 use Rattle.ipanema_cli.specs.Texts.{MayBeLong, MayRead}
 use Rattle.ipanema_cli.specs.declared.answers.Answer.TheVariants as answer
@@ -46,6 +46,8 @@ IsUnread (Some (waste policy trace)) told fault = IsUnreadOfTwo (told policy) (t
 IsUnread (Some (replay policy trace history)) told fault =
     IsUnreadOfThree (told policy) (told trace) (told history) fault
 IsUnread (Some (report policy trace history)) told fault =
+    IsUnreadOfThree (told policy) (told trace) (told history) fault
+IsUnread (Some (migrate policy trace history)) told fault =
     IsUnreadOfThree (told policy) (told trace) (told history) fault
 IsUnread (Some (make seed size)) told fault = ⊥
 IsUnread (Some (bench seed size)) told fault = ⊥

@@ -112,7 +112,7 @@ abbrev pub WritesPlayed : (Ends : Meaning → Plan → List Entry → Type 0) (p
     (before after : Option (List ℕ)) → Type 0
 WritesPlayed Ends policy trace before after = (p : Meaning) × (plan : Plan) × (history : List Entry)
     × MayPlay policy trace p plan × Ends p plan history × KeepsLaws p plan history
-    × Adds (text_of_history history) before after
+    × Adds (text_of_history plan.cores history) before after
 
 -- What a command that plays a trace says is true, whose play may come to its end so, and may stop full so.
 pub record TracesTruly (Ends Stops : Meaning → Plan → List Entry → Type 0) (Must : ℕ → Type 0) (policy trace : Told)

@@ -1,15 +1,15 @@
 -- What each command says is true.
 use Rattle.std.specs.Prelude.{ℕ, List, Option, Some, None}
 use Rattle.sched_io.specs.Told.{Told}
-use Rattle.command_words.specs.Command.{Asked, bench, check, explain, make, play, prove, replay, report, run, simulate}
-use Rattle.command_words.specs.Command.{verify, waste}
+use Rattle.command_words.specs.Command.{Asked, bench, check, explain, make, migrate, play, prove, replay, report, run}
+use Rattle.command_words.specs.Command.{simulate, verify, waste}
 use Rattle.ipanema_cli.specs.CheckTruths.{ChecksTruly}
 use Rattle.ipanema_cli.specs.ExplainTruths.{ExplainsTruly}
 use Rattle.ipanema_cli.specs.ProveTruths.{ProvesTruly}
 use Rattle.ipanema_cli.specs.SimulationTruths.{SaysHistory, SaysWaste, SimulatesTruly}
 use Rattle.ipanema_cli.specs.TraceTruths.{PlaysTruly, RunsTruly}
 use Rattle.ipanema_cli.specs.VerifyTruths.{VerifiesTruly}
-use Rattle.ipanema_cli.specs.JudgeTruths.{JudgesTruly, SaysReport, SaysWhole}
+use Rattle.ipanema_cli.specs.JudgeTruths.{JudgesTruly, SaysMigrated, SaysReport, SaysWhole}
 use Rattle.ipanema_cli.specs.MakeTruths.{MakesTruly}
 use Rattle.ipanema_cli.specs.BenchTruths.{BenchesTruly}
 
@@ -39,5 +39,7 @@ IsTruthful Passed (Some (replay policy trace history)) told before after code =
     JudgesTruly SaysWhole (told policy) (told trace) (told history) before after code
 IsTruthful Passed (Some (report policy trace history)) told before after code =
     JudgesTruly SaysReport (told policy) (told trace) (told history) before after code
+IsTruthful Passed (Some (migrate policy trace history)) told before after code =
+    JudgesTruly SaysMigrated (told policy) (told trace) (told history) before after code
 IsTruthful Passed (Some (make seed size)) told before after code = MakesTruly seed size before after code
 IsTruthful Passed (Some (bench seed size)) told before after code = BenchesTruly seed size before after code

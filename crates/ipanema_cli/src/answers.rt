@@ -10,6 +10,7 @@ ghost use Rattle.policy_tree.specs.Meaning.{meaning_of};
 ghost use Rattle.command_words.specs.Numbers.{is_size};
 ghost use Rattle.trace_play.specs.Plays.{IsPlayOf};
 ghost use Rattle.trace_run.specs.Runs.{IsGatedRunOf};
+ghost use Rattle.history_replay.specs.Lines.{IsShown as IsShownHistory};
 ghost use Rattle.trace_simulation.specs.Simulations.{IsShown};
 ghost use Rattle.ipanema_cli.specs.declared.stop.Stop.TheVariants as stop;
 
@@ -21,7 +22,7 @@ use crate::texts::{TextKind, Texts};
 use bench_play::{BenchTotals, play_bench, print_bench};
 use cert_file::write_certs;
 use fair_policy::fair_policy;
-use history_replay::{HistoryAnswer, replay_texts, report_texts};
+use history_replay::{HistoryAnswer, migrate_texts, replay_texts, report_texts};
 use policy_check::{CheckAnswer, ExplainAnswer, VerifyAnswer, check_text, put_text};
 use policy_checker::{AcceptedPolicy, CheckFault, PlayablePolicy, Verdict, check_policy, playable};
 use sched_base::CHECK_BUDGET;
@@ -78,6 +79,8 @@ pub enum HistoryCommand {
     Replay,
     /// To say what it wasted and why its steals failed.
     Report,
+    /// To write its text of the second format.
+    Migrate,
 }
 
 /// The answer of `prove` to a policy's text within its limit.
@@ -199,8 +202,9 @@ fn judged_under(
     texts: &Texts,
 ) -> Result<HistoryAnswer, PlayMemory>
     requires trace { length texts.now.trace.items ≤ MAX_TRACE_BYTES }
-    ensures { IfOk result (judging_of command (meaning_of accepted.now)
+    ensures judging { IfOk result (judging_of command (meaning_of accepted.now)
         texts.now.trace.items texts.now.history.items) }
+    ensures shown { IfOk result IsShownHistory }
 {
     let (policy, trace, history) = (
         accepted.policy(),
@@ -210,6 +214,7 @@ fn judged_under(
     match command {
         HistoryCommand::Replay => replay_texts(alloc, policy, trace, history),
         HistoryCommand::Report => report_texts(alloc, policy, trace, history),
+        HistoryCommand::Migrate => migrate_texts(alloc, policy, trace, history),
     }
 }
 

@@ -68,6 +68,18 @@ pub fn answer_of<F: Files>(alloc: Global, request: Request, files: &mut F) -> Re
             trace,
             history,
         } => judge_files(alloc, HistoryCommand::Report, policy, trace, history, files),
+        Request::Migrate {
+            policy,
+            trace,
+            history,
+        } => judge_files(
+            alloc,
+            HistoryCommand::Migrate,
+            policy,
+            trace,
+            history,
+            files,
+        ),
         Request::Make { seed, size } => make(alloc, seed, size),
         Request::Bench { seed, size } => bench(alloc, seed, size),
         Request::Unknown => Ok(Answer::BadWords),

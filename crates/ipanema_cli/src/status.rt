@@ -2,8 +2,8 @@
 
 ghost use Rattle.std.specs.Prelude.{◌≡◌};
 ghost use Rattle.ipanema_cli.specs.Status.{check_status, code_of, explain_status, history_refusal_status};
-ghost use Rattle.ipanema_cli.specs.Status.{history_status, outcome_status, refusal_status, verdict_status};
-ghost use Rattle.ipanema_cli.specs.Status.{simulation_status, verify_status};
+ghost use Rattle.ipanema_cli.specs.Status.{history_status, outcome_status, played_status, refusal_status};
+ghost use Rattle.ipanema_cli.specs.Status.{simulation_status, verdict_status, verify_status};
 
 use history_replay::{HistoryAnswer, HistoryRefusal};
 use policy_check::{CheckAnswer, ExplainAnswer, Refusal, VerifyAnswer};
@@ -94,14 +94,23 @@ pub fn verify_status(answer: &VerifyAnswer) -> Status
     }
 }
 
+/// The status of a play.
+fn played_status(played: &Played) -> Status
+    ensures { result ≡ played_status played.now }
+{
+    match played {
+        Played::Whole(_) => Status::Done,
+        Played::Full(_) => Status::HistoryFull,
+    }
+}
+
 /// The status of what a trace comes to that is simulated.
 pub fn simulation_status(answer: &SimulationAnswer) -> Status
     ensures { result ≡ simulation_status answer.now }
 {
     match answer {
         SimulationAnswer::Broken(_) => Status::BadText,
-        SimulationAnswer::Played(Played::Whole(_)) => Status::Done,
-        SimulationAnswer::Played(Played::Full(_)) => Status::HistoryFull,
+        SimulationAnswer::Played(made) => played_status(&made.played),
         SimulationAnswer::Wasted(PlayedWaste::Whole(_)) => Status::Done,
         SimulationAnswer::Wasted(PlayedWaste::Full(_)) => Status::HistoryFull,
     }
@@ -113,6 +122,7 @@ pub fn history_status(answer: &HistoryAnswer) -> Status
 {
     match answer {
         HistoryAnswer::Whole(_) | HistoryAnswer::Reported(_) => Status::Done,
+        HistoryAnswer::Migrated(_) => Status::Done,
         HistoryAnswer::Refused(why) => history_refusal_status(why),
     }
 }

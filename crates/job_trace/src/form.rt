@@ -3,7 +3,8 @@
 ghost use Rattle.std.specs.Prelude.{◌≡◌, ◌<◌, ◌≤◌, IfOk, IfSome, MatchOption, None, Some, length};
 ghost use Rattle.sched_base.specs.declared.limits.TheConstants.{MAX_NAME_BYTES};
 ghost use Rattle.job_trace.specs.Words.{words};
-ghost use Rattle.job_trace.specs.Code.Steps.{const_first, consts_in, core_in, form_of, kind_of, line_in, named, numbers_in};
+ghost use Rattle.job_trace.specs.Code.Steps.{const_first, consts_in, core_in, form_of, kind_of, line_in, named};
+ghost use Rattle.job_trace.specs.Code.Steps.{numbers_in};
 ghost use Rattle.job_trace.specs.Code.Steps.{order_in, some_of, thread_in, weighed_in, weight_first};
 
 use crate::programs::program_in;

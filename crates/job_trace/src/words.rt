@@ -3,7 +3,8 @@
 ghost use Rattle.std.specs.Prelude.{◌≡◌, ◌<◌, ◌^◌, [], ◌∷◌, IfNone, IfSome, MatchOption, None, Some, length};
 ghost use Rattle.std.specs.List.{list_all};
 ghost use Rattle.job_trace.specs.Words.{begins_comment, is_name, is_name_byte, is_skipped, words};
-ghost use Rattle.job_trace.specs.Code.Steps.{behind, has_word, kept, kept_in, kept_signed_in, number_alone, number_behind};
+ghost use Rattle.job_trace.specs.Code.Steps.{behind, has_word, kept, kept_in, kept_signed_in, number_alone};
+ghost use Rattle.job_trace.specs.Code.Steps.{number_behind};
 ghost use Rattle.job_trace.specs.Code.Steps.{number_first};
 
 use sched_base::MAX_NAME_BYTES;

@@ -25,7 +25,7 @@ use Rattle.obligations.proofs.Ranges.{AreIn-long, attribute_ranges-not_empty, le
 use Rattle.obligations.proofs.Tests.{and_true, le_told, le_tells, not_false, true_and}
 
 -- the load fits the number of threads, as a refutation tests it
-abbrev loads_test : ℕ → ℕ → ℕ → ℕ → Bool
+abbrev pub loads_test : ℕ → ℕ → ℕ → ℕ → Bool
 loads_test least greatest nr load = int_le (pos least *ℤ pos nr) (pos load) && int_le (pos load) (pos greatest *ℤ pos nr)
 
 loads_told : (least greatest nr load : ℕ) → nr * least ≤ load → load ≤ nr * greatest → loads_test least greatest nr load ≡ true
@@ -79,7 +79,7 @@ module _ (p : Meaning) (is : IsResolved p) where
   core_long xs are = AreIn-long (attribute_ranges p.core_attrs) xs are ∙ length-attribute_ranges p.core_attrs is.core_attrs.few
 
   -- the filter sees of a pair of cores what stands in the values
-  filter_sees : (own victim : CoreValues) (weight fresh : ℕ) (attrs : List ℤ) → AreIn (attribute_ranges p.core_attrs) own.consts → AreIn (attribute_ranges p.core_attrs) victim.consts
+  pub filter_sees : (own victim : CoreValues) (weight fresh : ℕ) (attrs : List ℤ) → AreIn (attribute_ranges p.core_attrs) own.consts → AreIn (attribute_ranges p.core_attrs) victim.consts
       → holds (pair_values own victim) p.filter ≡ holds (assigned own.nr own.load victim.nr victim.load weight fresh own.consts victim.consts attrs) p.filter
   unfolding pair_values
   filter_sees own victim weight fresh attrs own_in victim_in =
@@ -95,13 +95,13 @@ module _ (p : Meaning) (is : IsResolved p) where
       omega arith
 
   -- values that a pair of cores and a weight stand for
-  lows : List ℤ
+  unfoldable pub lows : List ℤ
   lows = map (λ (r : Range). r.low) (attribute_ranges p.thread_attrs)
 
-  sight : CoreValues → CoreValues → ℕ → Assignment
+  unfoldable pub sight : CoreValues → CoreValues → ℕ → Assignment
   sight own victim weight = assigned own.nr own.load victim.nr victim.load weight 0 own.consts victim.consts lows
 
-  numbers : (own victim : CoreValues) (weight : ℕ) (attrs : List ℤ) → CoreFits p own → CoreFits p victim → IsWeight p weight → AreIn (attribute_ranges p.thread_attrs) attrs
+  pub numbers : (own victim : CoreValues) (weight : ℕ) (attrs : List ℤ) → CoreFits p own → CoreFits p victim → IsWeight p weight → AreIn (attribute_ranges p.thread_attrs) attrs
       → Numbers p own.nr own.load victim.nr victim.load weight 0 own.consts victim.consts attrs
   numbers own victim weight attrs fits_own fits_victim fits_weight attrs_in = record {
     nr_small = fits_own.loads.few;
@@ -116,16 +116,16 @@ module _ (p : Meaning) (is : IsResolved p) where
     attrs_in = attrs_in;
   }
 
-  sight_in : (own victim : CoreValues) (weight : ℕ) → CoreFits p own → CoreFits p victim → IsWeight p weight → AreIn (variable_ranges p) (sight own victim weight)
+  pub sight_in : (own victim : CoreValues) (weight : ℕ) → CoreFits p own → CoreFits p victim → IsWeight p weight → AreIn (variable_ranges p) (sight own victim weight)
   unfolding sight lows
   sight_in own victim weight fits_own fits_victim fits_weight =
       assigned_in p own.nr own.load victim.nr victim.load weight 0 own.consts victim.consts lows (numbers own victim weight lows fits_own fits_victim fits_weight
       (lows_in (attribute_ranges p.thread_attrs) (attribute_ranges-not_empty p.thread_attrs is.thread_attrs)))
 
-  least_is_weight : IsWeight p (least_weight p.load)
+  pub least_is_weight : IsWeight p (least_weight p.load)
   least_is_weight = record { least = omega arith; greatest = is.load.ordered }
 
-  cores_fit_told : (own victim : CoreValues) (weight : ℕ) → CoreFits p own → CoreFits p victim → holds (sight own victim weight) (cores_fit p.load) ≡ true
+  pub cores_fit_told : (own victim : CoreValues) (weight : ℕ) → CoreFits p own → CoreFits p victim → holds (sight own victim weight) (cores_fit p.load) ≡ true
   unfolding sight
   cores_fit_told own victim weight fits_own fits_victim =
       true_and (loads_test (least_weight p.load) (greatest_weight p.load) own.nr own.load) (loads_test (least_weight p.load) (greatest_weight p.load) victim.nr victim.load)
@@ -192,10 +192,10 @@ module _ (p : Meaning) (is : IsResolved p) where
       seen))
 
   -- the cores that values stand for
-  core_of : ℕ → ℕ → List ℤ → CoreValues
+  unfoldable pub core_of : ℕ → ℕ → List ℤ → CoreValues
   core_of nr load consts = record { nr = nr; load = load; consts = consts }
 
-  core_fits : (nr load : ℕ) (consts : List ℤ) → nr ≤ MAX_THREADS → loads_test (least_weight p.load) (greatest_weight p.load) nr load ≡ true → AreIn (attribute_ranges p.core_attrs) consts
+  pub core_fits : (nr load : ℕ) (consts : List ℤ) → nr ≤ MAX_THREADS → loads_test (least_weight p.load) (greatest_weight p.load) nr load ≡ true → AreIn (attribute_ranges p.core_attrs) consts
       → CoreFits p (core_of nr load consts)
   unfolding core_of
   core_fits nr load consts few test are =

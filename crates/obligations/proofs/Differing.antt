@@ -9,7 +9,7 @@ use Rattle.policy_tree.specs.declared.typed.Load.TheVariants as load
 use Rattle.policy_tree.specs.Meaning.{BatchTree, CaseTree, Meaning, cases_on}
 use Rattle.policy_tree.specs.Trees.{ExprTree, number, variable, negation, plus, minus, times, CondTree, always, negated, both, either, test}
 use Rattle.policy_eval.specs.Forms.{coefficient_of, constant_of}
-use Rattle.policy_eval.specs.Obligations.{Statement, idle_sees_overloaded, victim_is_overloaded, move_narrows_gap, further_move_narrows_gap, no_overlap, no_gap}
+use Rattle.policy_eval.specs.Obligations.{Statement, idle_sees_overloaded, victim_is_overloaded, move_narrows_gap, further_move_narrows_gap, no_overlap, no_gap, filter_leaves_last, batch_leaves_last}
 use Rattle.linear_form.specs.declared.form.Term.{Term}
 use Rattle.linear_form.specs.declared.form.Row.{Row}
 use Rattle.linear_form.specs.Difference.{AreDifference, IsDifference, IsDifferenceRow}
@@ -18,7 +18,7 @@ use Rattle.obligations.specs.Cases.{asked, cases_of, crossed}
 use Rattle.obligations.specs.DifferencePolicies.{ComparesDifference, ComparesDifferences, GoesOnByDifferences, HasDifferences, HaveDifferences, IsConstant, MultipliesConstants, added, taken}
 use Rattle.obligations.specs.Forms.{at_most, form_of}
 use Rattle.obligations.specs.Laws.{ComparisonsGiveDifferences}
-use Rattle.obligations.specs.Refutations.{all_of, any_of, both_of, cores_fit, gap_is_small, has_thread, idle_and_overloaded, moves_over_small_gap, pairs_of, victim_has_one, victim_has_thread}
+use Rattle.obligations.specs.Refutations.{all_of, any_of, both_of, busier_beside_two, busy_beside_two, cores_fit, gap_is_small, goes_on_to_last, has_thread, idle_and_overloaded, moves_over_small_gap, pairs_of, victim_has_one, victim_has_thread}
 use Rattle.obligations.specs.Systems.{has_variable, placed, refuting_cases, system_of_case, systems_of}
 use Rattle.obligations.specs.Tallies.{guards_of}
 use Rattle.obligations.proofs.Gaps.{IsGap, IsOfOne, test-differences, unit}
@@ -146,6 +146,14 @@ next-differs : Differs true (both (cores_fit load.Count) (both victim_has_thread
 unfolding at_most AreDifference
 next-differs = ((inl (refl, refl), (inr (refl, refl), (inl (refl, refl), (inr (refl, refl), (inr refl, (inl (refl, refl), (inr (refl, refl), tt))))))), tt)
 
+busy-differs : Differs true (both (cores_fit load.Count) busy_beside_two)
+unfolding at_most AreDifference
+busy-differs = ((inl (refl, refl), (inr (refl, refl), (inl (refl, refl), (inr (refl, refl), (inl refl, (inr refl, tt)))))), tt)
+
+busier-differs : Differs true (both (cores_fit load.Count) busier_beside_two)
+unfolding at_most AreDifference
+busier-differs = ((inl (refl, refl), (inr (refl, refl), (inl (refl, refl), (inr (refl, refl), (inr refl, (inl refl, (inr refl, tt))))))), tt)
+
 with_condition : (premise c : CondTree) (outcome : Bool) → Differs true premise → HasDifferences c
     → AllRows IsDifferenceRow (crossed (cases_of load.Count true premise) (cases_of load.Count outcome c))
 with_condition premise c outcome first is = cross (cases_of load.Count true premise) (cases_of load.Count outcome c) first (condition-differs outcome c is)
@@ -154,6 +162,10 @@ further-differs : (batch : Option BatchTree) → GoesOnByDifferences batch → D
 further-differs None is = tt
 further-differs (Some batch) is =
     with_condition (both (cores_fit load.Count) (both victim_has_thread (both (has_thread load.Count) gap_is_small))) batch.condition true next-differs is
+
+last-differs : (batch : Option BatchTree) → GoesOnByDifferences batch → Differs true (goes_on_to_last load.Count batch)
+last-differs None is = tt
+last-differs (Some batch) is = with_condition (both (cores_fit load.Count) busier_beside_two) batch.condition true busier-differs is
 
 -- the rows of two guards that hold, and those of guards of which none does
 pairs_with-differs : (c : CondTree) (cases : List CaseTree) (rest : List CondTree) → HasDifferences c → HaveDifferences cases
@@ -187,6 +199,8 @@ module _ (p : Meaning) (is : ComparesDifferences p) where
   counted-differs further_move_narrows_gap = further-differs p.batch is.batch
   counted-differs (no_overlap e) = pairs-differs (cases_on p.handlers e) (is.handlers e)
   counted-differs (no_gap e) = gaps-differs (cases_on p.handlers e) (is.handlers e)
+  counted-differs filter_leaves_last = with_condition (both (cores_fit load.Count) busy_beside_two) p.filter true busy-differs is.filter
+  counted-differs batch_leaves_last = last-differs p.batch is.batch
 
   cases-differ : (s : Statement) → AllRows IsDifferenceRow (refuting_cases p s)
   unfolding weighted

@@ -2,11 +2,12 @@
 use Rattle.std.proofs.Common.{◌≡◌, ℕ, zero, suc, ◌<◌, ◌≤◌, nat_lt, Bool, true, false, cond, List, [], ◌∷◌, length, get_or, Option, Some, None, refl, arith}
 use Rattle.std.proofs.lemmas.Bool.{ltb-false}
 use Rattle.sched_base.specs.declared.limits.TheConstants.{MAX_SYSTEM_CASES}
-use Rattle.policy_tree.specs.Meaning.{Meaning}
+use Rattle.policy_tree.specs.Meaning.{BatchTree, Meaning}
 use Rattle.obligations.specs.declared.names.ObName.{ObName}
 use Rattle.obligations.specs.declared.names.ObName.TheVariants as name
-use Rattle.obligations.specs.Counts.{case_count, first_crowded}
+use Rattle.obligations.specs.Counts.{case_count, count_of, first_crowded}
 use Rattle.obligations.specs.Names.{ob_names, statement_of}
+use Rattle.obligations.specs.Refutations.{goes_on_to_last, moves_over_small_gap}
 
 -- a test that finds nothing was not met, and nothing is found behind it
 none_behind : {X : Type 0} (b : Bool) (found : X) (rest : Option X) → cond b (Some found) rest ≡ None → rest ≡ None
@@ -39,3 +40,9 @@ few_cases p name.H1Yield none = few_below p ob_names 8 name.H1Yield (omega arith
 few_cases p name.H2Yield none = few_below p ob_names 9 name.H2Yield (omega arith) none
 few_cases p name.H1Block none = few_below p ob_names 10 name.H1Block (omega arith) none
 few_cases p name.H2Block none = few_below p ob_names 11 name.H2Block (omega arith) none
+
+-- a batch that goes on in few cases goes on to the last waiting thread in few
+pub few_moves : (p : Meaning) (batch : Option BatchTree) → count_of true (moves_over_small_gap p.load batch) ≤ MAX_SYSTEM_CASES
+    → count_of true (goes_on_to_last p.load batch) ≤ MAX_SYSTEM_CASES
+few_moves p None few = few
+few_moves p (Some batch) few = few

@@ -6,7 +6,7 @@ use Rattle.policy_tree.specs.declared.trees.Cmp.TheVariants as cmp
 use Rattle.policy_tree.specs.declared.typed.Load.{Load}
 use Rattle.policy_tree.specs.Meaning.{Meaning}
 use Rattle.policy_tree.specs.Trees.{CondTree, always, negated, both, either, test, minus}
-use Rattle.policy_eval.specs.Obligations.{IsMet, Statement, further_move_narrows_gap, idle_sees_overloaded, move_narrows_gap, no_gap, no_overlap, statements_of, victim_is_overloaded}
+use Rattle.policy_eval.specs.Obligations.{IsMet, Statement, batch_leaves_last, filter_leaves_last, further_move_narrows_gap, idle_sees_overloaded, move_narrows_gap, no_gap, no_overlap, statements_of, victim_is_overloaded}
 use Rattle.policy_eval.specs.Resolved.{IsResolved}
 use Rattle.obligations.specs.Cases.{asked, cases_of, cases_of_test}
 use Rattle.obligations.specs.Counts.{count_of, count_of_test}
@@ -17,6 +17,7 @@ use Rattle.obligations.specs.Refutations.{refutation}
 use Rattle.obligations.proofs.Balance.{further_from_none, narrows_from_none, none_from_further, none_from_narrows, none_from_sees, none_from_spares, sees_from_none, spares_from_none}
 use Rattle.obligations.proofs.Folds.{length-crossed}
 use Rattle.obligations.proofs.Handlers.{gap_from_none, none_from_gap, none_from_overlap, overlap_from_none}
+use Rattle.obligations.proofs.LeftToIdle.{batch_from_none, filter_from_none, none_from_batch, none_from_filter}
 use Rattle.obligations.proofs.Refuted.{no_solution_refutes, none_refutes_no_solution}
 
 module _ (p : Meaning) (is : IsResolved p) where
@@ -27,6 +28,8 @@ module _ (p : Meaning) (is : IsResolved p) where
   none_where_met further_move_narrows_gap = none_from_further p is p.batch is.batch
   none_where_met (no_overlap e) = none_from_overlap p is e
   none_where_met (no_gap e) = none_from_gap p is e
+  none_where_met filter_leaves_last = none_from_filter p is
+  none_where_met batch_leaves_last = none_from_batch p is p.batch is.batch
 
   met_where_none : (s : Statement) → NoneRefutes p s → IsMet p s
   met_where_none idle_sees_overloaded = sees_from_none p is
@@ -35,6 +38,8 @@ module _ (p : Meaning) (is : IsResolved p) where
   met_where_none further_move_narrows_gap = further_from_none p is p.batch
   met_where_none (no_overlap e) = overlap_from_none p is e
   met_where_none (no_gap e) = gap_from_none p is e
+  met_where_none filter_leaves_last = filter_from_none p is
+  met_where_none batch_leaves_last = batch_from_none p is p.batch
 
 pub refutations_are_theirs : RefutationsAreTheirs
 refutations_are_theirs p is s = (none_where_met p is s, met_where_none p is s)

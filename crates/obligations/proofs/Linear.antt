@@ -7,12 +7,12 @@ use Rattle.policy_tree.specs.declared.typed.Event.{Event}
 use Rattle.policy_tree.specs.Meaning.{BatchTree, CaseTree, Meaning, cases_on}
 use Rattle.policy_tree.specs.Trees.{CondTree, ExprTree, both, negated, variable, plus, times}
 use Rattle.policy_eval.specs.Forms.{EachSide, IsLinear, IsSmall}
-use Rattle.policy_eval.specs.Obligations.{Statement, idle_sees_overloaded, victim_is_overloaded, move_narrows_gap, further_move_narrows_gap, no_overlap, no_gap}
+use Rattle.policy_eval.specs.Obligations.{Statement, idle_sees_overloaded, victim_is_overloaded, move_narrows_gap, further_move_narrows_gap, no_overlap, no_gap, filter_leaves_last, batch_leaves_last}
 use Rattle.policy_eval.specs.Ranges.{greatest_weight, least_weight}
 use Rattle.policy_eval.specs.Resolved.{HasResolvedBatch, IsResolved, IsResolvedCase, IsResolvedExpr}
 use Rattle.policy_eval.specs.Sites.{filtering, going_on, handling}
 use Rattle.obligations.proofs.Expressions.{EachSide-mono}
-use Rattle.obligations.specs.Refutations.{all_of, any_of, both_of, gap_is_small, guards_on, has_thread, load_fits, moves_over_small_gap, pairs_of, refutation, whole}
+use Rattle.obligations.specs.Refutations.{all_of, any_of, both_of, gap_is_small, goes_on_to_last, guards_on, has_thread, load_fits, moves_over_small_gap, pairs_of, refutation, whole}
 use Rattle.obligations.proofs.Kept.{AllByRecursion-append}
 
 -- the coefficient of a variable is 1 or 0
@@ -133,6 +133,13 @@ module _ (p : Meaning) (is : IsResolved p) where
     EachSide-mono (IsResolvedExpr p going_on) IsLinear (λ x resolved. resolved.linear) batch.condition resolved.condition.sides,
   )
 
+  pub last-linear : (batch : Option BatchTree) → HasResolvedBatch p batch → EachSide IsLinear (goes_on_to_last p.load batch)
+  last-linear None resolved = tt
+  last-linear (Some batch) resolved = (
+    ((load_fits-linear 0 1, load_fits-linear 2 3), ((tt, whole-linear 1 (omega arith)), ((tt, whole-linear 2 (omega arith)), (tt, whole-linear 2 (omega arith))))),
+    EachSide-mono (IsResolvedExpr p going_on) IsLinear (λ x resolved. resolved.linear) batch.condition resolved.condition.sides,
+  )
+
   -- both sides of each comparison of a refutation are linear
   pub refutation-linear : (s : Statement) → EachSide IsLinear (refutation p s)
   refutation-linear idle_sees_overloaded =
@@ -147,3 +154,6 @@ module _ (p : Meaning) (is : IsResolved p) where
   refutation-linear (no_gap e) =
       all_of-sides IsLinear (map negated (guards_on p e))
       (negated-sides IsLinear (guards_on p e) (guards-linear e (cases_on p.handlers e) (is.handlers e).cases))
+  refutation-linear filter_leaves_last =
+      (((load_fits-linear 0 1, load_fits-linear 2 3), ((tt, whole-linear 2 (omega arith)), (tt, whole-linear 1 (omega arith)))), filter-linear)
+  refutation-linear batch_leaves_last = last-linear p.batch is.batch

@@ -10,3 +10,5 @@ statement_seen statement.MoveNarrowsGap = owed.move_narrows_gap
 statement_seen statement.FurtherMoveNarrowsGap = owed.further_move_narrows_gap
 statement_seen (statement.NoOverlap e) = owed.no_overlap e
 statement_seen (statement.NoGap e) = owed.no_gap e
+statement_seen statement.FilterLeavesLast = owed.filter_leaves_last
+statement_seen statement.BatchLeavesLast = owed.batch_leaves_last

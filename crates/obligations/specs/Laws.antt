@@ -4,11 +4,12 @@ use Rattle.linear_form.specs.Difference.{IsDifference}
 use Rattle.linear_form.specs.Solution.{HasNoSolution}
 use Rattle.linear_form.specs.System.{LinearSystem}
 use Rattle.policy_tree.specs.Meaning.{Meaning}
-use Rattle.policy_eval.specs.Obligations.{IsMet, Statement, statements_of}
+use Rattle.policy_eval.specs.Obligations.{BatchLeavesLast, FilterLeavesLast, IsMet, Statement, statements_of}
 use Rattle.policy_eval.specs.Ranges.{AreIn}
 use Rattle.policy_eval.specs.Resolved.{IsResolved}
 use Rattle.policy_eval.specs.Values.{Assignment, Holds}
 use Rattle.obligations.specs.declared.obligation.Obligation.{Obligation}
+use Rattle.obligations.specs.declared.last_threads.LastWaiting.{LastWaiting}
 use Rattle.obligations.specs.Names.{ob_names, statement_of}
 use Rattle.obligations.specs.Counts.{case_count}
 use Rattle.obligations.specs.DifferencePolicies.{ComparesDifferences}
@@ -43,6 +44,11 @@ CountsAreCases = (p : Meaning) (s : Statement) → length (refuting_cases p s) �
 abbrev pub SayTheStatements : Meaning → List Obligation → Type 0
 SayTheStatements p all =
     All (λ (o : Obligation). IsMet p (statement_of o.name) ↔ HaveNoSolution o.systems) all
+
+-- Both statements on the last waiting thread hold of the policy exactly where none of their systems has a solution.
+abbrev pub SayTheLast : Meaning → LastWaiting → Type 0
+SayTheLast p last =
+    (FilterLeavesLast p ↔ HaveNoSolution last.filter.systems) × (BatchLeavesLast p p.batch ↔ HaveNoSolution last.batch.systems)
 
 -- each system of the list is one of differences
 abbrev pub AreOfDifferences : List LinearSystem → Type 0

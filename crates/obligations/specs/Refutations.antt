@@ -8,7 +8,8 @@ use Rattle.policy_tree.specs.Meaning.{BatchTree, CaseTree, Meaning, cases_on}
 use Rattle.policy_tree.specs.Trees.{CondTree, ExprTree, always, negated, both, either, test, number, variable, plus}
 use Rattle.policy_tree.specs.Trees.{times}
 use Rattle.policy_eval.specs.Obligations.{Statement, idle_sees_overloaded, victim_is_overloaded, move_narrows_gap}
-use Rattle.policy_eval.specs.Obligations.{further_move_narrows_gap, no_overlap, no_gap}
+use Rattle.policy_eval.specs.Obligations.{further_move_narrows_gap, no_overlap, no_gap, filter_leaves_last}
+use Rattle.policy_eval.specs.Obligations.{batch_leaves_last}
 use Rattle.policy_eval.specs.Ranges.{greatest_weight, least_weight}
 use Rattle.policy_tree.specs.declared.variables.TheConstants.{SELF_NR, SELF_LOAD, OTHER_NR, OTHER_LOAD, WEIGHT}
 
@@ -56,6 +57,20 @@ moves_over_small_gap load None = negated always
 moves_over_small_gap load (Some batch) =
     both (both (cores_fit load) (both victim_has_thread (both (has_thread load) gap_is_small))) batch.condition
 
+-- victim has at most two threads, and self has one at least
+abbrev pub busy_beside_two : CondTree
+busy_beside_two = both (test cmp.Le (variable OTHER_NR) (whole 2)) (test cmp.Ge (variable SELF_NR) (whole 1))
+
+-- victim has one thread or two, and self has two at least
+abbrev pub busier_beside_two : CondTree
+busier_beside_two =
+    both victim_has_thread (both (test cmp.Le (variable OTHER_NR) (whole 2)) (test cmp.Ge (variable SELF_NR) (whole 2)))
+
+-- the batch goes on to the last waiting thread although self has two threads at least. Without a batch it never does
+abbrev pub goes_on_to_last : Load → Option BatchTree → CondTree
+goes_on_to_last load None = negated always
+goes_on_to_last load (Some batch) = both (both (cores_fit load) busier_beside_two) batch.condition
+
 -- the pairs of an item and a later one, in the order of the first and then of the second
 abbrev pub pairs_of : {X : Type 0} → List X → List (X × X)
 pairs_of [] = []
@@ -87,3 +102,5 @@ refutation p move_narrows_gap = both (both (cores_fit p.load) (both (has_thread 
 refutation p further_move_narrows_gap = moves_over_small_gap p.load p.batch
 refutation p (no_overlap e) = any_of (map both_of (pairs_of (guards_on p e)))
 refutation p (no_gap e) = all_of (map negated (guards_on p e))
+refutation p filter_leaves_last = both (both (cores_fit p.load) busy_beside_two) p.filter
+refutation p batch_leaves_last = goes_on_to_last p.load p.batch

@@ -5,7 +5,8 @@ use Rattle.std.specs.List.{list_any}
 use Rattle.sched_base.specs.declared.limits.TheConstants.{MAX_THREADS, MAX_VARIABLES}
 use Rattle.policy_tree.specs.Meaning.{Meaning}
 use Rattle.policy_eval.specs.Obligations.{Statement, idle_sees_overloaded, victim_is_overloaded, move_narrows_gap}
-use Rattle.policy_eval.specs.Obligations.{further_move_narrows_gap, no_overlap, no_gap}
+use Rattle.policy_eval.specs.Obligations.{further_move_narrows_gap, no_overlap, no_gap, filter_leaves_last}
+use Rattle.policy_eval.specs.Obligations.{batch_leaves_last}
 use Rattle.policy_eval.specs.Ranges.{Range, attribute_ranges, greatest_weight, least_weight, range}
 use Rattle.linear_form.specs.declared.form.Term.{Term}
 use Rattle.linear_form.specs.declared.form.Row.{Row}
@@ -13,6 +14,8 @@ use Rattle.linear_form.specs.declared.form.Bound.{Bound}
 use Rattle.linear_form.specs.System.{LinearSystem}
 use Rattle.obligations.specs.declared.names.ObName.{ObName}
 use Rattle.obligations.specs.declared.obligation.Obligation.{Obligation}
+use Rattle.obligations.specs.declared.obligation.Question.{Question}
+use Rattle.obligations.specs.declared.last_threads.LastWaiting.{LastWaiting}
 use Rattle.policy_tree.specs.declared.variables.TheConstants.{WEIGHT}
 use Rattle.obligations.specs.Cases.{cases_of}
 use Rattle.obligations.specs.Names.{ob_names, statement_of}
@@ -42,6 +45,8 @@ always_has move_narrows_gap v = nat_lt v WEIGHT
 always_has further_move_narrows_gap v = nat_lt v WEIGHT
 always_has (no_overlap e) v = false
 always_has (no_gap e) v = false
+always_has filter_leaves_last v = nat_lt v WEIGHT
+always_has batch_leaves_last v = nat_lt v WEIGHT
 
 -- the variable occurs in a row of a case
 abbrev pub occurs : ℕ → List (List Row) → Bool
@@ -85,6 +90,17 @@ system_of_case p s rows = record {
 -- the systems of a statement, one for each case
 abbrev pub systems_of : Meaning → Statement → List LinearSystem
 systems_of p s = map (system_of_case p s) (refuting_cases p s)
+
+-- the statement as its variables and its systems
+abbrev pub question_of : Meaning → Statement → Question
+question_of p s = record { vars = variables_of p s; systems = systems_of p s }
+
+-- what keeps the last waiting thread of a core for idle cores
+abbrev pub last_waiting_of : Meaning → LastWaiting
+last_waiting_of p = record {
+  filter = question_of p filter_leaves_last;
+  batch = question_of p batch_leaves_last;
+}
 
 -- the obligation of that name
 abbrev pub obligation_of : Meaning → ObName → Obligation

@@ -4,7 +4,7 @@ ghost use Rattle.std.specs.Prelude.{◌≡◌, map, option_map, true};
 ghost use Rattle.policy_tree.specs.Meaning.{batch_tree, case_tree, meaning_of};
 ghost use Rattle.obligations.specs.Counts.{case_count, count_of, first_crowded, reported};
 ghost use Rattle.obligations.specs.Names.{ob_names};
-ghost use Rattle.obligations.specs.Refutations.{moves_over_small_gap};
+ghost use Rattle.obligations.specs.Refutations.{goes_on_to_last, moves_over_small_gap};
 ghost use Rattle.policy_tree.specs.declared.typed.Load.{Load};
 ghost use Rattle.obligations.specs.Tallies.{guards_of, pair_count, gap_count};
 ghost use Rattle.obligations.specs.Demands.{statement_seen};
@@ -34,8 +34,11 @@ fn case_count(policy: &Policy, statement: Statement) -> u32
 {
     match statement {
         Statement::IdleSeesOverloaded => count(&policy.filter, false),
-        Statement::VictimIsOverloaded | Statement::MoveNarrowsGap => count(&policy.filter, true),
-        Statement::FurtherMoveNarrowsGap => further_count(&policy.batch),
+        Statement::VictimIsOverloaded | Statement::MoveNarrowsGap | Statement::FilterLeavesLast =>
+            count(&policy.filter, true),
+        Statement::FurtherMoveNarrowsGap | Statement::BatchLeavesLast => {
+            further_count(&policy.batch)
+        }
         Statement::NoOverlap(event) => pair_count(policy.handlers.cases(event).as_slice()),
         Statement::NoGap(event) => gap_count(policy.handlers.cases(event).as_slice()),
     }
@@ -43,8 +46,10 @@ fn case_count(policy: &Policy, statement: Statement) -> u32
 
 /// The number of cases in which a batch goes on, none without a batch.
 fn further_count(batch: &Option<Batch>) -> u32
-    ensures { (load : Load) →
+    ensures gap { (load : Load) →
         result ≡ reported (count_of true (moves_over_small_gap load (option_map batch_tree batch.now))) }
+    ensures last { (load : Load) →
+        result ≡ reported (count_of true (goes_on_to_last load (option_map batch_tree batch.now))) }
 {
     match batch {
         Some(batch) => count(&batch.cond, true),

@@ -8,6 +8,7 @@ mod counts;
 mod crossing;
 mod crowding;
 mod forms;
+mod last_threads;
 pub mod laws;
 mod making;
 mod marking;
@@ -20,6 +21,7 @@ mod rows;
 mod statements;
 
 pub use counts::MAX_COUNT;
+pub use last_threads::{LastWaiting, last_waiting};
 pub use making::{ObligeFault, oblige, oblige_one};
 pub use names::{OB_NAME_ROOM, ObName, ob_name, ob_names};
-pub use obligation::{Obligation, Obligations, SystemList, VarList};
+pub use obligation::{Obligation, Obligations, Question, SystemList, VarList};

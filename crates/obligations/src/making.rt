@@ -13,12 +13,13 @@ ghost use Rattle.obligations.specs.Laws.{SayTheStatements};
 ghost use Rattle.obligations.specs.Marks.{AlwaysMarked, AreCases, HasSmallTerms, IsUnmarked, placed_systems, stays};
 ghost use Rattle.obligations.specs.Names.{ob_names, statement_of};
 ghost use Rattle.obligations.specs.Systems.{always_has, bound_of, kept_below, obligation_of, obligations_of, place_of};
+ghost use Rattle.obligations.specs.Systems.{question_of};
 
 use crate::assembling::{bounds_of, system_of};
 use crate::crowding::first_crowded;
 use crate::marking::mark_cases;
 use crate::names::{ObName, ob_names};
-use crate::obligation::{Obligation, Obligations};
+use crate::obligation::{Obligation, Obligations, Question};
 use crate::placing::{Places, places_of};
 use crate::refuting::refuting_cases;
 use crate::rows::Rows;
@@ -96,12 +97,28 @@ fn obligation_of(alloc: Global, policy: &Policy, name: ObName) -> Result<Obligat
     requires few { case_count (meaning_of policy.now) (statement_of name) ≤ MAX_SYSTEM_CASES }
     ensures { IfOk result (λ ob. ob ≡ obligation_of (meaning_of policy.now) name) }
 {
-    let statement = statement_of(name);
+    let question = question_of(alloc, policy, statement_of(name))?;
+    Ok(Obligation {
+        name,
+        vars: question.vars,
+        systems: question.systems,
+    })
+}
+
+/// The statement, which hasn't too many cases, as its variables and its systems.
+pub(crate) fn question_of(
+    alloc: Global,
+    policy: &Policy,
+    statement: Statement,
+) -> Result<Question, AllocError>
+    requires policy { IsResolved (meaning_of policy.now) }
+    requires few { case_count (meaning_of policy.now) (statement_seen statement) ≤ MAX_SYSTEM_CASES }
+    ensures { IfOk result (λ q. q ≡ question_of (meaning_of policy.now) (statement_seen statement)) }
+{
     let cases = refuting_cases(alloc, policy, statement)?;
     let kept = places_in(alloc, statement, cases.as_slice())?;
     let systems = systems_in(alloc, policy, &kept, cases.as_slice())?;
-    Ok(Obligation {
-        name,
+    Ok(Question {
         vars: Items::from_vec(kept.vars),
         systems: Items::from_vec(systems),
     })
@@ -160,7 +177,9 @@ fn always_count(statement: Statement) -> usize
         Statement::IdleSeesOverloaded
         | Statement::VictimIsOverloaded
         | Statement::MoveNarrowsGap
-        | Statement::FurtherMoveNarrowsGap => WEIGHT as usize,
+        | Statement::FurtherMoveNarrowsGap
+        | Statement::FilterLeavesLast
+        | Statement::BatchLeavesLast => WEIGHT as usize,
         Statement::NoOverlap(_) | Statement::NoGap(_) => 0,
     }
 }

@@ -1,4 +1,4 @@
-//! An obligation as its variables and its systems.
+//! A statement as its variables and its systems.
 
 use crate::names::ObName;
 use linear_form::System;
@@ -9,6 +9,15 @@ pub type VarList = Items<u32>;
 
 /// Systems in the order of the cases that they come from.
 pub type SystemList = Items<System>;
+
+/// A statement: it holds exactly where none of its systems has a solution in whole numbers.
+#[derive(Drop)]
+pub struct Question {
+    /// Which variable of the policy each variable of the systems is.
+    pub vars: VarList,
+    /// One for each conjunctive case in which the statement fails.
+    pub systems: SystemList,
+}
 
 /// An obligation: it holds exactly where none of its systems has a solution in whole numbers.
 #[derive(Drop)]

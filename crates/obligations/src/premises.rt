@@ -1,10 +1,12 @@
 //! What a statement on a pair of cores supposes, as a condition.
 
 ghost use Rattle.std.specs.Prelude.{◌≡◌, IfOk};
-ghost use Rattle.policy_tree.specs.Trees.{both, cond_tree, expr_tree, plus, times, variable};
+ghost use Rattle.policy_tree.specs.declared.trees.Cmp.TheVariants as cmp;
+ghost use Rattle.policy_tree.specs.declared.variables.TheConstants.{OTHER_NR};
+ghost use Rattle.policy_tree.specs.Trees.{both, cond_tree, expr_tree, plus, test, times, variable};
 ghost use Rattle.policy_eval.specs.Ranges.{greatest_weight, least_weight};
-ghost use Rattle.obligations.specs.Refutations.{cores_fit, gap_is_small, has_thread, idle_and_overloaded, load_fits};
-ghost use Rattle.obligations.specs.Refutations.{victim_has_one, victim_has_thread, whole};
+ghost use Rattle.obligations.specs.Refutations.{busier_beside_two, busy_beside_two, cores_fit, gap_is_small, has_thread};
+ghost use Rattle.obligations.specs.Refutations.{idle_and_overloaded, load_fits, victim_has_one, victim_has_thread, whole};
 
 use policy_tree::variables::{OTHER_LOAD, OTHER_NR, SELF_LOAD, SELF_NR, WEIGHT};
 use policy_tree::{Cmp, Cond, Expr, Load};
@@ -45,6 +47,32 @@ pub fn next_and_small_gap(alloc: Global, load: Load) -> Result<Cond, AllocError>
     let queued = queued_over_small_gap(alloc, load)?;
     let rest = both(alloc, some, queued)?;
     both(alloc, cores_fit(alloc, load)?, rest)
+}
+
+/// A victim with at most two threads, and a thief that has one at least.
+pub fn busy_beside_two(alloc: Global, load: Load) -> Result<Cond, AllocError>
+    ensures { IfOk result (λ c. cond_tree c ≡ both (cores_fit load) busy_beside_two) }
+{
+    let busy = Cond::Test(Cmp::Ge, Expr::Var(SELF_NR), Expr::Num(1));
+    let rest = both(alloc, at_most_two(), busy)?;
+    both(alloc, cores_fit(alloc, load)?, rest)
+}
+
+/// A victim with one thread or two, and a thief that has two at least.
+pub fn busier_beside_two(alloc: Global, load: Load) -> Result<Cond, AllocError>
+    ensures { IfOk result (λ c. cond_tree c ≡ both (cores_fit load) busier_beside_two) }
+{
+    let some = Cond::Test(Cmp::Ge, Expr::Var(OTHER_NR), Expr::Num(1));
+    let busier = Cond::Test(Cmp::Ge, Expr::Var(SELF_NR), Expr::Num(2));
+    let counts = both(alloc, at_most_two(), busier)?;
+    let rest = both(alloc, some, counts)?;
+    both(alloc, cores_fit(alloc, load)?, rest)
+}
+
+fn at_most_two() -> Cond
+    ensures { cond_tree result ≡ test cmp.Le (variable OTHER_NR) (whole 2) }
+{
+    Cond::Test(Cmp::Le, Expr::Var(OTHER_NR), Expr::Num(2))
 }
 
 fn queued_over_small_gap(alloc: Global, load: Load) -> Result<Cond, AllocError>

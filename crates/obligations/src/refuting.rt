@@ -8,7 +8,8 @@ ghost use Rattle.policy_eval.specs.Forms.{EachSide, IsLinear};
 ghost use Rattle.policy_eval.specs.Resolved.{IsResolved, IsWeightRange};
 ghost use Rattle.obligations.specs.Cases.{cases_of, crossed};
 ghost use Rattle.obligations.specs.Demands.{statement_seen};
-ghost use Rattle.obligations.specs.Refutations.{all_of, any_of, both_of, moves_over_small_gap, pairs_of};
+ghost use Rattle.obligations.specs.Refutations.{all_of, any_of, both_of, goes_on_to_last, moves_over_small_gap};
+ghost use Rattle.obligations.specs.Refutations.{pairs_of};
 ghost use Rattle.obligations.specs.Systems.{refuting_cases};
 ghost use Rattle.obligations.specs.Tallies.{guards_of};
 
@@ -17,7 +18,8 @@ use crate::counts::count;
 use crate::crossing::{cases_of_always, crossed, joined};
 use crate::crowding::gap_count;
 use crate::premises::{
-    idle_beside_overloaded, next_and_small_gap, thread_and_small_gap, victim_of_one,
+    busier_beside_two, busy_beside_two, idle_beside_overloaded, next_and_small_gap,
+    thread_and_small_gap, victim_of_one,
 };
 use crate::rows::Rows;
 use crate::statements::Statement;
@@ -52,6 +54,11 @@ pub fn refuting_cases(
             overlap_cases(alloc, load, policy.handlers.cases(event).as_slice())
         }
         Statement::NoGap(event) => gap_cases(alloc, load, policy.handlers.cases(event).as_slice()),
+        Statement::FilterLeavesLast => {
+            let premise = busy_beside_two(alloc, load)?;
+            with_condition(alloc, load, &premise, &policy.filter, true)
+        }
+        Statement::BatchLeavesLast => last_cases(alloc, load, &policy.batch),
     }
 }
 
@@ -66,6 +73,23 @@ fn further_cases(alloc: Global, load: Load, batch: &Option<Batch>) -> Result<Vec
         Some(batch) => {
             let premise = next_and_small_gap(alloc, load)?;
             with_condition(alloc, load, &premise, &batch.cond, true)
+        }
+        None => Ok(Vec::new(alloc)),
+    }
+}
+
+/// The cases in which the batch goes on to the last waiting thread although the thief has two, none without a batch.
+fn last_cases(alloc: Global, load: Load, batch: &Option<Batch>) -> Result<Vec<Rows>, AllocError>
+    requires load { IsWeightRange load }
+    requires batch { EachSide IsLinear (goes_on_to_last load (option_map batch_tree batch.now)) }
+    ensures { IfOk result (λ cases. cases.items ≡
+        cases_of load true (goes_on_to_last load (option_map batch_tree batch.now))) }
+{
+    match batch {
+        Some(batch) => {
+            let premise = busier_beside_two(alloc, load)?;
+            let goes_on = &batch.cond;
+            with_condition(alloc, load, &premise, goes_on, true)
         }
         None => Ok(Vec::new(alloc)),
     }

@@ -7,7 +7,7 @@ ghost use Rattle.obligations.specs.Names.{statement_of};
 use crate::names::ObName;
 use policy_tree::Event;
 
-/// What a policy owes.
+/// What is asked of a policy: what it owes, and who may take the last waiting thread of a core.
 #[derive(Clone, Copy)]
 pub enum Statement {
     IdleSeesOverloaded,
@@ -16,6 +16,8 @@ pub enum Statement {
     FurtherMoveNarrowsGap,
     NoOverlap(Event),
     NoGap(Event),
+    FilterLeavesLast,
+    BatchLeavesLast,
 }
 
 /// The statement that goes by that name.

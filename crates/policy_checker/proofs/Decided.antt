@@ -5,6 +5,7 @@ use Rattle.std.proofs.lemmas.List.Elements.{All-contains, recursion_from_All}
 use Rattle.linear_form.specs.Difference.{IsDifference}
 use Rattle.linear_form.specs.System.{LinearSystem}
 use Rattle.policy_tree.specs.Meaning.{Meaning}
+use Rattle.policy_eval.specs.Obligations.{Statement}
 use Rattle.obligations.specs.declared.names.ObName.{ObName}
 use Rattle.obligations.specs.DifferencePolicies.{ComparesDifferences}
 use Rattle.obligations.specs.Names.{statement_of}
@@ -33,12 +34,14 @@ neither true b e f = absurd (true≢false e)
 neither false b e f = f
 
 module _ (p : Meaning) (form : ComparesDifferences p) where
+  pub statement_decided : (s : Statement) (budget : ℕ) (a : ObAnswer) → IsAnswer budget (systems_of p s) a → is_left a ≡ false
+  statement_decided s budget (answer.Holds certs) is = refl
+  statement_decided s budget (answer.Fails point) is = refl
+  statement_decided s budget (answer.Undecided points) is =
+      absurd (none_left budget (systems_of p s) points (recursion_from_All OfDifferences (systems_of p s) (comparisons_give_differences p form s)) is)
+
   answer_decided : (name : ObName) (budget : ℕ) (a : ObAnswer) → IsAnswer budget (systems_of p (statement_of name)) a → is_left a ≡ false
-  answer_decided name budget (answer.Holds certs) is = refl
-  answer_decided name budget (answer.Fails point) is = refl
-  answer_decided name budget (answer.Undecided points) is =
-      absurd (none_left budget (systems_of p (statement_of name)) points
-      (recursion_from_All OfDifferences (systems_of p (statement_of name)) (comparisons_give_differences p form (statement_of name))) is)
+  answer_decided name = statement_decided (statement_of name)
 
   all_decided : (budget : ℕ) (answers : List Answered) → AllByRecursion (Answers p budget) answers → some_is_left answers ≡ false
   all_decided budget [] all = refl

@@ -135,9 +135,9 @@ module _ (p : Meaning) where
     uncertain : (n : ObName) (a : ObAnswer) → IsAnswer CHECK_BUDGET (systems_of p (statement_of n)) a → IsTrue (is_of_handler n) → is_holding a ≡ false
         → HasUncertainHandler p
     uncertain n (answer.Holds certs) answers handler unheld = absurd (true≢false unheld)
-    uncertain n (answer.Fails point) answers handler unheld = record { name = n; of_handler = handler; uncertain = inl (told p is n (answer.Fails point) answers) }
+    uncertain n (answer.Fails point) answers handler unheld = record { name = n; of_handler = handler; uncertain = inl (told p is (statement_of n) (answer.Fails point) answers) }
     uncertain n (answer.Undecided points) answers handler unheld =
-        record { name = n; of_handler = handler; uncertain = inr (told p is n (answer.Undecided points) answers) }
+        record { name = n; of_handler = handler; uncertain = inr (told p is (statement_of n) (answer.Undecided points) answers) }
 
     some_uncertain : (answers : List Answered) → AllByRecursion (Answers p CHECK_BUDGET) answers → all_let_play answers ≡ false → HasUncertainHandler p
     some_uncertain [] are plays = absurd (true≢false plays)

@@ -18,8 +18,8 @@ use Rattle.obligations.specs.Systems.{systems_of}
 use Rattle.obligations.proofs.Law.{names_are_statements, systems_are_statements}
 use Rattle.policy_checker.specs.Answers.{AllRefuted, IsAnswer, IsFirstLeft, IsFirstSolved, IsLeft}
 use Rattle.policy_checker.specs.Certified.{Certifies, IsCertified}
-use Rattle.policy_checker.specs.Laws.{AnswersAreTrue, CertifiedMeet}
-use Rattle.policy_checker.specs.Outcomes.{HasOpen, IsTold, outcome_of}
+use Rattle.policy_checker.specs.Laws.{AnswersAreTrue, CertifiedMeet, StatementsAreTrue}
+use Rattle.policy_checker.specs.Outcomes.{HasOpen, IsTrueOf, outcome_of}
 use Rattle.policy_checker.specs.Refuted.{Refutes}
 use Rattle.policy_checker.specs.declared.answer.ObAnswer.{ObAnswer}
 use Rattle.policy_checker.specs.declared.answer.ObAnswer.TheVariants as answer
@@ -72,10 +72,10 @@ module _ (p : Meaning) (is : IsResolved p) where
   met_where : (s : Statement) → IsMet p s → AllByRecursion Unsolved (systems_of p s)
   met_where s met = recursion_from_All Unsolved (systems_of p s) ((systems_are_statements p is s).0 met)
 
-  pub told : (name : ObName) (answer : ObAnswer) → IsAnswer CHECK_BUDGET (systems_of p (statement_of name)) answer → IsTold p name (outcome_of answer)
-  told name (answer.Holds certs) all = met_if (statement_of name) (certified_unsolved CHECK_BUDGET (systems_of p (statement_of name)) certs all)
-  told name (answer.Fails point) solved = λ met. solved_one CHECK_BUDGET (systems_of p (statement_of name)) point.vals solved (met_where (statement_of name) met)
-  told name (answer.Undecided points) left = left_open (systems_of p (statement_of name)) points left
+  pub told : (s : Statement) (answer : ObAnswer) → IsAnswer CHECK_BUDGET (systems_of p s) answer → IsTrueOf p s (outcome_of answer)
+  told s (answer.Holds certs) all = met_if s (certified_unsolved CHECK_BUDGET (systems_of p s) certs all)
+  told s (answer.Fails point) solved = λ met. solved_one CHECK_BUDGET (systems_of p s) point.vals solved (met_where s met)
+  told s (answer.Undecided points) left = left_open (systems_of p s) points left
 
   met_all : (names : List ObName) (certs : List (List CertTree)) → AllZip (Certifies p) names certs → AllByRecursion (IsMet p) (map statement_of names)
   met_all [] [] all = tt
@@ -89,7 +89,10 @@ module _ (p : Meaning) (is : IsResolved p) where
       subst (λ statements. All (IsMet p) statements) (sym (names_are_statements p)) (All-from_recursion (IsMet p) (map statement_of ob_names) (met_all ob_names certs all))
 
 pub answers_are_true : AnswersAreTrue
-answers_are_true p is name answer = told p is name answer
+answers_are_true p is name answer = told p is (statement_of name) answer
+
+pub statements_are_true : StatementsAreTrue
+statements_are_true p is s answer = told p is s answer
 
 pub certified_meet : CertifiedMeet
 certified_meet p is = meets p is

@@ -13,7 +13,7 @@ use Rattle.obligations.specs.Refutations.{refutation}
 use Rattle.obligations.specs.Systems.{systems_of, variable_ranges, variables_of}
 use Rattle.policy_checker.specs.Answers.{IsAnswer, IsFirstSolved}
 use Rattle.policy_checker.specs.Certified.{IsCertified}
-use Rattle.policy_checker.specs.Outcomes.{HasOpen, IsTold, outcome_of}
+use Rattle.policy_checker.specs.Outcomes.{HasOpen, IsTold, IsTrueOf, outcome_of}
 use Rattle.policy_checker.specs.Playable.{HasCertifiedHandlers, is_of_handler, is_playable}
 use Rattle.policy_checker.specs.Verdicts.{IsDecided, IsVerdict, is_left}
 use Rattle.policy_checker.specs.declared.answer.ObAnswer.{ObAnswer}
@@ -27,6 +27,11 @@ CertifiedMeet = (p : Meaning) → IsResolved p → IsCertified p → MeetsObliga
 abbrev pub AnswersAreTrue : Type 0
 AnswersAreTrue = (p : Meaning) → IsResolved p → (name : ObName) (answer : ObAnswer)
     → IsAnswer CHECK_BUDGET (systems_of p (statement_of name)) answer → IsTold p name (outcome_of answer)
+
+-- So it is of each statement that may be asked of a policy.
+abbrev pub StatementsAreTrue : Type 0
+StatementsAreTrue = (p : Meaning) → IsResolved p → (s : Statement) (answer : ObAnswer)
+    → IsAnswer CHECK_BUDGET (systems_of p s) answer → IsTrueOf p s (outcome_of answer)
 
 -- Some values of all variables, each in its range, refute the statement, and the point has those of the statement's
 -- variables, in the order of their numbers.

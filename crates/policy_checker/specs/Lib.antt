@@ -1,5 +1,6 @@
 pub mod Answers
 pub mod Certified
+pub mod LastThreads
 pub mod Laws
 pub mod Outcomes
 pub mod Playable

@@ -6,7 +6,7 @@ use Rattle.linear_solver.specs.Elimination.{IsOpen}
 use Rattle.obligations.specs.declared.names.ObName.{ObName}
 use Rattle.obligations.specs.Names.{statement_of}
 use Rattle.obligations.specs.Systems.{systems_of}
-use Rattle.policy_eval.specs.Obligations.{IsMet}
+use Rattle.policy_eval.specs.Obligations.{IsMet, Statement}
 use Rattle.policy_tree.specs.Meaning.{Meaning}
 use Rattle.policy_checker.specs.declared.answer.ObAnswer.{ObAnswer}
 use Rattle.policy_checker.specs.declared.answer.ObAnswer.TheVariants as answer
@@ -23,8 +23,12 @@ outcome_of (answer.Undecided points) = outcome.Undecided
 abbrev pub HasOpen : List LinearSystem → Type 0
 HasOpen systems = (system : LinearSystem) × Contains systems system × IsOpen system.bounds system.rows
 
+-- That is true of the statement.
+abbrev pub IsTrueOf : Meaning → Statement → Outcome → Type 0
+IsTrueOf p s outcome.Holds = IsMet p s
+IsTrueOf p s outcome.Fails = IsMet p s → ⊥
+IsTrueOf p s outcome.Undecided = HasOpen (systems_of p s)
+
 -- That is true of the obligation with this name.
 abbrev pub IsTold : Meaning → ObName → Outcome → Type 0
-IsTold p name outcome.Holds = IsMet p (statement_of name)
-IsTold p name outcome.Fails = IsMet p (statement_of name) → ⊥
-IsTold p name outcome.Undecided = HasOpen (systems_of p (statement_of name))
+IsTold p name told = IsTrueOf p (statement_of name) told

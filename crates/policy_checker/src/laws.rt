@@ -1,7 +1,7 @@
 //! Laws of the definitions, each a function without parameters whose contract is the law.
 
 ghost use Rattle.policy_checker.specs.Laws.{AnswersAreTrue, CertifiedMeet, DifferencesAreDecided};
-ghost use Rattle.policy_checker.specs.Laws.{PlayableLaw, PointsRefute};
+ghost use Rattle.policy_checker.specs.Laws.{PlayableLaw, PointsRefute, StatementsAreTrue};
 
 /// A policy of which each system of each obligation has a right certificate meets all its obligations.
 pub fn law_certified()
@@ -14,7 +14,12 @@ pub fn law_answers()
     ensures { AnswersAreTrue }
 {}
 
-/// At the point of an answer the obligation fails.
+/// So it is of each statement: those that a policy owes, and those on the last waiting thread of a core.
+pub fn law_statements()
+    ensures { StatementsAreTrue }
+{}
+
+/// At the point of an answer the statement fails.
 pub fn law_points()
     ensures { PointsRefute }
 {}

@@ -6,6 +6,7 @@ mod accepted;
 mod answer;
 mod checking;
 mod deciding;
+mod last_threads;
 mod laws;
 mod one;
 mod playing;
@@ -15,7 +16,10 @@ mod verdict;
 pub use accepted::AcceptedPolicy;
 pub use answer::{Answered, CertList, ObAnswer, ObAnswers, Outcome};
 pub use checking::check_policy;
-pub use laws::{law_answers, law_certified, law_differences, law_playable, law_points};
+pub use last_threads::{LastOnes, check_last};
+pub use laws::{
+    law_answers, law_certified, law_differences, law_playable, law_points, law_statements,
+};
 pub use one::{One, OneFault, check_one};
 pub use playing::{PlayablePolicy, playable};
 pub use verdict::{CheckFault, Verdict};

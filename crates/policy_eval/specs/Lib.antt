@@ -2,6 +2,7 @@ pub mod Evaluable
 pub mod Events
 pub mod Fitting
 pub mod Forms
+pub mod LastWaiting
 pub mod Laws
 pub mod Obligations
 pub mod Orders

@@ -1,4 +1,4 @@
--- What a policy owes: statements over all numbers in its ranges.
+-- What a policy owes, and what else may be asked of it: statements over all numbers in its ranges.
 use Rattle.std.specs.Prelude.{◌≡◌, ℕ, ◌+◌, ◌*◌, ◌<◌, ◌≤◌, Bool, List, [], ◌∷◌, length, All, ℤ, Option, None, Some}
 use Rattle.sched_base.specs.declared.task.Task.{Task}
 use Rattle.policy_tree.specs.declared.typed.Event.{Event}
@@ -51,7 +51,21 @@ abbrev pub NoGap : Meaning → Event → Type 0
 NoGap p e = (fresh : Bool) (consts : List ℤ) (t : Task)
     → AreIn (attribute_ranges p.core_attrs) consts → IsTask p t → 1 ≤ length (holding_cases p e fresh consts t)
 
--- the names of the statements
+-- the filter lets only an idle core take from a victim with at most two threads
+abbrev pub FilterLeavesLast : Meaning → Type 0
+FilterLeavesLast p = (own victim : CoreValues) → CoreFits p own → CoreFits p victim
+    → Holds (pair_values own victim) p.filter → victim.nr ≤ 2 → own.nr ≡ 0
+
+-- a batch goes on to the last waiting thread of its victim only where the thief has one thread at most, which is the one
+-- that it has taken. Without a batch there is no such move
+abbrev pub BatchLeavesLast : Meaning → Option BatchTree → Type 0
+BatchLeavesLast p None = Unit {0}
+BatchLeavesLast p (Some batch) = (own victim : CoreValues) (weight : ℕ) (attrs : List ℤ) → CoreFits p own
+    → CoreFits p victim → IsWeight p weight → AreIn (attribute_ranges p.thread_attrs) attrs
+    → Holds (move_values own victim weight attrs) batch.condition
+    → 1 ≤ victim.nr → victim.nr ≤ 2 → own.nr ≤ 1
+
+-- the names of the statements: what a policy owes, and what only some policies keep beside it
 pub data Statement : Type 0 where
   idle_sees_overloaded : Statement
   victim_is_overloaded : Statement
@@ -59,6 +73,8 @@ pub data Statement : Type 0 where
   further_move_narrows_gap : Statement
   no_overlap : Event → Statement
   no_gap : Event → Statement
+  filter_leaves_last : Statement
+  batch_leaves_last : Statement
 
 -- what a statement says of a policy
 abbrev pub IsMet : Meaning → Statement → Type 0
@@ -68,8 +84,10 @@ IsMet p move_narrows_gap = MoveNarrowsGap p
 IsMet p further_move_narrows_gap = FurtherMoveNarrowsGap p
 IsMet p (no_overlap e) = NoOverlap p e
 IsMet p (no_gap e) = NoGap p e
+IsMet p filter_leaves_last = FilterLeavesLast p
+IsMet p batch_leaves_last = BatchLeavesLast p p.batch
 
--- the statements of a policy, in the order in which they are reported
+-- what a policy owes, in the order in which it is reported
 unfoldable pub statements_of : Meaning → List Statement
 statements_of p =
     idle_sees_overloaded ∷ victim_is_overloaded ∷ move_narrows_gap ∷ further_move_narrows_gap
@@ -79,7 +97,7 @@ statements_of p =
     ∷ no_overlap event.Block ∷ no_gap event.Block
     ∷ []
 
--- the policy meets each of its statements
+-- the policy meets each statement that it owes
 abbrev pub MeetsObligations : Meaning → Type 0
 MeetsObligations p = All (IsMet p) (statements_of p)
 

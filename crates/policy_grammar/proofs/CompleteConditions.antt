@@ -92,6 +92,10 @@ pub record NoOr (ts : List Lexeme) (at : ℕ) : Type 0 where
 pub no_operator-by : (ts : List Lexeme) (at k : ℕ) → kind_at ts at ≡ k → (k == code terminal.Star) ≡ false → (k == code terminal.Plus) ≡ false → (k == code terminal.Minus) ≡ false → NoOperator ts at
 no_operator-by ts at k e star plus minus = record { star = rw e star; plus = rw e plus; minus = rw e minus }
 
+pub no_or-by : (ts : List Lexeme) (at k : ℕ) → kind_at ts at ≡ k → (k == code terminal.Star) ≡ false → (k == code terminal.Plus) ≡ false → (k == code terminal.Minus) ≡ false → (k == code terminal.And) ≡ false → (k == code terminal.Or) ≡ false → NoOr ts at
+no_or-by ts at k e star plus minus and or =
+    record { before = record { operator = no_operator-by ts at k e star plus minus; and = rw e and }; or = rw e or }
+
 and-stops : {ts : List Lexeme} {at : ℕ} → kind_at ts at ≡ code And → NoOperator ts at
 and-stops k = no_operator-by _ _ (code terminal.And) k refl refl refl
 

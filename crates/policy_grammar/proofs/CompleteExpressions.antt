@@ -1,4 +1,4 @@
--- What the grammar has is read, up to the first limit that its tree passes: expressions and orders.
+-- What the grammar has is read, up to the first limit that its tree passes: expressions.
 use Rattle.std.proofs.Common.{◌≡◌, ◌<◌, ℕ, suc, ◌+◌, ◌==◌, List, ◌∷◌, refl, sym, ap, arith, lit<, Bool, true, false, None, ◌∙◌}
 use Rattle.policy_syntax.specs.declared.syntax.IntSyntax.{IntSyntax}
 use Rattle.policy_syntax.specs.declared.syntax.RangeSyntax.{RangeSyntax}
@@ -10,19 +10,17 @@ use Rattle.policy_syntax.specs.declared.syntax.TimesSyntax.{TimesSyntax}
 use Rattle.policy_syntax.specs.declared.syntax.TermSyntax.{TermSyntax}
 use Rattle.policy_syntax.specs.declared.syntax.AddedSyntax.{AddedSyntax}
 use Rattle.policy_syntax.specs.declared.syntax.ExprSyntax.{ExprSyntax}
-use Rattle.policy_syntax.specs.declared.syntax.KeySyntax.{KeySyntax}
-use Rattle.policy_syntax.specs.declared.syntax.OrderSyntax.{OrderSyntax}
 use Rattle.policy_grammar.specs.declared.terminal.Lexeme.{Lexeme}
-use Rattle.policy_grammar.specs.declared.terminal.Terminal.TheVariants.{Star, Plus, Minus, Comma, Number, Range}
+use Rattle.policy_grammar.specs.declared.terminal.Terminal.TheVariants.{Star, Plus, Minus, Number, Range}
 use Rattle.policy_grammar.specs.declared.terminal.Terminal.{Terminal}
 use Rattle.policy_grammar.specs.declared.terminal.Terminal.TheVariants as terminal_is
 use Rattle.std.proofs.lemmas.Bool.Decides.{nat_tests}
-use Rattle.policy_grammar.specs.Words.{key_word, sign_word, owner_word}
+use Rattle.policy_grammar.specs.Words.{sign_word, owner_word}
 use Rattle.policy_grammar.specs.declared.limits.Limits.{Limits}
 use Rattle.policy_grammar.specs.Terminals.{code, kind_at, is_word}
-use Rattle.policy_grammar.specs.Expressions.{IsInt, int_plain, int_signed, IsRange, range_of, IsOperand, operand_number, operand_reference, IsFactor, factor_plain, factor_signed, IsTimes, times_none, times_more, IsTerm, term_of, IsAdded, added_none, added_more, IsExpr, expr_of, IsKey, key_of, IsKeys, keys_none, keys_more, IsOrder, order_first, order_keys}
-use Rattle.policy_grammar.specs.Breaks.{deep, many, first_of, breaks_signs, breaks_factor, after_times, breaks_times, after_term, breaks_term, after_added, breaks_added, after_expr, breaks_expr, breaks_keys, breaks_order}
-use Rattle.policy_grammar.specs.Machine.{Symbol, the, int, order, key, keys, operand, dot, word, operators, go}
+use Rattle.policy_grammar.specs.Expressions.{IsInt, int_plain, int_signed, IsRange, range_of, IsOperand, operand_number, operand_reference, IsFactor, factor_plain, factor_signed, IsTimes, times_none, times_more, IsTerm, term_of, IsAdded, added_none, added_more, IsExpr, expr_of}
+use Rattle.policy_grammar.specs.Breaks.{deep, many, first_of, breaks_signs, breaks_factor, after_times, breaks_times, after_term, breaks_term, after_added, breaks_added, after_expr, breaks_expr}
+use Rattle.policy_grammar.specs.Machine.{Symbol, the, int, operand, dot, word, operators, go}
 use Rattle.policy_grammar.proofs.Steps.{judged, judged-first, go-move, go-same}
 
 -- no operator stands there
@@ -161,52 +159,3 @@ module _ (limits : Limits) (text : List ℕ) (ts : List Lexeme) where
       go limits ts at count (operand base base 0 ∷ below) ≡ judged (breaks_expr limits base e) (go limits ts to count below)
   expr_read {to = to} {e = e} d n count base below =
       expr_part d count base below ∙ ap (judged (breaks_expr limits base e)) (operators-end to count base (after_expr e) below n)
-
-  key-starts : (at before : ℕ) (below : List Symbol) (greatest : Bool) → kind_at ts at ≡ key_word greatest →
-      go limits ts at 0 (key before ∷ below)
-      ≡ judged (many limits.keys at before) (go limits ts (at + 1) 0 (operand 0 0 0 ∷ keys (before + 1) ∷ below))
-  key-starts at before below true k = go-move limits ts at (code terminal_is.Max) 0 0 (key before ∷ below) _ (many limits.keys at before) k (lit< tt) refl
-  key-starts at before below false k = go-move limits ts at (code terminal_is.Min) 0 0 (key before ∷ below) _ (many limits.keys at before) k (lit< tt) refl
-
-  pub key_read : {at to : ℕ} {k : KeySyntax} → IsKey text ts at k to → NoOperator ts to → (before : ℕ) (below : List Symbol) →
-      go limits ts at 0 (key before ∷ below)
-      ≡ judged (many limits.keys k.at before) (judged (breaks_expr limits 0 k.value) (go limits ts to 0 (keys (before + 1) ∷ below)))
-  key_read {at = at} (key_of greatest {v = v} k d) n before below =
-      key-starts at before below greatest k
-      ∙ ap (judged (many limits.keys at before)) (expr_read d n 0 0 (keys (before + 1) ∷ below))
-
-  keys-stop : {at to : ℕ} {ks : List KeySyntax} → IsKeys text ts at ks to → NoOperator ts to → NoOperator ts at
-  keys-stop keys_none n = n
-  keys-stop (keys_more k d more) n = record { star = rw k refl; plus = rw k refl; minus = rw k refl }
-
-  pub keys_read : {at to : ℕ} {ks : List KeySyntax} → IsKeys text ts at ks to → NoOperator ts to → (kind_at ts to == code Comma) ≡ false →
-      (before : ℕ) (below : List Symbol) →
-      go limits ts at 0 (keys before ∷ below) ≡ judged (breaks_keys limits before ks) (go limits ts to 0 below)
-  keys_read {at = at} keys_none n c before below = go-same limits ts at 0 0 (keys before ∷ below) below refl (rw c refl)
-  keys_read {at = at} (keys_more {k = k} {rest = rest} e d more) n c before below =
-      go-move limits ts at (code terminal_is.Comma) 0 0 (keys before ∷ below) (key before ∷ below) None e (lit< tt) refl
-      ∙ key_read d (keys-stop more n) before below
-      ∙ ap (judged (many limits.keys k.at before))
-      (ap (judged (breaks_expr limits 0 k.value)) (keys_read more n c (before + 1) below)
-      ∙ sym (judged-first (breaks_expr limits 0 k.value) _ _))
-      ∙ sym (judged-first (many limits.keys k.at before) _ _)
-
-  order-key : (at : ℕ) (below : List Symbol) (greatest : Bool) → kind_at ts at ≡ key_word greatest →
-      go limits ts at 0 (order ∷ below) ≡ go limits ts at 0 (key 0 ∷ below)
-  order-key at below true k = go-same limits ts at 0 0 (order ∷ below) (key 0 ∷ below) refl (rw k refl)
-  order-key at below false k = go-same limits ts at 0 0 (order ∷ below) (key 0 ∷ below) refl (rw k refl)
-
-  key-begins : {at to : ℕ} {k : KeySyntax} → IsKey text ts at k to → (below : List Symbol) →
-      go limits ts at 0 (order ∷ below) ≡ go limits ts at 0 (key 0 ∷ below)
-  key-begins {at = at} (key_of greatest k d) below = order-key at below greatest k
-
-  pub order_read : {at to : ℕ} {o : OrderSyntax} → IsOrder text ts at o to → NoOperator ts to → (kind_at ts to == code Comma) ≡ false →
-      (below : List Symbol) → go limits ts at 0 (order ∷ below) ≡ judged (breaks_order limits o) (go limits ts to 0 below)
-  order_read {at = at} (order_first k) n c below = go-move limits ts at (code terminal_is.First) 0 0 (order ∷ below) below None k (lit< tt) refl
-  order_read {at = at} (order_keys {k = k} d more) n c below =
-      key-begins d below
-      ∙ key_read d (keys-stop more n) 0 below
-      ∙ ap (judged (many limits.keys k.at 0))
-      (ap (judged (breaks_expr limits 0 k.value)) (keys_read more n c 1 below)
-      ∙ sym (judged-first (breaks_expr limits 0 k.value) _ _))
-      ∙ sym (judged-first (many limits.keys k.at 0) _ _)

@@ -9,22 +9,22 @@ use Rattle.policy_tree.specs.declared.typed.Put.TheVariants as put_is
 use Rattle.policy_syntax.specs.declared.syntax.LoadSyntax.{LoadSyntax}
 use Rattle.policy_syntax.specs.declared.syntax.AttrSyntax.{AttrSyntax}
 use Rattle.policy_syntax.specs.declared.syntax.PlaceSyntax.{PlaceSyntax}
-use Rattle.policy_syntax.specs.declared.syntax.ElectSyntax.{ElectSyntax}
 use Rattle.policy_syntax.specs.declared.syntax.SetSyntax.{SetSyntax}
-use Rattle.policy_syntax.specs.SyntaxTrees.{CaseSyntaxTree, HandlerSyntaxTree, SyntaxTree}
+use Rattle.policy_syntax.specs.SyntaxTrees.{ElectSyntaxTree, BatchSyntaxTree, CaseSyntaxTree, HandlerSyntaxTree, SyntaxTree}
 use Rattle.policy_grammar.specs.declared.terminal.Lexeme.{Lexeme}
-use Rattle.policy_grammar.specs.declared.terminal.Terminal.TheVariants.{Policy, Load, In, Start, Choose, Steal, When, Filter, Name, Dot, Comma, Colon, Begin, Finish, Gets, Range}
+use Rattle.policy_grammar.specs.declared.terminal.Terminal.TheVariants.{Policy, Load, In, Start, Choose, Steal, When, Filter, Limit, Name, Number, Dot, Comma, Colon, Begin, Finish, Gets, Range}
 use Rattle.policy_grammar.specs.declared.terminal.Terminal.TheVariants as terminal
 use Rattle.policy_grammar.specs.declared.limits.Limits.{Limits}
 use Rattle.policy_grammar.specs.declared.fault.ParseFault.{ParseFault}
 use Rattle.policy_grammar.specs.Terminals.{code, kind_at, is_word}
 use Rattle.policy_grammar.specs.Words.{attr_word, event_word, put_word}
-use Rattle.policy_grammar.specs.Policies.{IsLoad, load_count, load_weight, IsAttr, attr_of, IsAttrs, attrs_none, attrs_more, IsPlace, place_none, place_here, place_least, IsElect, elect_none, elect_some, IsSets, sets_none, sets_more, IsCase, case_of, IsCases, cases_none, cases_more, IsHandler, handler_of, IsHandlers, handlers_none, handlers_more, IsPolicy, policy_of}
-use Rattle.policy_grammar.specs.Breaks.{many, first_of, breaks_expr, breaks_condition, breaks_sets, breaks_cases, breaks_handlers, of_cores_more, of_threads_more, of_kind, breaks_attrs, breaks_place, breaks_elect, breaks_policy, comparisons}
-use Rattle.policy_grammar.specs.Machine.{Symbol, the, load_rule, int, attrs, place, place_rule, elect, handlers, event, case, cases, actions, field, order, condition, operand, go, start}
+use Rattle.policy_grammar.specs.Policies.{IsLoad, load_count, load_weight, IsAttr, attr_of, IsAttrs, attrs_none, attrs_more, IsPlace, place_none, place_here, place_least, IsElect, elect_none, elect_some, IsBatch, batch_none, batch_some, IsSets, sets_none, sets_more, IsCase, case_of, IsCases, cases_none, cases_more, IsHandler, handler_of, IsHandlers, handlers_none, handlers_more, IsPolicy, policy_of}
+use Rattle.policy_grammar.specs.Breaks.{many, first_of, breaks_expr, breaks_condition, breaks_sets, breaks_cases, breaks_handlers, of_cores_more, of_threads_more, of_kind, breaks_attrs, breaks_place, breaks_elect, breaks_batch, breaks_policy, comparisons}
+use Rattle.policy_grammar.specs.Machine.{Symbol, the, load_rule, int, attrs, place, place_rule, elect, handlers, event, case, cases, actions, field, order, batch, condition, operand, go, start}
 use Rattle.policy_grammar.proofs.Steps.{judged, judged-first, go-move, go-same, is-zero}
-use Rattle.policy_grammar.proofs.CompleteExpressions.{NoOperator, the-read, int_read, range_read, expr_read, order_read, go-at}
-use Rattle.policy_grammar.proofs.CompleteConditions.{NoOr, no_operator-by, whole_read}
+use Rattle.policy_grammar.proofs.CompleteExpressions.{NoOperator, the-read, int_read, range_read, expr_read, go-at}
+use Rattle.policy_grammar.proofs.CompleteConditions.{no_operator-by, no_or-by, whole_read}
+use Rattle.policy_grammar.proofs.CompleteOrders.{NoKey, order_read}
 
 -- a part of a policy stands there, as late as the one with that word, and at the latest the filter
 pub record From (first : ℕ) (ts : List Lexeme) (at : ℕ) : Type 0 where
@@ -40,9 +40,22 @@ from-no_operator {ts = ts} {at = at} f =
       minus = ne_eqb (kind_at ts at) (code terminal.Minus) (λ e. omega (arith, e, most));
     }
 
-pub from-no_comma : {first : ℕ} {ts : List Lexeme} {at : ℕ} → From first ts at → (kind_at ts at == code Comma) ≡ false
-from-no_comma {ts = ts} {at = at} f =
-    let most = f.most in ne_eqb (kind_at ts at) (code terminal.Comma) (λ e. omega (arith, e, most))
+pub from-no_key : {first : ℕ} {ts : List Lexeme} {at : ℕ} → From first ts at → NoKey ts at
+from-no_key {ts = ts} {at = at} f =
+    let most = f.most in
+    record {
+      or = record {
+        before = record { operator = from-no_operator f; and = ne_eqb (kind_at ts at) (code terminal.And) (λ e. omega (arith, e, most)) };
+        or = ne_eqb (kind_at ts at) (code terminal.Or) (λ e. omega (arith, e, most));
+      };
+      comma = ne_eqb (kind_at ts at) (code terminal.Comma) (λ e. omega (arith, e, most));
+    }
+
+-- an order ends before a token of that kind
+pub no_key-by : (ts : List Lexeme) (at k : ℕ) → kind_at ts at ≡ k → (k == code terminal.Star) ≡ false → (k == code terminal.Plus) ≡ false →
+    (k == code terminal.Minus) ≡ false → (k == code terminal.And) ≡ false → (k == code terminal.Or) ≡ false →
+    (k == code terminal.Comma) ≡ false → NoKey ts at
+no_key-by ts at k e star plus minus and or comma = record { or = no_or-by ts at k e star plus minus and or; comma = rw e comma }
 
 pub from-past : {first : ℕ} {ts : List Lexeme} {at : ℕ} (k : ℕ) → k < first → From first ts at → (kind_at ts at == k) ≡ false
 from-past {ts = ts} {at = at} k less f = let least = f.least in ne_eqb (kind_at ts at) k (λ e. omega (arith, e, least, less))
@@ -60,7 +73,7 @@ handlers-from handlers_none k = from-at (code terminal.On) (code terminal.Filter
 handlers-from (handlers_more (handler_of e k1 k2 k3 c cs k4) more) k =
     from-at (code terminal.On) (code terminal.On) k1 (omega arith) (omega arith)
 
-pub elect-from : {text : List ℕ} {ts : List Lexeme} {at to : ℕ} {e : Option ElectSyntax} → IsElect text ts at e to → From (code terminal.On) ts to → From (code terminal.Elect) ts at
+pub elect-from : {text : List ℕ} {ts : List Lexeme} {at to : ℕ} {e : Option ElectSyntaxTree} → IsElect text ts at e to → From (code terminal.On) ts to → From (code terminal.Elect) ts at
 elect-from elect_none f = from-less (omega arith) f
 elect-from (elect_some k d) f = from-at (code terminal.Elect) (code terminal.Elect) k (omega arith) (omega arith)
 
@@ -72,10 +85,6 @@ place-from (place_least k h d) f = from-at (code terminal.Place) (code terminal.
 pub kind-end : (ts : List Lexeme) → kind_at ts (length ts) ≡ 0
 kind-end [] = refl
 kind-end (t ∷ ts) = kind-end ts
-
-pub no_or-by : (ts : List Lexeme) (at k : ℕ) → kind_at ts at ≡ k → (k == code terminal.Star) ≡ false → (k == code terminal.Plus) ≡ false → (k == code terminal.Minus) ≡ false → (k == code terminal.And) ≡ false → (k == code terminal.Or) ≡ false → NoOr ts at
-no_or-by ts at k e star plus minus and or =
-    record { before = record { operator = no_operator-by ts at k e star plus minus; and = rw e and }; or = rw e or }
 
 judged-none : (o : Option ParseFault) → judged o None ≡ o
 judged-none None = refl
@@ -143,12 +152,12 @@ module _ (limits : Limits) (text : List ℕ) (ts : List Lexeme) where
       ∙ next (at + 1) 0 _ (at + 2) (omega arith)
       ∙ expr_read limits text ts d (from-no_operator f) 0 0 below
 
-  pub elect_read : {at to : ℕ} {e : Option ElectSyntax} → IsElect text ts at e to → From (code terminal.On) ts to → (below : List Symbol) →
+  pub elect_read : {at to : ℕ} {e : Option ElectSyntaxTree} → IsElect text ts at e to → From (code terminal.On) ts to → (below : List Symbol) →
       go limits ts at 0 (elect ∷ below) ≡ judged (breaks_elect limits e) (go limits ts to 0 below)
   elect_read {at = at} elect_none f below = go-same limits ts at 0 0 (elect ∷ below) below refl (rw (from-past (code terminal.Elect) (omega arith) f) refl)
   elect_read {at = at} (elect_some k d) f below =
       go-move limits ts at (code terminal.Elect) 0 0 (elect ∷ below) (order ∷ below) None k (lit< tt) refl
-      ∙ order_read limits text ts d (from-no_operator f) (from-no_comma f) below
+      ∙ order_read limits text ts d (from-no_key f) below
 
   put-read : (at before : ℕ) (below : List Symbol) (p : Put) → kind_at ts at ≡ put_word p →
       go limits ts at 0 (actions before ∷ below) ≡ go limits ts (at + 1) 0 below
@@ -261,6 +270,22 @@ module _ (limits : Limits) (text : List ℕ) (ts : List Lexeme) where
       ∙ ap (judged (breaks_cases limits 0 h.cases)) (handlers_read more k below)
       ∙ sym (judged-first (breaks_cases limits 0 h.cases) _ _)
 
+pub batch-no_key : {text : List ℕ} {ts : List Lexeme} {at to : ℕ} {b : Option BatchSyntaxTree} → IsBatch text ts at b to → kind_at ts to ≡ 0 → NoKey ts at
+batch-no_key {ts = ts} {at = at} batch_none k = no_key-by ts at 0 k refl refl refl refl refl refl
+batch-no_key {ts = ts} {at = at} (batch_some w d l n) k = no_key-by ts at (code terminal.While) w refl refl refl refl refl refl
+
+module _ (limits : Limits) (text : List ℕ) (ts : List Lexeme) where
+  pub batch_read : {at to : ℕ} {b : Option BatchSyntaxTree} → IsBatch text ts at b to → kind_at ts to ≡ 0 → (below : List Symbol) →
+      go limits ts at 0 (batch ∷ below) ≡ judged (breaks_batch limits b) (go limits ts to 0 below)
+  batch_read {at = at} batch_none k below = go-same limits ts at 0 0 (batch ∷ below) below refl (rw k refl)
+  batch_read {at = at} (batch_some {mid = mid} {condition = c} w d l n) k below =
+      go-move limits ts at (code terminal.While) 0 0 (batch ∷ below) (condition ∷ the Limit ∷ the Number ∷ below) None w (lit< tt) refl
+      ∙ whole_read limits text ts d (no_or-by ts mid (code terminal.Limit) l refl refl refl refl refl) (the Limit ∷ the Number ∷ below)
+      ∙ ap (judged (breaks_condition limits 0 0 c))
+      (the-read limits text ts mid (comparisons c) (the Number ∷ below) Limit l (lit< tt) refl
+      ∙ the-read limits text ts (mid + 1) 0 below Number n (lit< tt) refl
+      ∙ go-at limits text ts 0 below (let e : mid + 1 + 1 ≡ mid + 2 = omega arith in e))
+
 judged-is : (o : Option ParseFault) {r x : Option ParseFault} → r ≡ x → judged o r ≡ first_of o x
 judged-is None e = e
 judged-is (Some f) e = refl
@@ -271,7 +296,7 @@ pub policy_read : (limits : Limits) (text : List ℕ) (ts : List Lexeme) {s : Sy
 policy_read limits text ts
     (policy_of {at_attrs = at_attrs} {at_place = at_place} {at_elect = at_elect} {at_handlers = at_handlers} {at_filter = at_filter}
     {at_choose = at_choose} {at_steal = at_steal} {filter = filter}
-    k0 k1 dl da dp de dh kf df kc dc ks ds) =
+    k0 k1 dl da dp de dh kf df kc dc ks ds db) =
     let fh = handlers-from dh kf in
     let fe = elect-from de fh in
     let fp = place-from dp fe in
@@ -286,8 +311,9 @@ policy_read limits text ts
     ∙ judged-is _ (the-read limits text ts at_filter 0 _ Filter kf (lit< tt) refl
     ∙ whole_read limits text ts df (no_or-by ts at_choose (code terminal.Choose) kc refl refl refl refl refl) _
     ∙ judged-is _ (the-read limits text ts at_choose (comparisons filter) _ Choose kc (lit< tt) refl
-    ∙ order_read limits text ts dc (no_operator-by ts at_steal (code terminal.Steal) ks refl refl refl) (rw ks refl) _
+    ∙ order_read limits text ts dc (no_key-by ts at_steal (code terminal.Steal) ks refl refl refl refl refl refl) _
     ∙ judged-is _ (the-read limits text ts at_steal 0 _ Steal ks (lit< tt) refl
-    ∙ order_read limits text ts ds (no_operator-by ts (length ts) 0 none refl refl refl) (rw none refl) []
+    ∙ order_read limits text ts ds (batch-no_key db none) _
+    ∙ judged-is _ (batch_read limits text ts db none []
     ∙ ap (judged _) (is-zero limits ts (length ts) refl 0 [] refl)
-    ∙ judged-none _))))))
+    ∙ judged-none _)))))))

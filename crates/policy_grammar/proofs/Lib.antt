@@ -1,6 +1,7 @@
 pub mod Steps
 pub mod CompleteExpressions
 pub mod CompleteConditions
+pub mod CompleteOrders
 pub mod CompletePolicies
 pub mod Viable
 pub mod Reached
@@ -11,4 +12,5 @@ pub mod Tags
 pub mod Same
 pub mod OneExpressions
 pub mod OneConditions
+pub mod OneOrders
 pub mod OnePolicies

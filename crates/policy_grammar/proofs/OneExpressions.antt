@@ -1,4 +1,4 @@
--- The tokens from a place on have one tree at most, and it ends at one place: expressions and orders.
+-- The tokens from a place on have one tree at most, and it ends at one place: expressions.
 use Rattle.std.proofs.Common.{◌≡◌, ◌==◌, ◌+◌, ℕ, suc, List, ◌∷◌, Bool, true, false, refl, arith}
 use Rattle.policy_syntax.specs.declared.syntax.IntSyntax.{IntSyntax}
 use Rattle.policy_syntax.specs.declared.syntax.RangeSyntax.{RangeSyntax}
@@ -9,22 +9,17 @@ use Rattle.policy_syntax.specs.declared.syntax.TimesSyntax.{TimesSyntax}
 use Rattle.policy_syntax.specs.declared.syntax.TermSyntax.{TermSyntax}
 use Rattle.policy_syntax.specs.declared.syntax.AddedSyntax.{AddedSyntax}
 use Rattle.policy_syntax.specs.declared.syntax.ExprSyntax.{ExprSyntax}
-use Rattle.policy_syntax.specs.declared.syntax.KeySyntax.{KeySyntax}
-use Rattle.policy_syntax.specs.declared.syntax.OrderSyntax.{OrderSyntax}
 use Rattle.policy_grammar.specs.declared.terminal.Lexeme.{Lexeme}
 use Rattle.policy_grammar.specs.declared.terminal.Terminal.TheVariants as terminal
 use Rattle.policy_grammar.specs.Terminals.{code, kind_at, word_at}
 use Rattle.policy_grammar.specs.Words.{sign_word}
-use Rattle.policy_grammar.specs.Expressions.{IsInt, int_plain, int_signed, IsRange, range_of, IsOperand, operand_number, operand_reference, IsFactor, factor_plain, factor_signed, IsTimes, times_none, times_more, IsTerm, term_of, IsAdded, added_none, added_more, IsExpr, expr_of, IsKey, key_of, IsKeys, keys_none, keys_more, IsOrder, order_first, order_keys}
+use Rattle.policy_grammar.specs.Expressions.{IsInt, int_plain, int_signed, IsRange, range_of, IsOperand, operand_number, operand_reference, IsFactor, factor_plain, factor_signed, IsTimes, times_none, times_more, IsTerm, term_of, IsAdded, added_none, added_more, IsExpr, expr_of}
 use Rattle.policy_grammar.proofs.CompleteExpressions.{NoOperator}
-use Rattle.policy_grammar.proofs.Same.{Same, same, same-ap, and-then, is-not, key-same, sign-same, owner-same, owner-small}
+use Rattle.policy_grammar.proofs.Same.{Same, same, same-ap, and-then, is-not, sign-same, owner-same, owner-small}
 
 -- `*` doesn't stand there
 abbrev pub NoStar : List Lexeme → ℕ → Type 0
 NoStar ts at = (kind_at ts at == code terminal.Star) ≡ false
-
-abbrev pub NoComma : List Lexeme → ℕ → Type 0
-NoComma ts at = (kind_at ts at == code terminal.Comma) ≡ false
 
 module _ (text : List ℕ) (ts : List Lexeme) where
   pub int-one : {at to so : ℕ} {v w : IntSyntax} → IsInt ts at v to → IsInt ts at w so → Same v to w so
@@ -94,34 +89,3 @@ module _ (text : List ℕ) (ts : List Lexeme) where
   expr-one {at = at} (expr_of d more) n (expr_of e others) m =
       same-ap (λ p. record { at = at; first = p.0; rest = p.1 })
       (and-then (IsAdded text ts) (term-one d (added-no_star more n) e (added-no_star others m)) others (λ o. added-one more n o m))
-
-  key-one : {at to so : ℕ} {v w : KeySyntax} → IsKey text ts at v to → NoOperator ts to → IsKey text ts at w so → NoOperator ts so → Same v to w so
-  key-one {at = at} (key_of a k d) n (key_of b l e) m =
-      same-ap (λ p. record { at = at; greatest = p.0; value = p.1 })
-      (and-then (λ i. IsExpr text ts (i + 1)) (key-same at a b k l) e (λ o. expr-one d n o m))
-
-  keys-over : {at to : ℕ} {v : List KeySyntax} → IsKeys text ts at v to → NoOperator ts to → NoOperator ts at
-  keys-over keys_none n = n
-  keys-over (keys_more k d more) n = record { star = rw k refl; plus = rw k refl; minus = rw k refl }
-
-  keys-one : {at to so : ℕ} {v w : List KeySyntax} → IsKeys text ts at v to → NoOperator ts to → NoComma ts to →
-      IsKeys text ts at w so → NoOperator ts so → NoComma ts so → Same v to w so
-  keys-one keys_none n c keys_none m c' = same
-  keys-one keys_none n c (keys_more l e more) m c' = absurd (is-not _ (code terminal.Comma) c l)
-  keys-one (keys_more k d more) n c keys_none m c' = absurd (is-not _ (code terminal.Comma) c' k)
-  keys-one {at = at} (keys_more k d more) n c (keys_more l e others) m c' =
-      same-ap (λ p. p.0 ∷ p.1)
-      (and-then (IsKeys text ts) (key-one d (keys-over more n) e (keys-over others m)) others (λ o. keys-one more n c o m c'))
-
-  key-no_first : {at to : ℕ} {k : KeySyntax} → IsKey text ts at k to → kind_at ts at ≡ code terminal.First → ⊥
-  key-no_first (key_of true k d) l = omega (arith, k, l)
-  key-no_first (key_of false k d) l = omega (arith, k, l)
-
-  pub order-one : {at to so : ℕ} {v w : OrderSyntax} → IsOrder text ts at v to → NoOperator ts to → NoComma ts to →
-      IsOrder text ts at w so → NoOperator ts so → NoComma ts so → Same v to w so
-  order-one (order_first k) n c (order_first l) m c' = same
-  order-one (order_first k) n c (order_keys e more) m c' = absurd (key-no_first e k)
-  order-one (order_keys d more) n c (order_first l) m c' = absurd (key-no_first d l)
-  order-one {at = at} (order_keys d more) n c (order_keys e others) m c' =
-      same-ap (λ p. record { at = at; keys = p.0 ∷ p.1 })
-      (and-then (IsKeys text ts) (key-one d (keys-over more n) e (keys-over others m)) others (λ o. keys-one more n c o m c'))

@@ -1,5 +1,5 @@
 -- The tokens have one tree at most: policies.
-use Rattle.std.proofs.Common.{◌≡◌, ◌==◌, ◌+◌, ℕ, List, ◌∷◌, length, true, false, Option, Some, refl, arith}
+use Rattle.std.proofs.Common.{◌≡◌, ◌==◌, ◌+◌, ℕ, List, ◌∷◌, true, false, Option, Some, refl, arith}
 use Rattle.std.proofs.lemmas.Bool.{ne_eqb}
 use Rattle.policy_tree.specs.declared.typed.Put.{Put}
 use Rattle.policy_syntax.specs.declared.syntax.LoadSyntax.{LoadSyntax}
@@ -7,20 +7,21 @@ use Rattle.policy_syntax.specs.declared.syntax.LoadSyntax.TheVariants as load
 use Rattle.policy_syntax.specs.declared.syntax.AttrSyntax.{AttrSyntax}
 use Rattle.policy_syntax.specs.declared.syntax.PlaceSyntax.{PlaceSyntax}
 use Rattle.policy_syntax.specs.declared.syntax.PlaceSyntax.TheVariants as place
-use Rattle.policy_syntax.specs.declared.syntax.ElectSyntax.{ElectSyntax}
 use Rattle.policy_syntax.specs.declared.syntax.SetSyntax.{SetSyntax}
-use Rattle.policy_syntax.specs.SyntaxTrees.{CaseSyntaxTree, HandlerSyntaxTree, SyntaxTree}
+use Rattle.policy_syntax.specs.SyntaxTrees.{ConditionTree, ElectSyntaxTree, BatchSyntaxTree, CaseSyntaxTree, HandlerSyntaxTree, SyntaxTree}
 use Rattle.policy_grammar.specs.declared.terminal.Lexeme.{Lexeme}
 use Rattle.policy_grammar.specs.declared.terminal.Terminal.TheVariants as terminal
-use Rattle.policy_grammar.specs.Terminals.{code, kind_at, word_at}
+use Rattle.policy_grammar.specs.Terminals.{code, kind_at, value_at, word_at}
 use Rattle.policy_grammar.specs.Words.{put_word}
-use Rattle.policy_grammar.specs.Expressions.{IsInt, IsRange, IsOrder}
+use Rattle.policy_grammar.specs.Expressions.{IsInt, IsRange}
 use Rattle.policy_grammar.specs.Conditions.{IsCondition}
-use Rattle.policy_grammar.specs.Policies.{IsLoad, load_count, load_weight, IsAttr, attr_of, IsAttrs, attrs_none, attrs_more, IsPlace, place_none, place_here, place_least, IsElect, elect_none, elect_some, IsSets, sets_none, sets_more, IsCase, case_of, IsCases, cases_none, cases_more, IsHandler, handler_of, IsHandlers, handlers_none, handlers_more, IsPolicy, policy_of}
-use Rattle.policy_grammar.proofs.CompleteConditions.{no_operator-by}
-use Rattle.policy_grammar.proofs.CompletePolicies.{From, from-no_operator, from-no_comma, from-past, handlers-from, elect-from, place-from, kind-end, no_or-by}
-use Rattle.policy_grammar.proofs.OneExpressions.{int-one, range-one, expr-one, order-one}
+use Rattle.policy_grammar.specs.Orders.{IsOrder}
+use Rattle.policy_grammar.specs.Policies.{IsLoad, load_count, load_weight, IsAttr, attr_of, IsAttrs, attrs_none, attrs_more, IsPlace, place_none, place_here, place_least, IsElect, elect_none, elect_some, IsBatch, batch_none, batch_some, IsSets, sets_none, sets_more, IsCase, case_of, IsCases, cases_none, cases_more, IsHandler, handler_of, IsHandlers, handlers_none, handlers_more, IsPolicy, policy_of}
+use Rattle.policy_grammar.proofs.CompleteConditions.{no_operator-by, no_or-by}
+use Rattle.policy_grammar.proofs.CompletePolicies.{From, from-no_operator, from-no_key, from-past, handlers-from, elect-from, place-from, kind-end, no_key-by, batch-no_key}
+use Rattle.policy_grammar.proofs.OneExpressions.{int-one, range-one, expr-one}
 use Rattle.policy_grammar.proofs.OneConditions.{condition-one}
+use Rattle.policy_grammar.proofs.OneOrders.{order-one}
 use Rattle.policy_grammar.proofs.Same.{Same, same, same-is, same-ap, same-place, and-then, is-not, attr-same, event-same, put-same, put-no_task}
 
 -- two parts and the token behind each
@@ -70,7 +71,7 @@ module _ (text : List ℕ) (ts : List Lexeme) where
   place-one {at = at} (place_least k h d) f (place_least l i e) g =
       same-ap (λ v. Some (place.Least at v)) (expr-one text ts d (from-no_operator f) e (from-no_operator g))
 
-  elect-one : {at to so : ℕ} {v w : Option ElectSyntax} → IsElect text ts at v to → From (code terminal.On) ts to → IsElect text ts at w so → From (code terminal.On) ts so → Same v to w so
+  elect-one : {at to so : ℕ} {v w : Option ElectSyntaxTree} → IsElect text ts at v to → From (code terminal.On) ts to → IsElect text ts at w so → From (code terminal.On) ts so → Same v to w so
   elect-one elect_none f elect_none g = same
   elect-one elect_none f (elect_some l e) g =
       absurd (is-not _ (code terminal.Elect) (from-past (code terminal.Elect) (omega arith) f) l)
@@ -78,7 +79,7 @@ module _ (text : List ℕ) (ts : List Lexeme) where
       absurd (is-not _ (code terminal.Elect) (from-past (code terminal.Elect) (omega arith) g) k)
   elect-one {at = at} (elect_some k d) f (elect_some l e) g =
       same-ap (λ order. Some (record { at = at; order = order }))
-      (order-one text ts d (from-no_operator f) (from-no_comma f) e (from-no_operator g) (from-no_comma g))
+      (order-one text ts d (from-no_key f) e (from-no_key g))
 
   sets-one : {at to so : ℕ} {v w : List SetSyntax} → IsSets text ts at v to →
       (kind_at ts to == code terminal.Task) ≡ false →
@@ -140,10 +141,28 @@ module _ (text : List ℕ) (ts : List Lexeme) where
   handlers-one (handlers_more d rest) n (handlers_more e others) m =
       same-ap (λ p. p.0 ∷ p.1) (and-then (IsHandlers text ts) (handler-one d e) others (λ o. handlers-one rest n o m))
 
+  -- `while` stands where a batch begins, and no token behind the last
+  batch-none : (at : ℕ) → kind_at ts at ≡ 0 → kind_at ts at ≡ code terminal.While → ⊥
+  batch-none at n w = omega (arith, n, w)
+
+  batch-both : {at to so : ℕ} {v w : ConditionTree} → Same v to w so →
+      Same {X = Option BatchSyntaxTree} (Some (record { at = at; condition = v; limit_at = to + 1; limit = value_at ts (to + 1) })) (to + 2)
+      (Some (record { at = at; condition = w; limit_at = so + 1; limit = value_at ts (so + 1) })) (so + 2)
+  batch-both same = same
+
+  batch-one : {at to so : ℕ} {v w : Option BatchSyntaxTree} → IsBatch text ts at v to → kind_at ts to ≡ 0 → IsBatch text ts at w so → kind_at ts so ≡ 0 → Same v to w so
+  batch-one batch_none n batch_none m = same
+  batch-one batch_none n (batch_some w d l k) m = absurd (batch-none _ n w)
+  batch-one (batch_some w d l k) n batch_none m = absurd (batch-none _ m w)
+  batch-one (batch_some {mid = mid} w d l k) n (batch_some {mid = there} w' e l' k') m =
+      batch-both
+      (condition-one text ts d (no_or-by ts mid (code terminal.Limit) l refl refl refl refl refl) e
+      (no_or-by ts there (code terminal.Limit) l' refl refl refl refl refl))
+
   pub policy-one : {s t : SyntaxTree} → IsPolicy text ts s → IsPolicy text ts t → s ≡ t
   policy-one
-      (policy_of {at_filter = at_filter} {at_choose = at_choose} {at_steal = at_steal} k0 k1 dl da dp de dh kf df kc dc ks ds)
-      (policy_of {at_filter = bt_filter} {at_choose = bt_choose} {at_steal = bt_steal} l0 l1 el ea ep ee eh lf ef lc ec ls es) =
+      (policy_of {at_filter = at_filter} {at_choose = at_choose} {at_steal = at_steal} k0 k1 dl da dp de dh kf df kc dc ks ds db)
+      (policy_of {at_filter = bt_filter} {at_choose = bt_choose} {at_steal = bt_steal} l0 l1 el ea ep ee eh lf ef lc ec ls es eb) =
       let fh = handlers-from dh kf in
       let gh = handlers-from eh lf in
       let fe = elect-from de fh in
@@ -158,20 +177,21 @@ module _ (text : List ℕ) (ts : List Lexeme) where
       let filtered = same-place (and-then (λ i. IsCondition text ts (i + 1)) handled ef
       (λ o. condition-one text ts df (no_or-by ts at_choose (code terminal.Choose) kc refl refl refl refl refl) o (no_or-by ts bt_choose (code terminal.Choose) lc refl refl refl refl refl))) in
       let chosen = same-place (and-then (λ i. IsOrder text ts (i + 1)) filtered ec
-      (λ o. order-one text ts dc (no_operator-by ts at_steal (code terminal.Steal) ks refl refl refl) (rw ks refl) o (no_operator-by ts bt_steal (code terminal.Steal) ls refl refl refl) (rw ls refl))) in
-      let end = no_operator-by ts (length ts) 0 none refl refl refl in
-      let stolen = and-then (λ i. IsOrder text ts (i + 1)) chosen es (λ o. order-one text ts ds end (rw none refl) o end (rw none refl)) in
+      (λ o. order-one text ts dc (no_key-by ts at_steal (code terminal.Steal) ks refl refl refl refl refl refl) o (no_key-by ts bt_steal (code terminal.Steal) ls refl refl refl refl refl refl))) in
+      let stolen = and-then (λ i. IsOrder text ts (i + 1)) chosen es (λ o. order-one text ts ds (batch-no_key db none) o (batch-no_key eb none)) in
+      let gone_on = and-then (IsBatch text ts) stolen eb (λ o. batch-one db none o none) in
       same-is (same-ap (λ t. record {
         name = word_at text ts 1;
-        load = t.0.0.0.0.0.0.0.0.0.0;
-        attrs = t.0.0.0.0.0.0.0.0.0.1;
-        place = t.0.0.0.0.0.0.0.0.1;
-        elect = t.0.0.0.0.0.0.0.1;
-        handlers = t.0.0.0.0.0.0.1;
-        filter_at = t.0.0.0.0.0.1;
-        filter = t.0.0.0.0.1;
-        choose_at = t.0.0.0.1;
-        choose = t.0.0.1;
-        steal_at = t.0.1;
-        steal = t.1;
-      }) stolen)
+        load = t.0.0.0.0.0.0.0.0.0.0.0;
+        attrs = t.0.0.0.0.0.0.0.0.0.0.1;
+        place = t.0.0.0.0.0.0.0.0.0.1;
+        elect = t.0.0.0.0.0.0.0.0.1;
+        handlers = t.0.0.0.0.0.0.0.1;
+        filter_at = t.0.0.0.0.0.0.1;
+        filter = t.0.0.0.0.0.1;
+        choose_at = t.0.0.0.0.1;
+        choose = t.0.0.0.1;
+        steal_at = t.0.0.1;
+        steal = t.0.1;
+        batch = t.1;
+      }) gone_on)

@@ -3,21 +3,19 @@ use Rattle.std.proofs.Common.{◌≡◌, ℕ, zero, suc, ◌+◌, ◌==◌, ◌|
 use Rattle.policy_syntax.specs.declared.syntax.AttrSyntax.{AttrSyntax}
 use Rattle.policy_syntax.specs.declared.syntax.PlaceSyntax.{PlaceSyntax}
 use Rattle.policy_syntax.specs.declared.syntax.PlaceSyntax.TheVariants as place_is
-use Rattle.policy_syntax.specs.declared.syntax.ElectSyntax.{ElectSyntax}
-use Rattle.policy_syntax.specs.declared.syntax.KeySyntax.{KeySyntax}
 use Rattle.policy_syntax.specs.declared.syntax.SetSyntax.{SetSyntax}
 use Rattle.policy_syntax.specs.declared.syntax.TimesSyntax.{TimesSyntax}
 use Rattle.policy_syntax.specs.declared.syntax.TermSyntax.{TermSyntax}
 use Rattle.policy_syntax.specs.declared.syntax.AddedSyntax.{AddedSyntax}
 use Rattle.policy_syntax.specs.declared.syntax.ExprSyntax.{ExprSyntax}
-use Rattle.policy_syntax.specs.SyntaxTrees.{ConditionTree, always, negated, grouped, all, any, test, ConditionTrees, no_more, more, CaseSyntaxTree, HandlerSyntaxTree, SyntaxTree}
+use Rattle.policy_syntax.specs.SyntaxTrees.{ConditionTree, always, negated, grouped, all, any, test, ConditionTrees, no_more, more, KeySyntaxTree, ranked, preferring, ElectSyntaxTree, BatchSyntaxTree, CaseSyntaxTree, HandlerSyntaxTree, SyntaxTree}
 use Rattle.policy_grammar.specs.declared.limits.Limits.{Limits}
 use Rattle.policy_grammar.specs.declared.terminal.Terminal.TheVariants as terminal_is
 use Rattle.policy_grammar.specs.Terminals.{code, is_word}
 use Rattle.policy_grammar.specs.declared.fault.ParseFault.{ParseFault}
 use Rattle.policy_grammar.specs.declared.fault.ParseFault.TheVariants.{Unexpected, Deep, Many, Memory}
-use Rattle.policy_grammar.specs.Breaks.{deep, many, first_of, breaks_signs, breaks_times, breaks_term, breaks_added, breaks_expr, comparisons, breaks_condition, breaks_parts, breaks_keys, breaks_sets, breaks_cases, breaks_handlers, of_cores_more, of_threads_more, breaks_attrs, breaks_place, breaks_elect, breaks_policy, after_term}
-use Rattle.policy_grammar.specs.Machine.{Symbol, the, load_rule, int, attrs, place, place_rule, elect, handlers, event, case, cases, actions, field, order, key, keys, condition, unit, ands, ors, close, compare, operand, dot, word, operators, State, state, Move, refuses, goes, is_compare, factor_move, unit_move, key_move, case_move, attr_move, symbol_move, moves}
+use Rattle.policy_grammar.specs.Breaks.{deep, many, first_of, breaks_signs, breaks_times, breaks_term, breaks_added, breaks_expr, comparisons, breaks_condition, breaks_parts, key_at, breaks_key, breaks_keys, breaks_sets, breaks_cases, breaks_handlers, of_cores_more, of_threads_more, breaks_attrs, breaks_place, breaks_elect, breaks_batch, breaks_policy, after_term}
+use Rattle.policy_grammar.specs.Machine.{Symbol, count_behind, the, load_rule, int, attrs, place, place_rule, elect, handlers, event, case, cases, actions, field, order, key, keys, batch, condition, unit, ands, ors, close, compare, operand, dot, word, operators, State, state, Move, refuses, goes, is_compare, factor_move, unit_move, key_move, case_move, attr_move, symbol_move, moves}
 
 -- a limit, and no other fault
 abbrev pub IsLimit : Option ParseFault → Type 0
@@ -77,9 +75,13 @@ module _ (limits : Limits) where
     limit-parts depth count no_more = tt
     limit-parts depth count (more v rest) = limit-first _ _ (limit-condition depth count v) (limit-parts depth (count + comparisons v) rest)
 
-  limit-keys : (count : ℕ) (ks : List KeySyntax) → IsLimit (breaks_keys limits count ks)
+  limit-key : (k : KeySyntaxTree) → IsLimit (breaks_key limits k)
+  limit-key (ranked at greatest v) = limit-expr 0 v
+  limit-key (preferring at v) = limit-condition 0 0 v
+
+  limit-keys : (count : ℕ) (ks : List KeySyntaxTree) → IsLimit (breaks_keys limits count ks)
   limit-keys count [] = tt
-  limit-keys count (k ∷ rest) = limit-first _ _ (limit-many limits.keys k.at count) (limit-first _ _ (limit-expr 0 k.value) (limit-keys (count + 1) rest))
+  limit-keys count (k ∷ rest) = limit-first _ _ (limit-many limits.keys (key_at k) count) (limit-first _ _ (limit-key k) (limit-keys (count + 1) rest))
 
   limit-sets : (count : ℕ) (ss : List SetSyntax) → IsLimit (breaks_sets limits count ss)
   limit-sets count [] = tt
@@ -104,15 +106,19 @@ module _ (limits : Limits) where
   limit-place (Some (place_is.Here at)) = tt
   limit-place (Some (place_is.Least at v)) = limit-expr 0 v
 
-  limit-elect : (e : Option ElectSyntax) → IsLimit (breaks_elect limits e)
+  limit-elect : (e : Option ElectSyntaxTree) → IsLimit (breaks_elect limits e)
   limit-elect None = tt
   limit-elect (Some e) = limit-keys 0 e.order.keys
+
+  limit-batch : (b : Option BatchSyntaxTree) → IsLimit (breaks_batch limits b)
+  limit-batch None = tt
+  limit-batch (Some b) = limit-condition 0 0 b.condition
 
   pub limit-policy : (s : SyntaxTree) → IsLimit (breaks_policy limits s)
   limit-policy s =
       limit-first _ _ (limit-attrs 0 0 s.attrs) (limit-first _ _ (limit-place s.place) (limit-first _ _ (limit-elect s.elect)
       (limit-first _ _ (limit-handlers s.handlers) (limit-first _ _ (limit-condition 0 0 s.filter)
-      (limit-first _ _ (limit-keys 0 s.choose.keys) (limit-keys 0 s.steal.keys))))))
+      (limit-first _ _ (limit-keys 0 s.choose.keys) (limit-first _ _ (limit-keys 0 s.steal.keys) (limit-batch s.batch)))))))
 
 -- a limit that is passed at that token
 abbrev pub IsHere : ℕ → ParseFault → Type 0
@@ -168,7 +174,7 @@ module _ (limits : Limits) where
   key-here : (before at : ℕ) (below : List Symbol) (k : ℕ) → MovesHere at (key_move limits before at below k)
   key-here before at below k =
       either-here at ((k == code terminal_is.Min) || (k == code terminal_is.Max)) _ _
-      (here-many limits.keys at before) tt
+      (here-many limits.keys at before) (either-here at (k == code terminal_is.Prefer) _ _ (here-many limits.keys at before) tt)
 
   case-here : (before at : ℕ) (below : List Symbol) (k : ℕ) (outer : Move) → MovesHere at outer → MovesHere at (case_move limits before at below k outer)
   case-here before at below k outer h =
@@ -200,6 +206,7 @@ module _ (limits : Limits) where
       either-here at (k == code terminal_is.First) _ _ tt (key-here 0 at below k)
   symbol-here count at (key before) below k outer h = key-here before at below k
   symbol-here count at (keys before) below k outer h = either-here at (k == code terminal_is.Comma) _ outer tt h
+  symbol-here count at batch below k outer h = either-here at (k == code terminal_is.While) _ outer tt h
   symbol-here count at condition below k outer h = unit-here 0 0 at (ands 0 ∷ ors 0 ∷ below) k
   symbol-here count at (unit depth) below k outer h = unit-here count depth at below k
   symbol-here count at (ands depth) below k outer h = either-here at (k == code terminal_is.And) _ outer tt h
@@ -216,4 +223,4 @@ module _ (limits : Limits) where
   -- a limit is passed at the token that is read
   pub moves-here : (count at : ℕ) (stack : List Symbol) (k : ℕ) → MovesHere at (moves limits count at stack k)
   moves-here count at [] k = tt
-  moves-here count at (s ∷ below) k = symbol-here count at s below k _ (moves-here count at below k)
+  moves-here count at (s ∷ below) k = symbol-here count at s below k _ (moves-here (count_behind s count) at below k)

@@ -13,10 +13,11 @@ use Rattle.policy_grammar.specs.declared.terminal.Terminal.TheVariants.{Load, Co
 use Rattle.policy_grammar.specs.declared.limits.Limits.{Limits}
 use Rattle.policy_grammar.specs.declared.fault.ParseFault.{ParseFault}
 use Rattle.policy_grammar.specs.Terminals.{code, kind_at}
-use Rattle.policy_grammar.specs.Expressions.{int_plain, operand_number, factor_plain, times_none, term_of, added_none, IsExpr, expr_of, key_of, keys_none, order_first}
+use Rattle.policy_grammar.specs.Expressions.{int_plain, operand_number, factor_plain, times_none, term_of, added_none, IsExpr, expr_of}
 use Rattle.policy_grammar.specs.Conditions.{unit_always, ands_none, conjunction_of, ors_none, IsCondition, condition_of}
-use Rattle.policy_grammar.specs.Policies.{IsLoad, load_count, attrs_none, IsPlace, place_none, place_here, elect_none, sets_none, case_of, cases_none, handlers_none, IsPolicy, policy_of}
-use Rattle.policy_grammar.specs.Machine.{Symbol, the, load_rule, int, attrs, place, place_rule, elect, handlers, event, case, cases, actions, field, order, key, keys, condition, unit, ands, ors, close, compare, operand, dot, word, operators, state, goes, moves, start}
+use Rattle.policy_grammar.specs.Orders.{key_ranked, keys_none, order_first}
+use Rattle.policy_grammar.specs.Policies.{IsLoad, load_count, attrs_none, IsPlace, place_none, place_here, elect_none, batch_none, sets_none, case_of, cases_none, handlers_none, IsPolicy, policy_of}
+use Rattle.policy_grammar.specs.Machine.{Symbol, the, load_rule, int, attrs, place, place_rule, elect, handlers, event, case, cases, actions, field, order, key, keys, batch, condition, unit, ands, ors, close, compare, operand, dot, word, operators, state, goes, moves, start}
 use Rattle.policy_grammar.specs.Machine.{kind_of}
 use Rattle.policy_grammar.specs.Correct.{Begins}
 use Rattle.policy_grammar.proofs.Viable.{Token, token, any_word, acts, Cases, Keys, Compared, Further, Means, Are, are_none, are_more, Pulls, pulls, reference-further}
@@ -52,6 +53,7 @@ short field = named Name ∷ []
 short order = named First ∷ []
 short (key before) = named Min ∷ named Number ∷ []
 short (keys before) = []
+short batch = []
 short condition = named Always ∷ []
 short (unit depth) = named Always ∷ []
 short (ands depth) = []
@@ -113,8 +115,9 @@ module _ (text : List ℕ) (ts : List Lexeme) where
   short-one at (key before) ws k z =
       let two : at + 1 + 1 ≡ at + 2 = omega arith in
       subst (λ n. Keys text ts at n) two
-      (record { first = _; rest = []; mid = _; is = key_of false z (number-expr (k 1)).1; are = keys_none })
+      (record { first = _; rest = []; mid = _; is = key_ranked false z (number-expr (k 1)).1; are = keys_none })
   short-one at (keys before) ws k z = let e : at ≡ at + 0 = omega arith in subst (λ n. Means text ts (keys before) at n) e ([], keys_none)
+  short-one at batch ws k z = let e : at ≡ at + 0 = omega arith in subst (λ n. Means text ts batch at n) e (None, batch_none)
   short-one at condition ws k z = always-condition z
   short-one at (unit depth) ws k z = (_, unit_always z)
   short-one at (ands depth) ws k z = let e : at ≡ at + 0 = omega arith in subst (λ n. Means text ts (ands depth) at n) e (_, ands_none)
@@ -168,8 +171,8 @@ reach-step limits text ps t count next stack to o reach e = λ ts rest last same
 pub policy-from : (text : List ℕ) (ts : List Lexeme) → Are text ts start 0 (length ts) → (s : SyntaxTree) × IsPolicy text ts s
 policy-from text ts
     (are_more m0 (token k0) (are_more m1 (token k1) (are_more m2 (token kl) (are_more m3 load (are_more m4 us (are_more m5 p (are_more m6 e (are_more m7 hs
-    (are_more m8 (token kf) (are_more m9 f (are_more m10 (token kc) (are_more m11 c (are_more m12 (token ks) (are_more m13 s are_none)))))))))))))) =
-    (_, policy_of k0 k1 (load 2 (token kl)).1 us.1 p.1 e.1 hs.1 kf f.1 kc c.1 ks s.1)
+    (are_more m8 (token kf) (are_more m9 f (are_more m10 (token kc) (are_more m11 c (are_more m12 (token ks) (are_more m13 s (are_more m14 b are_none))))))))))))))) =
+    (_, policy_of k0 k1 (load 2 (token kl)).1 us.1 p.1 e.1 hs.1 kf f.1 kc c.1 ks s.1 b.1)
 
 pub reach-begins : (text : List ℕ) (ps : List Lexeme) (stack : List Symbol) → Reach text ps stack → Begins text ps
 reach-begins text ps stack reach =

@@ -7,9 +7,10 @@ use Rattle.policy_grammar.specs.declared.fault.ParseFault.{ParseFault}
 use Rattle.policy_grammar.specs.declared.fault.ParseFault.TheVariants.{Unexpected, Deep, Many, Memory}
 use Rattle.policy_grammar.specs.Answered.{HasAnswer}
 use Rattle.policy_grammar.specs.Conditions.{ands_none, ors_none}
-use Rattle.policy_grammar.specs.Expressions.{keys_none, times_none, added_none}
-use Rattle.policy_grammar.specs.Machine.{Symbol, the, load_rule, int, attrs, place, place_rule, elect, handlers, event, case, cases, actions, field, order, key, keys, condition, unit, ands, ors, close, compare, operand, dot, word, operators, state, Move, refuses, goes, moves, all_nothing, is_nothing, kind_of, after, run, go, start}
-use Rattle.policy_grammar.specs.Policies.{IsPolicy, attrs_none, cases_none, elect_none, handlers_none, place_none}
+use Rattle.policy_grammar.specs.Expressions.{times_none, added_none}
+use Rattle.policy_grammar.specs.Machine.{Symbol, the, load_rule, int, attrs, place, place_rule, elect, handlers, event, case, cases, actions, field, order, key, keys, batch, condition, unit, ands, ors, close, compare, operand, dot, word, operators, state, Move, refuses, goes, moves, all_nothing, is_nothing, kind_of, after, run, go, start}
+use Rattle.policy_grammar.specs.Orders.{keys_none}
+use Rattle.policy_grammar.specs.Policies.{IsPolicy, attrs_none, batch_none, cases_none, elect_none, handlers_none, place_none}
 use Rattle.policy_grammar.proofs.CompletePolicies.{policy_read}
 use Rattle.policy_grammar.proofs.Exact.{Stops, at_end, refused, passed, course, fault-exact}
 use Rattle.policy_grammar.proofs.Places.{IsHere, MovesHere, moves-here}
@@ -35,6 +36,7 @@ module _ (text : List ℕ) (ts : List Lexeme) where
   nothing-one order at e = absurd (cc)
   nothing-one (key before) at e = absurd (cc)
   nothing-one (keys before) at e = ([], keys_none)
+  nothing-one batch at e = (None, batch_none)
   nothing-one condition at e = absurd (cc)
   nothing-one (unit depth) at e = absurd (cc)
   nothing-one (ands depth) at e = (_, ands_none)

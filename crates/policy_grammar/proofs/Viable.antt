@@ -14,25 +14,23 @@ use Rattle.policy_syntax.specs.declared.syntax.IntSyntax.{IntSyntax}
 use Rattle.policy_syntax.specs.declared.syntax.LoadSyntax.{LoadSyntax}
 use Rattle.policy_syntax.specs.declared.syntax.AttrSyntax.{AttrSyntax}
 use Rattle.policy_syntax.specs.declared.syntax.PlaceSyntax.{PlaceSyntax}
-use Rattle.policy_syntax.specs.declared.syntax.ElectSyntax.{ElectSyntax}
-use Rattle.policy_syntax.specs.declared.syntax.OrderSyntax.{OrderSyntax}
-use Rattle.policy_syntax.specs.declared.syntax.KeySyntax.{KeySyntax}
 use Rattle.policy_syntax.specs.declared.syntax.SetSyntax.{SetSyntax}
 use Rattle.policy_syntax.specs.declared.syntax.ExprSyntax.{ExprSyntax}
 use Rattle.policy_syntax.specs.declared.syntax.TimesSyntax.{TimesSyntax}
 use Rattle.policy_syntax.specs.declared.syntax.AddedSyntax.{AddedSyntax}
 use Rattle.policy_syntax.specs.declared.syntax.OperandSyntax.{OperandSyntax}
-use Rattle.policy_syntax.specs.SyntaxTrees.{ConditionTree, ConditionTrees, CaseSyntaxTree, HandlerSyntaxTree}
+use Rattle.policy_syntax.specs.SyntaxTrees.{ConditionTree, ConditionTrees, KeySyntaxTree, OrderSyntaxTree, ElectSyntaxTree, BatchSyntaxTree, CaseSyntaxTree, HandlerSyntaxTree}
 use Rattle.policy_grammar.specs.declared.terminal.Lexeme.{Lexeme}
-use Rattle.policy_grammar.specs.declared.terminal.Terminal.TheVariants.{Load, Count, Weight, Core, In, Start, Place, Here, Min, Max, Elect, On, Enqueue, Tick, Yield, Block, When, Queue, Keep, And, Or, Not, Itself, Victim, Task, Name, Number, Dot, Range, Comma, Colon, Open, Close, Begin, Finish, Plus, Minus, Star, Gets, Equal, Unequal, Less, AtMost, More, AtLeast}
+use Rattle.policy_grammar.specs.declared.terminal.Terminal.TheVariants.{Load, Count, Weight, Core, In, Start, Place, Here, Min, Max, Elect, On, Enqueue, Tick, Yield, Block, When, Queue, Keep, And, Or, Not, Itself, Victim, Task, While, Limit, Prefer, Name, Number, Dot, Range, Comma, Colon, Open, Close, Begin, Finish, Plus, Minus, Star, Gets, Equal, Unequal, Less, AtMost, More, AtLeast}
 use Rattle.policy_grammar.specs.declared.terminal.Terminal.TheVariants as terminal_is
 use Rattle.policy_grammar.specs.declared.limits.Limits.{Limits}
 use Rattle.policy_grammar.specs.Terminals.{code, kind_at, is_word}
 use Rattle.policy_grammar.specs.Words.{attr_word, key_word, sign_word, owner_word, event_word, put_word, compare_word}
-use Rattle.policy_grammar.specs.Expressions.{IsInt, int_plain, int_signed, range_of, IsOperand, operand_number, operand_reference, factor_plain, factor_signed, IsTimes, times_none, times_more, term_of, IsAdded, added_none, added_more, IsExpr, expr_of, IsKey, key_of, IsKeys, keys_none, keys_more, IsOrder, order_first, order_keys}
+use Rattle.policy_grammar.specs.Expressions.{IsInt, int_plain, int_signed, range_of, IsOperand, operand_number, operand_reference, factor_plain, factor_signed, IsTimes, times_none, times_more, term_of, IsAdded, added_none, added_more, IsExpr, expr_of}
 use Rattle.policy_grammar.specs.Conditions.{IsUnit, unit_always, unit_not, unit_group, unit_test, IsAnds, ands_none, ands_more, conjunction_of, IsOrs, ors_none, ors_more, IsCondition, condition_of}
-use Rattle.policy_grammar.specs.Policies.{IsLoad, load_count, load_weight, attr_of, IsAttrs, attrs_none, attrs_more, IsPlace, place_none, place_here, place_least, IsElect, elect_none, elect_some, IsSets, sets_none, sets_more, IsCase, case_of, IsCases, cases_none, cases_more, handler_of, IsHandlers, handlers_none, handlers_more}
-use Rattle.policy_grammar.specs.Machine.{Symbol, the, load_rule, int, attrs, place, place_rule, elect, handlers, event, case, cases, actions, field, order, key, keys, condition, unit, ands, ors, close, compare, operand, dot, word, operators, state, Move, refuses, goes, is_compare, factor_move, unit_move, key_move, case_move, attr_move, symbol_move, moves}
+use Rattle.policy_grammar.specs.Orders.{IsKey, key_ranked, key_preferring, IsKeys, keys_none, keys_more, IsOrder, order_first, order_keys}
+use Rattle.policy_grammar.specs.Policies.{IsLoad, load_count, load_weight, attr_of, IsAttrs, attrs_none, attrs_more, IsPlace, place_none, place_here, place_least, IsElect, elect_none, elect_some, IsBatch, batch_none, batch_some, IsSets, sets_none, sets_more, IsCase, case_of, IsCases, cases_none, cases_more, handler_of, IsHandlers, handlers_none, handlers_more}
+use Rattle.policy_grammar.specs.Machine.{Symbol, count_behind, the, load_rule, int, attrs, place, place_rule, elect, handlers, event, case, cases, actions, field, order, key, keys, batch, condition, unit, ands, ors, close, compare, operand, dot, word, operators, state, Move, refuses, goes, is_compare, factor_move, unit_move, key_move, case_move, attr_move, symbol_move, moves}
 
 module _ (text : List ℕ) (ts : List Lexeme) where
   -- a token of that kind stands there
@@ -54,8 +52,8 @@ module _ (text : List ℕ) (ts : List Lexeme) where
     pub are : IsCases text ts mid rest to
 
   pub record Keys (at to : ℕ) : Type 0 where
-    pub first : KeySyntax
-    pub rest : List KeySyntax
+    pub first : KeySyntaxTree
+    pub rest : List KeySyntaxTree
     pub mid : ℕ
     pub is : IsKey text ts at first mid
     pub are : IsKeys text ts mid rest to
@@ -81,16 +79,17 @@ module _ (text : List ℕ) (ts : List Lexeme) where
   Means (attrs cores threads) at to = (us : List AttrSyntax) × IsAttrs text ts at us to
   Means place at to = (p : Option PlaceSyntax) × IsPlace text ts at p to
   Means place_rule at to = (from : ℕ) → Token (code Place) from at → (p : Option PlaceSyntax) × IsPlace text ts from p to
-  Means elect at to = (e : Option ElectSyntax) × IsElect text ts at e to
+  Means elect at to = (e : Option ElectSyntaxTree) × IsElect text ts at e to
   Means handlers at to = (hs : List HandlerSyntaxTree) × IsHandlers text ts at hs to
   Means event at to = (e : Event) × Token (event_word e) at to
   Means (case before) at to = Cases at to
   Means (cases before) at to = (cs : List CaseSyntaxTree) × IsCases text ts at cs to
   Means (actions before) at to = Actions at to
   Means field at to = Word at to
-  Means order at to = (o : OrderSyntax) × IsOrder text ts at o to
+  Means order at to = (o : OrderSyntaxTree) × IsOrder text ts at o to
   Means (key before) at to = Keys at to
-  Means (keys before) at to = (ks : List KeySyntax) × IsKeys text ts at ks to
+  Means (keys before) at to = (ks : List KeySyntaxTree) × IsKeys text ts at ks to
+  Means batch at to = (b : Option BatchSyntaxTree) × IsBatch text ts at b to
   Means condition at to = (v : ConditionTree) × IsCondition text ts at v to
   Means (unit depth) at to = (v : ConditionTree) × IsUnit text ts at v to
   Means (ands depth) at to = (us : ConditionTrees) × IsAnds text ts at us to
@@ -315,11 +314,16 @@ module _ (limits : Limits) (text : List ℕ) (ts : List Lexeme) where
       ((mid : ℕ) → Keys text ts at mid → Are text ts below mid to → Are text ts stack at to) →
       Pulls text ts stack at to (key_move limits before at below (kind_at ts at))
   key-pulls at to before below stack whole =
-      any-pulls text ts stack at to _ _ _ (λ e. keyed (key-by _ e)) tt
+      any-pulls text ts stack at to _ _ _ (λ e. keyed (key-by _ e))
+      (if-pulls text ts stack at to _ (code terminal_is.Prefer) _ _ (λ k. prefers k) tt)
     where
       keyed : ((g : Bool) × (kind_at ts at ≡ key_word g)) → Are text ts (operand 0 0 0 ∷ keys (before + 1) ∷ below) (at + 1) to → Are text ts stack at to
       keyed g (are_more m1 e (are_more m2 ks rest)) =
-          whole m2 (record { first = _; rest = ks.0; mid = m1; is = key_of g.0 g.1 e.1; are = ks.1 }) rest
+          whole m2 (record { first = _; rest = ks.0; mid = m1; is = key_ranked g.0 g.1 e.1; are = ks.1 }) rest
+
+      prefers : kind_at ts at ≡ code Prefer → Are text ts (condition ∷ keys (before + 1) ∷ below) (at + 1) to → Are text ts stack at to
+      prefers k (are_more m1 v (are_more m2 ks rest)) =
+          whole m2 (record { first = _; rest = ks.0; mid = m1; is = key_preferring k v.1; are = ks.1 }) rest
 
   case-pulls : (at to before : ℕ) (below stack : List Symbol) (outer : Move) → Pulls text ts stack at to outer →
       ((mid : ℕ) → Cases text ts at mid → Are text ts below mid to → Are text ts stack at to) →
@@ -441,6 +445,13 @@ module _ (limits : Limits) (text : List ℕ) (ts : List Lexeme) where
     where
       follows : kind_at ts at ≡ code Comma → Are text ts (key before ∷ below) (at + 1) to → Are text ts (keys before ∷ below) at to
       follows k (are_more m1 ks rest) = are_more m1 (_, keys_more k ks.is ks.are) rest
+  symbol-pulls at to count batch below outer out =
+      if-pulls text ts _ at to _ (code terminal_is.While) _ _ (λ k. goes_on k) (lift-pulls text ts _ below at to outer (λ rest. are_more at (None, batch_none) rest) out)
+    where
+      goes_on : kind_at ts at ≡ code While → Are text ts (condition ∷ the Limit ∷ the Number ∷ below) (at + 1) to → Are text ts (batch ∷ below) at to
+      goes_on k (are_more m1 v (are_more m2 (token l) (are_more m3 (token n) rest))) =
+          let there : m1 + 2 ≡ m1 + 1 + 1 = omega arith in
+          are_more (m1 + 1 + 1) (subst (λ n. (b : Option BatchSyntaxTree) × IsBatch text ts at b n) there (_, batch_some k v.1 l n)) rest
   symbol-pulls at to count condition below outer out = unit-pulls at to 0 0 (ands 0 ∷ ors 0 ∷ below) _ (λ v mid d. joins v mid d)
     where
       joins : (v : ConditionTree) (mid : ℕ) → IsUnit text ts at v mid → Are text ts (ands 0 ∷ ors 0 ∷ below) mid to → Are text ts (condition ∷ below) at to
@@ -489,4 +500,4 @@ module _ (limits : Limits) (text : List ℕ) (ts : List Lexeme) where
   -- what completes the tokens behind a token completes them before it
   pub pulls : (at to count : ℕ) (stack : List Symbol) → Pulls text ts stack at to (moves limits count at stack (kind_at ts at))
   pulls at to count [] = tt
-  pulls at to count (s ∷ below) = symbol-pulls at to count s below _ (pulls at to count below)
+  pulls at to count (s ∷ below) = symbol-pulls at to count s below _ (pulls at to (count_behind s count) below)

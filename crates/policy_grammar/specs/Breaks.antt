@@ -4,9 +4,6 @@ use Rattle.std.specs.Prelude.{None}
 use Rattle.policy_syntax.specs.declared.syntax.AttrSyntax.{AttrSyntax}
 use Rattle.policy_syntax.specs.declared.syntax.PlaceSyntax.{PlaceSyntax}
 use Rattle.policy_syntax.specs.declared.syntax.PlaceSyntax.TheVariants as place
-use Rattle.policy_syntax.specs.declared.syntax.ElectSyntax.{ElectSyntax}
-use Rattle.policy_syntax.specs.declared.syntax.OrderSyntax.{OrderSyntax}
-use Rattle.policy_syntax.specs.declared.syntax.KeySyntax.{KeySyntax}
 use Rattle.policy_syntax.specs.declared.syntax.SetSyntax.{SetSyntax}
 use Rattle.policy_syntax.specs.declared.syntax.FactorSyntax.{FactorSyntax}
 use Rattle.policy_syntax.specs.declared.syntax.TimesSyntax.{TimesSyntax}
@@ -14,7 +11,9 @@ use Rattle.policy_syntax.specs.declared.syntax.TermSyntax.{TermSyntax}
 use Rattle.policy_syntax.specs.declared.syntax.AddedSyntax.{AddedSyntax}
 use Rattle.policy_syntax.specs.declared.syntax.ExprSyntax.{ExprSyntax}
 use Rattle.policy_syntax.specs.SyntaxTrees.{ConditionTree, always, negated, grouped, all, any, test, ConditionTrees}
-use Rattle.policy_syntax.specs.SyntaxTrees.{no_more, more, CaseSyntaxTree, HandlerSyntaxTree, SyntaxTree}
+use Rattle.policy_syntax.specs.SyntaxTrees.{no_more, more, KeySyntaxTree, ranked, preferring}
+use Rattle.policy_syntax.specs.SyntaxTrees.{OrderSyntaxTree, ElectSyntaxTree, BatchSyntaxTree, CaseSyntaxTree}
+use Rattle.policy_syntax.specs.SyntaxTrees.{HandlerSyntaxTree, SyntaxTree}
 use Rattle.policy_grammar.specs.declared.limits.Limits.{Limits}
 use Rattle.policy_grammar.specs.declared.fault.ParseFault.{ParseFault}
 use Rattle.policy_grammar.specs.declared.fault.ParseFault.TheVariants.{Deep, Many}
@@ -112,14 +111,22 @@ abbrev mutual
   breaks_parts limits depth count (more v rest) =
       first_of (breaks_condition limits depth count v) (breaks_parts limits depth (count + comparisons v) rest)
 
+-- the first token of a key
+abbrev pub key_at : KeySyntaxTree → ℕ
+key_at (ranked at greatest v) = at
+key_at (preferring at v) = at
+
+abbrev pub breaks_key : Limits → KeySyntaxTree → Option ParseFault
+breaks_key limits (ranked at greatest v) = breaks_expr limits 0 v
+breaks_key limits (preferring at v) = breaks_condition limits 0 0 v
+
 -- keys behind so many
-abbrev pub breaks_keys : Limits → ℕ → List KeySyntax → Option ParseFault
+abbrev pub breaks_keys : Limits → ℕ → List KeySyntaxTree → Option ParseFault
 breaks_keys limits count [] = None
 breaks_keys limits count (k ∷ rest) =
-    first_of (many limits.keys k.at count) (first_of (breaks_expr limits 0 k.value)
-    (breaks_keys limits (count + 1) rest))
+    first_of (many limits.keys (key_at k) count) (first_of (breaks_key limits k) (breaks_keys limits (count + 1) rest))
 
-abbrev pub breaks_order : Limits → OrderSyntax → Option ParseFault
+abbrev pub breaks_order : Limits → OrderSyntaxTree → Option ParseFault
 breaks_order limits order = breaks_keys limits 0 order.keys
 
 -- assignments behind so many
@@ -165,9 +172,13 @@ breaks_place limits None = None
 breaks_place limits (Some (place.Here at)) = None
 breaks_place limits (Some (place.Least at v)) = breaks_expr limits 0 v
 
-abbrev pub breaks_elect : Limits → Option ElectSyntax → Option ParseFault
+abbrev pub breaks_elect : Limits → Option ElectSyntaxTree → Option ParseFault
 breaks_elect limits None = None
 breaks_elect limits (Some elect) = breaks_order limits elect.order
+
+abbrev pub breaks_batch : Limits → Option BatchSyntaxTree → Option ParseFault
+breaks_batch limits None = None
+breaks_batch limits (Some batch) = breaks_condition limits 0 0 batch.condition
 
 -- the first limit that a policy passes
 abbrev pub breaks_policy : Limits → SyntaxTree → Option ParseFault
@@ -177,4 +188,5 @@ breaks_policy limits s =
     (first_of (breaks_elect limits s.elect)
     (first_of (breaks_handlers limits s.handlers)
     (first_of (breaks_condition limits 0 0 s.filter)
-    (first_of (breaks_order limits s.choose) (breaks_order limits s.steal))))))
+    (first_of (breaks_order limits s.choose)
+    (first_of (breaks_order limits s.steal) (breaks_batch limits s.batch)))))))

@@ -1,4 +1,4 @@
--- The grammar of expressions and orders. `IsTerm text ts from v to`: the tokens ts from number `from` up to number
+-- The grammar of expressions. `IsTerm text ts from v to`: the tokens ts from number `from` up to number
 -- `to` are the term v. The text has the bytes of the words.
 use Rattle.std.specs.Prelude.{ℕ, suc, ◌+◌, ◌≡◌, Bool, true, false, List, [], ◌∷◌}
 use Rattle.policy_syntax.specs.declared.syntax.IntSyntax.{IntSyntax}
@@ -11,12 +11,10 @@ use Rattle.policy_syntax.specs.declared.syntax.TimesSyntax.{TimesSyntax}
 use Rattle.policy_syntax.specs.declared.syntax.TermSyntax.{TermSyntax}
 use Rattle.policy_syntax.specs.declared.syntax.AddedSyntax.{AddedSyntax}
 use Rattle.policy_syntax.specs.declared.syntax.ExprSyntax.{ExprSyntax}
-use Rattle.policy_syntax.specs.declared.syntax.KeySyntax.{KeySyntax}
-use Rattle.policy_syntax.specs.declared.syntax.OrderSyntax.{OrderSyntax}
-use Rattle.policy_grammar.specs.declared.terminal.Terminal.TheVariants.{First, Number, Dot, Range, Comma, Minus, Star}
+use Rattle.policy_grammar.specs.declared.terminal.Terminal.TheVariants.{Number, Dot, Range, Minus, Star}
 use Rattle.policy_grammar.specs.declared.terminal.Lexeme.{Lexeme}
 use Rattle.policy_grammar.specs.Terminals.{code, kind_at, value_at, word_at, is_word}
-use Rattle.policy_grammar.specs.Words.{key_word, sign_word, owner_word}
+use Rattle.policy_grammar.specs.Words.{sign_word, owner_word}
 
 -- int = ["-"] NUMBER
 pub data IsInt (ts : List Lexeme) : ℕ → IntSyntax → ℕ → Type 0 where
@@ -71,23 +69,3 @@ pub data IsExpr (text : List ℕ) (ts : List Lexeme) : ℕ → ExprSyntax → �
   expr_of : {at mid to : ℕ} {first : TermSyntax} {rest : List AddedSyntax} →
       IsTerm text ts at first mid → IsAdded text ts mid rest to →
       IsExpr text ts at (record { at = at; first = first; rest = rest }) to
-
--- key = ("min" | "max") expr
-pub data IsKey (text : List ℕ) (ts : List Lexeme) : ℕ → KeySyntax → ℕ → Type 0 where
-  key_of : {at to : ℕ} (greatest : Bool) {v : ExprSyntax} →
-      kind_at ts at ≡ key_word greatest → IsExpr text ts (at + 1) v to →
-      IsKey text ts at (record { at = at; greatest = greatest; value = v }) to
-
--- ("," key)*
-pub data IsKeys (text : List ℕ) (ts : List Lexeme) : ℕ → List KeySyntax → ℕ → Type 0 where
-  keys_none : {at : ℕ} → IsKeys text ts at [] at
-  keys_more : {at mid to : ℕ} {k : KeySyntax} {rest : List KeySyntax} →
-      kind_at ts at ≡ code Comma → IsKey text ts (at + 1) k mid → IsKeys text ts mid rest to →
-      IsKeys text ts at (k ∷ rest) to
-
--- order = "first" | key ("," key)*
-pub data IsOrder (text : List ℕ) (ts : List Lexeme) : ℕ → OrderSyntax → ℕ → Type 0 where
-  order_first : {at : ℕ} → kind_at ts at ≡ code First → IsOrder text ts at (record { at = at; keys = [] }) (at + 1)
-  order_keys : {at mid to : ℕ} {k : KeySyntax} {rest : List KeySyntax} →
-      IsKey text ts at k mid → IsKeys text ts mid rest to →
-      IsOrder text ts at (record { at = at; keys = k ∷ rest }) to

@@ -12,7 +12,9 @@ use Rattle.policy_grammar.specs.declared.terminal.Terminal.TheVariants.{Policy, 
 use Rattle.policy_grammar.specs.declared.terminal.Terminal.TheVariants.{Start, Place, Here, Min, Max, Elect, Choose}
 use Rattle.policy_grammar.specs.declared.terminal.Terminal.TheVariants.{Steal, First, On, Enqueue, Tick, Yield, Block}
 use Rattle.policy_grammar.specs.declared.terminal.Terminal.TheVariants.{When, Queue, Keep, Filter, And, Or, Not, Always}
-use Rattle.policy_grammar.specs.declared.terminal.Terminal.TheVariants.{Itself, Victim, Task, Reserved, Name, Number}
+use Rattle.policy_grammar.specs.declared.terminal.Terminal.TheVariants.{Itself, Victim, Task, While, Limit, Prefer}
+use Rattle.policy_grammar.specs.declared.terminal.Terminal.TheVariants.{Reserved}
+use Rattle.policy_grammar.specs.declared.terminal.Terminal.TheVariants.{Name, Number}
 use Rattle.policy_grammar.specs.declared.terminal.Terminal.TheVariants.{Dot, Range, Comma, Colon, Open, Close, Begin}
 use Rattle.policy_grammar.specs.declared.terminal.Terminal.TheVariants.{Finish, Plus, Minus, Star, Gets, Equal, Unequal}
 use Rattle.policy_grammar.specs.declared.terminal.Terminal.TheVariants.{Less, AtMost, More, AtLeast}
@@ -28,6 +30,7 @@ reserved_words =
     ∷ (codes "block", Block) ∷ (codes "when", When) ∷ (codes "queue", Queue) ∷ (codes "keep", Keep)
     ∷ (codes "filter", Filter) ∷ (codes "and", And) ∷ (codes "or", Or) ∷ (codes "not", Not)
     ∷ (codes "always", Always) ∷ (codes "self", Itself) ∷ (codes "victim", Victim) ∷ (codes "t", Task)
+    ∷ (codes "while", While) ∷ (codes "limit", Limit) ∷ (codes "prefer", Prefer)
     ∷ (codes "nr", Reserved) ∷ (codes "fresh", Reserved) ∷ []
 
 -- what the word is, where those are reserved, each of which is read as bytes

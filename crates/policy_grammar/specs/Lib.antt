@@ -3,6 +3,7 @@ pub mod Terminals
 pub mod Words
 pub mod Expressions
 pub mod Conditions
+pub mod Orders
 pub mod Policies
 pub mod Breaks
 pub mod Lexemes

@@ -7,7 +7,9 @@ use Rattle.policy_grammar.specs.declared.terminal.Terminal.TheVariants.{Policy, 
 use Rattle.policy_grammar.specs.declared.terminal.Terminal.TheVariants.{Start, Place, Here, Min, Max, Elect, Choose}
 use Rattle.policy_grammar.specs.declared.terminal.Terminal.TheVariants.{Steal, First, On, Enqueue, Tick, Yield, Block}
 use Rattle.policy_grammar.specs.declared.terminal.Terminal.TheVariants.{When, Queue, Keep, Filter, And, Or, Not, Always}
-use Rattle.policy_grammar.specs.declared.terminal.Terminal.TheVariants.{Itself, Victim, Task, Name, Number, Dot, Range}
+use Rattle.policy_grammar.specs.declared.terminal.Terminal.TheVariants.{Itself, Victim, Task, While, Limit, Prefer}
+use Rattle.policy_grammar.specs.declared.terminal.Terminal.TheVariants.{Name}
+use Rattle.policy_grammar.specs.declared.terminal.Terminal.TheVariants.{Number, Dot, Range}
 use Rattle.policy_grammar.specs.declared.terminal.Terminal.TheVariants.{Comma, Colon, Open, Close, Begin, Finish, Plus}
 use Rattle.policy_grammar.specs.declared.terminal.Terminal.TheVariants.{Minus, Star, Gets, Equal, Unequal, Less, AtMost}
 use Rattle.policy_grammar.specs.declared.terminal.Terminal.TheVariants.{More, AtLeast}
@@ -36,6 +38,7 @@ pub data Symbol : Type 0 where
   order : Symbol
   key : ℕ → Symbol  -- a key, behind so many
   keys : ℕ → Symbol  -- further keys, behind so many
+  batch : Symbol  -- what follows the order of `steal`, or nothing
   condition : Symbol
   unit : ℕ → Symbol  -- a unit, where so many are open
   ands : ℕ → Symbol  -- further units
@@ -68,6 +71,7 @@ is_event kind = (kind == code Enqueue || kind == code Tick) || (kind == code Yie
 abbrev pub is_put : ℕ → Bool
 is_put kind = kind == code Queue || kind == code Keep || kind == code Block
 
+-- the word of a key with an expression
 abbrev pub is_key : ℕ → Bool
 is_key kind = kind == code Min || kind == code Max
 
@@ -76,6 +80,36 @@ abbrev pub is_compare : ℕ → Bool
 is_compare kind =
     (kind == code Equal || kind == code Unequal || kind == code Less) ||
     (kind == code AtMost || kind == code More || kind == code AtLeast)
+
+-- the comparisons that are counted on where the symbol is nothing: a key's condition has ended before further keys
+abbrev pub count_behind : Symbol → ℕ → ℕ
+count_behind (the terminal) count = count
+count_behind load_rule count = count
+count_behind int count = count
+count_behind (attrs cores threads) count = count
+count_behind place count = count
+count_behind place_rule count = count
+count_behind elect count = count
+count_behind handlers count = count
+count_behind event count = count
+count_behind (case before) count = count
+count_behind (cases before) count = count
+count_behind (actions before) count = count
+count_behind field count = count
+count_behind order count = count
+count_behind (key before) count = count
+count_behind (keys before) count = 0
+count_behind batch count = count
+count_behind condition count = count
+count_behind (unit depth) count = count
+count_behind (ands depth) count = count
+count_behind (ors depth) count = count
+count_behind close count = count
+count_behind (compare depth) count = count
+count_behind (operand base depth before) count = count
+count_behind (dot base before) count = count
+count_behind (word base before) count = count
+count_behind (operators base before) count = count
 
 module _ (limits : Limits) where
   abbrev pub factor_move : ℕ → ℕ → ℕ → ℕ → ℕ → List Symbol → ℕ → Move
@@ -99,7 +133,9 @@ module _ (limits : Limits) where
   abbrev pub key_move : ℕ → ℕ → List Symbol → ℕ → Move
   key_move before at below kind =
       if is_key kind then
-      goes (many limits.keys at before) (state 0 (operand 0 0 0 ∷ keys (before + 1) ∷ below)) else refuses
+      goes (many limits.keys at before) (state 0 (operand 0 0 0 ∷ keys (before + 1) ∷ below)) else
+      if kind == code Prefer then
+      goes (many limits.keys at before) (state 0 (condition ∷ keys (before + 1) ∷ below)) else refuses
 
   abbrev pub case_move : ℕ → ℕ → List Symbol → ℕ → Move → Move
   case_move before at below kind outer =
@@ -153,6 +189,8 @@ module _ (limits : Limits) where
   symbol_move count at (key before) below kind outer = key_move before at below kind
   symbol_move count at (keys before) below kind outer =
       if kind == code Comma then goes None (state 0 (key before ∷ below)) else outer
+  symbol_move count at batch below kind outer =
+      if kind == code While then goes None (state 0 (condition ∷ the Limit ∷ the Number ∷ below)) else outer
   symbol_move count at condition below kind outer = unit_move 0 0 at (ands 0 ∷ ors 0 ∷ below) kind
   symbol_move count at (unit depth) below kind outer = unit_move count depth at below kind
   symbol_move count at (ands depth) below kind outer =
@@ -175,7 +213,8 @@ module _ (limits : Limits) where
   -- what a token does, where a symbol that may be nothing leaves it to those below
   abbrev pub moves : ℕ → ℕ → List Symbol → ℕ → Move
   moves count at [] kind = refuses
-  moves count at (symbol ∷ below) kind = symbol_move count at symbol below kind (moves count at below kind)
+  moves count at (symbol ∷ below) kind =
+      symbol_move count at symbol below kind (moves (count_behind symbol count) at below kind)
 
 -- the symbol may be nothing
 abbrev pub is_nothing : Symbol → Bool
@@ -195,6 +234,7 @@ is_nothing field = false
 is_nothing order = false
 is_nothing (key before) = false
 is_nothing (keys before) = true
+is_nothing batch = true
 is_nothing condition = false
 is_nothing (unit depth) = false
 is_nothing (ands depth) = true
@@ -237,4 +277,4 @@ module _ (limits : Limits) where
 -- a policy
 abbrev pub start : List Symbol
 start = the Policy ∷ the Name ∷ the Load ∷ load_rule ∷ attrs 0 0 ∷ place ∷ elect ∷ handlers ∷ the Filter ∷ condition ∷
-    the Choose ∷ order ∷ the Steal ∷ order ∷ []
+    the Choose ∷ order ∷ the Steal ∷ order ∷ batch ∷ []

@@ -9,20 +9,20 @@ use Rattle.policy_syntax.specs.declared.syntax.LoadSyntax.TheVariants as load
 use Rattle.policy_syntax.specs.declared.syntax.AttrSyntax.{AttrSyntax}
 use Rattle.policy_syntax.specs.declared.syntax.PlaceSyntax.{PlaceSyntax}
 use Rattle.policy_syntax.specs.declared.syntax.PlaceSyntax.TheVariants as place
-use Rattle.policy_syntax.specs.declared.syntax.ElectSyntax.{ElectSyntax}
-use Rattle.policy_syntax.specs.declared.syntax.OrderSyntax.{OrderSyntax}
 use Rattle.policy_syntax.specs.declared.syntax.SetSyntax.{SetSyntax}
 use Rattle.policy_syntax.specs.declared.syntax.ExprSyntax.{ExprSyntax}
-use Rattle.policy_syntax.specs.SyntaxTrees.{ConditionTree, CaseSyntaxTree, HandlerSyntaxTree, SyntaxTree}
+use Rattle.policy_syntax.specs.SyntaxTrees.{ConditionTree, OrderSyntaxTree, ElectSyntaxTree, BatchSyntaxTree}
+use Rattle.policy_syntax.specs.SyntaxTrees.{CaseSyntaxTree, HandlerSyntaxTree, SyntaxTree}
 use Rattle.policy_grammar.specs.declared.terminal.Terminal.TheVariants.{Policy, Load, Count, Weight, In, Start, Place}
 use Rattle.policy_grammar.specs.declared.terminal.Terminal.TheVariants.{Here, Min, Elect, Choose, Steal, On, When}
-use Rattle.policy_grammar.specs.declared.terminal.Terminal.TheVariants.{Filter, Task, Name, Dot, Comma, Colon, Begin}
-use Rattle.policy_grammar.specs.declared.terminal.Terminal.TheVariants.{Finish, Gets}
+use Rattle.policy_grammar.specs.declared.terminal.Terminal.TheVariants.{Filter, Task, While, Limit, Name, Number, Dot}
+use Rattle.policy_grammar.specs.declared.terminal.Terminal.TheVariants.{Comma, Colon, Begin, Finish, Gets}
 use Rattle.policy_grammar.specs.declared.terminal.Lexeme.{Lexeme}
-use Rattle.policy_grammar.specs.Terminals.{code, kind_at, word_at, is_word}
+use Rattle.policy_grammar.specs.Terminals.{code, kind_at, value_at, word_at, is_word}
 use Rattle.policy_grammar.specs.Words.{attr_word, event_word, put_word}
-use Rattle.policy_grammar.specs.Expressions.{IsInt, IsRange, IsExpr, IsOrder}
+use Rattle.policy_grammar.specs.Expressions.{IsInt, IsRange, IsExpr}
 use Rattle.policy_grammar.specs.Conditions.{IsCondition}
+use Rattle.policy_grammar.specs.Orders.{IsOrder}
 
 -- load = "load" "count" | "load" "weight" range
 pub data IsLoad (ts : List Lexeme) : ℕ → LoadSyntax → ℕ → Type 0 where
@@ -54,9 +54,9 @@ pub data IsPlace (text : List ℕ) (ts : List Lexeme) : ℕ → Option PlaceSynt
       IsExpr text ts (at + 2) v to → IsPlace text ts at (Some (place.Least at v)) to
 
 -- [elect], elect = "elect" order
-pub data IsElect (text : List ℕ) (ts : List Lexeme) : ℕ → Option ElectSyntax → ℕ → Type 0 where
+pub data IsElect (text : List ℕ) (ts : List Lexeme) : ℕ → Option ElectSyntaxTree → ℕ → Type 0 where
   elect_none : {at : ℕ} → IsElect text ts at None at
-  elect_some : {at to : ℕ} {order : OrderSyntax} → kind_at ts at ≡ code Elect → IsOrder text ts (at + 1) order to →
+  elect_some : {at to : ℕ} {order : OrderSyntaxTree} → kind_at ts at ≡ code Elect → IsOrder text ts (at + 1) order to →
       IsElect text ts at (Some (record { at = at; order = order })) to
 
 -- (set ",")*, set = "t" "." WORD "=" expr
@@ -94,17 +94,31 @@ pub data IsHandlers (text : List ℕ) (ts : List Lexeme) : ℕ → List HandlerS
   handlers_more : {at mid to : ℕ} {h : HandlerSyntaxTree} {rest : List HandlerSyntaxTree} →
       IsHandler text ts at h mid → IsHandlers text ts mid rest to → IsHandlers text ts at (h ∷ rest) to
 
+-- ["while" cond "limit" NUMBER]
+pub data IsBatch (text : List ℕ) (ts : List Lexeme) : ℕ → Option BatchSyntaxTree → ℕ → Type 0 where
+  batch_none : {at : ℕ} → IsBatch text ts at None at
+  batch_some : {at mid : ℕ} {condition : ConditionTree} → kind_at ts at ≡ code While →
+      IsCondition text ts (at + 1) condition mid → kind_at ts mid ≡ code Limit → kind_at ts (mid + 1) ≡ code Number →
+      IsBatch text ts at (Some (record {
+        at = at;
+        condition = condition;
+        limit_at = mid + 1;
+        limit = value_at ts (mid + 1);
+      })) (mid + 2)
+
 -- policy = "policy" NAME load attr* [place] [elect] on* filter choose steal
 pub data IsPolicy (text : List ℕ) (ts : List Lexeme) : SyntaxTree → Type 0 where
-  policy_of : {at_attrs at_place at_elect at_handlers at_filter at_choose at_steal : ℕ}
-      {load : LoadSyntax} {attrs : List AttrSyntax} {place : Option PlaceSyntax} {elect : Option ElectSyntax}
-      {handlers : List HandlerSyntaxTree} {filter : ConditionTree} {choose steal : OrderSyntax} →
+  policy_of : {at_attrs at_place at_elect at_handlers at_filter at_choose at_steal at_batch : ℕ}
+      {load : LoadSyntax} {attrs : List AttrSyntax} {place : Option PlaceSyntax} {elect : Option ElectSyntaxTree}
+      {handlers : List HandlerSyntaxTree} {filter : ConditionTree} {choose steal : OrderSyntaxTree}
+      {batch : Option BatchSyntaxTree} →
       kind_at ts 0 ≡ code Policy → kind_at ts 1 ≡ code Name → IsLoad ts 2 load at_attrs →
       IsAttrs text ts at_attrs attrs at_place → IsPlace text ts at_place place at_elect →
       IsElect text ts at_elect elect at_handlers → IsHandlers text ts at_handlers handlers at_filter →
       kind_at ts at_filter ≡ code Filter → IsCondition text ts (at_filter + 1) filter at_choose →
       kind_at ts at_choose ≡ code Choose → IsOrder text ts (at_choose + 1) choose at_steal →
-      kind_at ts at_steal ≡ code Steal → IsOrder text ts (at_steal + 1) steal (length ts) →
+      kind_at ts at_steal ≡ code Steal → IsOrder text ts (at_steal + 1) steal at_batch →
+      IsBatch text ts at_batch batch (length ts) →
       IsPolicy text ts (record {
         name = word_at text ts 1;
         load = load;
@@ -118,4 +132,5 @@ pub data IsPolicy (text : List ℕ) (ts : List Lexeme) : SyntaxTree → Type 0 w
         choose = choose;
         steal_at = at_steal;
         steal = steal;
+        batch = batch;
       })

@@ -5,7 +5,9 @@ use Rattle.policy_grammar.specs.declared.terminal.Terminal.TheVariants.{End, Pol
 use Rattle.policy_grammar.specs.declared.terminal.Terminal.TheVariants.{In, Start, Place, Here, Min, Max, Elect, Choose}
 use Rattle.policy_grammar.specs.declared.terminal.Terminal.TheVariants.{Steal, First, On, Enqueue, Tick, Yield, Block}
 use Rattle.policy_grammar.specs.declared.terminal.Terminal.TheVariants.{When, Queue, Keep, Filter, And, Or, Not, Always}
-use Rattle.policy_grammar.specs.declared.terminal.Terminal.TheVariants.{Itself, Victim, Task, Reserved, Name, Number}
+use Rattle.policy_grammar.specs.declared.terminal.Terminal.TheVariants.{Itself, Victim, Task, While, Limit, Prefer}
+use Rattle.policy_grammar.specs.declared.terminal.Terminal.TheVariants.{Reserved}
+use Rattle.policy_grammar.specs.declared.terminal.Terminal.TheVariants.{Name, Number}
 use Rattle.policy_grammar.specs.declared.terminal.Terminal.TheVariants.{Dot, Range, Comma, Colon, Open, Close, Begin}
 use Rattle.policy_grammar.specs.declared.terminal.Terminal.TheVariants.{Finish, Plus, Minus, Star, Gets, Equal, Unequal}
 use Rattle.policy_grammar.specs.declared.terminal.Terminal.TheVariants.{Less, AtMost, More, AtLeast}
@@ -46,27 +48,30 @@ code Always = 29
 code Itself = 30
 code Victim = 31
 code Task = 32
-code Reserved = 33
-code Name = 34
-code Number = 35
-code Dot = 36
-code Range = 37
-code Comma = 38
-code Colon = 39
-code Open = 40
-code Close = 41
-code Begin = 42
-code Finish = 43
-code Plus = 44
-code Minus = 45
-code Star = 46
-code Gets = 47
-code Equal = 48
-code Unequal = 49
-code Less = 50
-code AtMost = 51
-code More = 52
-code AtLeast = 53
+code While = 33
+code Limit = 34
+code Prefer = 35
+code Reserved = 36
+code Name = 37
+code Number = 38
+code Dot = 39
+code Range = 40
+code Comma = 41
+code Colon = 42
+code Open = 43
+code Close = 44
+code Begin = 45
+code Finish = 46
+code Plus = 47
+code Minus = 48
+code Star = 49
+code Gets = 50
+code Equal = 51
+code Unequal = 52
+code Less = 53
+code AtMost = 54
+code More = 55
+code AtLeast = 56
 
 -- the lexeme in that place, and one that is no token past the last
 abbrev pub or_end : Option Lexeme → Lexeme

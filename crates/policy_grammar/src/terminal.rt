@@ -72,6 +72,12 @@ pub enum Terminal {
     Victim,
     /// `t`
     Task,
+    /// `while`
+    While,
+    /// `limit`
+    Limit,
+    /// `prefer`
+    Prefer,
     /// A reserved word with no place of its own in the grammar.
     Reserved,
     /// A word that isn't reserved.

@@ -1,33 +1,42 @@
 -- Parts that are read one after another.
-use Rattle.std.proofs.Common.{◌≡◌, ℕ, ◌+◌, List, [], ◌∷◌, ◌++◌, refl, sym, ap, subst, ◌∙◌}
+use Rattle.std.proofs.Common.{◌≡◌, ℕ, ◌+◌, List, [], ◌∷◌, ◌++◌, map, refl, sym, ap, subst, ◌∙◌}
 use Rattle.policy_syntax.specs.declared.syntax.KeySyntax.{KeySyntax}
 use Rattle.policy_syntax.specs.declared.syntax.ConditionSyntax.{ConditionSyntax}
-use Rattle.policy_syntax.specs.SyntaxTrees.{ConditionTree, ConditionTrees, no_more, more, all, any, condition_tree, condition_trees}
+use Rattle.policy_syntax.specs.SyntaxTrees.{ConditionTree, ConditionTrees, no_more, more, all, any, condition_tree, condition_trees, KeySyntaxTree, key_syntax_tree}
 use Rattle.policy_grammar.specs.declared.terminal.Lexeme.{Lexeme}
 use Rattle.policy_grammar.specs.declared.terminal.Terminal.TheVariants.{Comma, And, Or}
 use Rattle.policy_grammar.specs.Terminals.{code, kind_at}
-use Rattle.policy_grammar.specs.Expressions.{IsKey, IsKeys, keys_none, IsOrder, order_keys}
+use Rattle.policy_grammar.specs.Orders.{IsKey, IsKeys, keys_none, IsOrder, order_keys}
 use Rattle.policy_grammar.specs.Conditions.{conjunction, disjunction, IsUnit, IsAnds, ands_none, ands_more, IsConjunction, conjunction_of, IsOrs, ors_none, ors_more, IsCondition, condition_of}
-use Rattle.policy_parser.proofs.Parts.{keys-snoc}
+use Rattle.policy_parser.proofs.Parts.{keys-snoc, map-snoc}
 
 -- keys of an order so far
 pub record Keyed (text : List ℕ) (ts : List Lexeme) (items : List KeySyntax) (at to : ℕ) : Type 0 where
-  pub first : KeySyntax
-  pub rest : List KeySyntax
+  pub first : KeySyntaxTree
+  pub rest : List KeySyntaxTree
   pub mid : ℕ
-  pub same : items ≡ first ∷ rest
+  pub same : map key_syntax_tree items ≡ first ∷ rest
   pub is : IsKey text ts at first mid
   pub are : IsKeys text ts mid rest to
 
-pub keyed-one : {text : List ℕ} {ts : List Lexeme} {items : List KeySyntax} {at to : ℕ} {key : KeySyntax} → items ≡ key ∷ [] → IsKey text ts at key to → Keyed text ts items at to
-keyed-one e d = record { first = _; rest = []; mid = _; same = e; is = d; are = keys_none }
+pub keyed-one : {text : List ℕ} {ts : List Lexeme} {items : List KeySyntax} {at to : ℕ} (key : KeySyntax) → items ≡ key ∷ [] →
+    IsKey text ts at (key_syntax_tree key) to → Keyed text ts items at to
+keyed-one key e d = record { first = key_syntax_tree key; rest = []; mid = _; same = ap (map key_syntax_tree) e; is = d; are = keys_none }
 
-pub keyed-snoc : {text : List ℕ} {ts : List Lexeme} {items new : List KeySyntax} {at mid to : ℕ} {key : KeySyntax} → Keyed text ts items at mid →
-    kind_at ts mid ≡ code Comma → IsKey text ts (mid + 1) key to → new ≡ items ++ key ∷ [] → Keyed text ts new at to
-keyed-snoc {key = key} k comma d e =
-    record { first = k.first; rest = k.rest ++ key ∷ []; mid = k.mid; same = e ∙ ap (λ x. x ++ key ∷ []) k.same; is = k.is; are = keys-snoc k.are comma d }
+pub keyed-snoc : {text : List ℕ} {ts : List Lexeme} {items new : List KeySyntax} {at mid to : ℕ} (key : KeySyntax) → Keyed text ts items at mid →
+    kind_at ts mid ≡ code Comma → IsKey text ts (mid + 1) (key_syntax_tree key) to → new ≡ items ++ key ∷ [] → Keyed text ts new at to
+keyed-snoc {items = items} key k comma d e =
+    record {
+      first = k.first;
+      rest = k.rest ++ key_syntax_tree key ∷ [];
+      mid = k.mid;
+      same = ap (map key_syntax_tree) e ∙ map-snoc key_syntax_tree items key ∙ ap (λ x. x ++ key_syntax_tree key ∷ []) k.same;
+      is = k.is;
+      are = keys-snoc k.are comma d;
+    }
 
-pub keyed-order : {text : List ℕ} {ts : List Lexeme} {items : List KeySyntax} {at to : ℕ} → Keyed text ts items at to → IsOrder text ts at (record { at = at; keys = items }) to
+pub keyed-order : {text : List ℕ} {ts : List Lexeme} {items : List KeySyntax} {at to : ℕ} → Keyed text ts items at to →
+    IsOrder text ts at (record { at = at; keys = map key_syntax_tree items }) to
 keyed-order {text = text} {ts = ts} {items = items} {at = at} {to = to} k =
     subst (λ x. IsOrder text ts at (record { at = at; keys = x }) to) (sym k.same) (order_keys k.is k.are)
 

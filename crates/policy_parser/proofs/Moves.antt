@@ -6,7 +6,7 @@ use Rattle.policy_grammar.specs.declared.terminal.Lexeme.{Lexeme}
 use Rattle.policy_grammar.specs.declared.limits.Limits.{Limits}
 use Rattle.policy_grammar.specs.declared.fault.ParseFault.{ParseFault}
 use Rattle.policy_grammar.specs.declared.fault.ParseFault.TheVariants.{Unexpected, Deep, Many, Memory}
-use Rattle.policy_grammar.specs.declared.terminal.Terminal.TheVariants.{Core, Thread, Name, In, Start, On, When, Begin, Finish, Colon, Dot, Gets, Task, Place, Here, Min, Elect, Number, Count, Weight, Range, First, Comma, And, Or, Not, Always, Open, Close, Plus, Minus, Star}
+use Rattle.policy_grammar.specs.declared.terminal.Terminal.TheVariants.{Core, Thread, Name, In, Start, On, When, Begin, Finish, Colon, Dot, Gets, Task, Place, Here, Min, Elect, Number, Count, Weight, Range, First, Comma, And, Or, Not, Always, Open, Close, Plus, Minus, Star, While, Limit, Prefer}
 use Rattle.policy_grammar.specs.declared.terminal.Terminal.TheVariants as terminal
 use Rattle.policy_tree.specs.declared.trees.Cmp.{Cmp}
 use Rattle.policy_grammar.specs.Words.{sign_word, key_word, compare_word, attr_word, put_word, event_word}
@@ -16,7 +16,7 @@ use Rattle.policy_tree.specs.declared.typed.Event.{Event}
 use Rattle.policy_tree.specs.declared.typed.Event.TheVariants as event_is
 use Rattle.policy_grammar.specs.Terminals.{code, kind_at, is_word}
 use Rattle.policy_grammar.specs.Breaks.{deep, many, first_of, of_kind, of_cores_more, of_threads_more}
-use Rattle.policy_grammar.specs.Machine.{Symbol, the, int, load_rule, attrs, handlers, event, case, cases, actions, condition, is_put, is_event, place, place_rule, elect, word, field, order, key, keys, unit, ands, ors, close, compare, operand, operators, is_key, is_compare, state, run, go}
+use Rattle.policy_grammar.specs.Machine.{Symbol, the, int, load_rule, attrs, handlers, event, case, cases, actions, condition, is_put, is_event, place, place_rule, elect, word, field, order, key, keys, batch, unit, ands, ors, close, compare, operand, operators, is_key, is_compare, state, run, go}
 use Rattle.policy_grammar.proofs.Steps.{judged, go-stuck, go-same, go-move}
 use Rattle.policy_grammar.proofs.CompleteConditions.{compares}
 use Rattle.policy_parser.specs.Answers.{Fails, Answers, IsWordFault}
@@ -173,8 +173,22 @@ module _ (limits : Limits) (ts : List Lexeme) (at : ℕ) where
       go limits ts at 0 (key before ∷ below) ≡ Some (Many at limits.keys)
   key-many before below greatest k most = broken _ (key-move before below greatest k) (past-many limits.keys at before most)
 
-  pub key-none : (before : ℕ) (below : List Symbol) → is_key (kind_at ts at) ≡ false → go limits ts at 0 (key before ∷ below) ≡ Some (Unexpected at)
-  key-none before below isnt = go-stuck limits ts at 0 (key before ∷ below) refl (rw isnt refl)
+  pub key-none : (before : ℕ) (below : List Symbol) → is_key (kind_at ts at) ≡ false → (kind_at ts at == code Prefer) ≡ false → go limits ts at 0 (key before ∷ below) ≡ Some (Unexpected at)
+  key-none before below isnt not_it = go-stuck limits ts at 0 (key before ∷ below) refl (rw (isnt, not_it) refl)
+
+  prefer-move : (before : ℕ) (below : List Symbol) → kind_at ts at ≡ code Prefer →
+      go limits ts at 0 (key before ∷ below) ≡ judged (many limits.keys at before) (go limits ts (at + 1) 0 (condition ∷ keys (before + 1) ∷ below))
+  prefer-move before below k = go-move limits ts at (code terminal.Prefer) 0 0 (key before ∷ below) _ (many limits.keys at before) k (lit< tt) refl
+
+  pub prefer-goes : (before : ℕ) (below : List Symbol) → kind_at ts at ≡ code Prefer → before < limits.keys →
+      go limits ts at 0 (key before ∷ below) ≡ go limits ts (at + 1) 0 (unit 0 ∷ ands 0 ∷ ors 0 ∷ keys (before + 1) ∷ below)
+  prefer-goes before below k few =
+      kept _ (prefer-move before below k) (within-many limits.keys at before few)
+      ∙ go-same limits ts (at + 1) 0 0 (condition ∷ keys (before + 1) ∷ below) (unit 0 ∷ ands 0 ∷ ors 0 ∷ keys (before + 1) ∷ below) refl refl
+
+  pub prefer-many : (before : ℕ) (below : List Symbol) → kind_at ts at ≡ code Prefer → limits.keys ≤ before →
+      go limits ts at 0 (key before ∷ below) ≡ Some (Many at limits.keys)
+  prefer-many before below k most = broken _ (prefer-move before below k) (past-many limits.keys at before most)
 
   pub order-key : (below : List Symbol) → (kind_at ts at == code First) ≡ false → go limits ts at 0 (order ∷ below) ≡ go limits ts at 0 (key 0 ∷ below)
   order-key below isnt = go-same limits ts at 0 0 (order ∷ below) (key 0 ∷ below) refl (rw isnt refl)
@@ -303,6 +317,16 @@ module _ (limits : Limits) (ts : List Lexeme) (at : ℕ) where
   pub elect-goes : (below : List Symbol) → kind_at ts at ≡ code Elect → go limits ts at 0 (elect ∷ below) ≡ go limits ts (at + 1) 0 (order ∷ below)
   elect-goes below k =
       go-move limits ts at (code terminal.Elect) 0 0 (elect ∷ below) (order ∷ below) None k (lit< tt) refl
+
+  -- the batch
+  pub batch-over : (below : List Symbol) → (kind_at ts at == code While) ≡ false → go limits ts at 0 (batch ∷ below) ≡ go limits ts at 0 below
+  batch-over below isnt = go-same limits ts at 0 0 (batch ∷ below) below refl (rw isnt refl)
+
+  pub batch-goes : (below : List Symbol) → kind_at ts at ≡ code While →
+      go limits ts at 0 (batch ∷ below) ≡ go limits ts (at + 1) 0 (unit 0 ∷ ands 0 ∷ ors 0 ∷ the Limit ∷ the Number ∷ below)
+  batch-goes below k =
+      go-move limits ts at (code terminal.While) 0 0 (batch ∷ below) (condition ∷ the Limit ∷ the Number ∷ below) None k (lit< tt) refl
+      ∙ go-same limits ts (at + 1) 0 0 (condition ∷ the Limit ∷ the Number ∷ below) (unit 0 ∷ ands 0 ∷ ors 0 ∷ the Limit ∷ the Number ∷ below) refl refl
 
   -- attributes
   attr-move : (cores threads : ℕ) (below : List Symbol) (of_cores : Bool) → kind_at ts at ≡ attr_word of_cores →

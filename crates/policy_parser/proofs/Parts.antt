@@ -6,7 +6,6 @@ use Rattle.policy_syntax.specs.declared.syntax.FactorSyntax.{FactorSyntax}
 use Rattle.policy_syntax.specs.declared.syntax.TimesSyntax.{TimesSyntax}
 use Rattle.policy_syntax.specs.declared.syntax.TermSyntax.{TermSyntax}
 use Rattle.policy_syntax.specs.declared.syntax.AddedSyntax.{AddedSyntax}
-use Rattle.policy_syntax.specs.declared.syntax.KeySyntax.{KeySyntax}
 use Rattle.policy_grammar.specs.declared.terminal.Lexeme.{Lexeme}
 use Rattle.policy_grammar.specs.declared.terminal.Terminal.TheVariants.{Dot, Star, Minus, Comma, Number, Load, Count, Weight, Name, In, Start, Task, Gets, When, On, Begin, Finish}
 use Rattle.policy_grammar.specs.Terminals.{code, kind_at, value_at, word_at, is_word}
@@ -20,12 +19,13 @@ use Rattle.policy_syntax.specs.declared.syntax.CaseSyntax.{CaseSyntax}
 use Rattle.policy_syntax.specs.declared.syntax.HandlerSyntax.{HandlerSyntax}
 use Rattle.policy_tree.specs.declared.typed.Event.{Event}
 use Rattle.policy_tree.specs.declared.typed.Put.{Put}
-use Rattle.policy_syntax.specs.SyntaxTrees.{ConditionTree, CaseSyntaxTree, HandlerSyntaxTree, case_syntax_tree, handler_syntax_tree}
+use Rattle.policy_syntax.specs.SyntaxTrees.{ConditionTree, KeySyntaxTree, CaseSyntaxTree, HandlerSyntaxTree, case_syntax_tree, handler_syntax_tree}
 use Rattle.policy_parser.specs.Cases.{Cased}
 use Rattle.policy_parser.specs.Sections.{IsGuard}
 use Rattle.policy_syntax.specs.declared.syntax.LoadSyntax.TheVariants as load_is
 use Rattle.policy_grammar.specs.Policies.{IsLoad, load_count, load_weight, IsAttr, attr_of, IsAttrs, attrs_none, attrs_more, IsSets, sets_none, sets_more, IsCase, case_of, IsCases, cases_none, cases_more, IsHandler, handler_of, IsHandlers, handlers_none, handlers_more}
-use Rattle.policy_grammar.specs.Expressions.{IsInt, int_signed, IsRange, IsOperand, operand_reference, IsFactor, factor_signed, IsTimes, times_none, times_more, IsTerm, IsExpr, IsAdded, added_none, added_more, IsKey, IsKeys, keys_none, keys_more}
+use Rattle.policy_grammar.specs.Expressions.{IsInt, int_signed, IsRange, IsOperand, operand_reference, IsFactor, factor_signed, IsTimes, times_none, times_more, IsTerm, IsExpr, IsAdded, added_none, added_more}
+use Rattle.policy_grammar.specs.Orders.{IsKey, IsKeys, keys_none, keys_more}
 
 pub reference_of : {text : List ℕ} {ts : List Lexeme} {at dot next : ℕ} {w : List ℕ} (o : Owner) → kind_at ts at ≡ owner_word o → kind_at ts (at + 1) ≡ code Dot →
     dot ≡ at + 1 + 1 → is_word (kind_at ts dot) ≡ true → next ≡ dot + 1 → w ≡ word_at text ts dot → IsOperand text ts at (operand_is.Reference o w) next
@@ -52,7 +52,7 @@ pub added-snoc : {text : List ℕ} {ts : List Lexeme} {at mid to : ℕ} {us : Li
 added-snoc minus added_none k d = added_more minus k d added_none
 added-snoc minus (added_more m j e more) k d = added_more m j e (added-snoc minus more k d)
 
-pub keys-snoc : {text : List ℕ} {ts : List Lexeme} {at mid to : ℕ} {ks : List KeySyntax} {key : KeySyntax} → IsKeys text ts at ks mid →
+pub keys-snoc : {text : List ℕ} {ts : List Lexeme} {at mid to : ℕ} {ks : List KeySyntaxTree} {key : KeySyntaxTree} → IsKeys text ts at ks mid →
     kind_at ts mid ≡ code Comma → IsKey text ts (mid + 1) key to → IsKeys text ts at (ks ++ key ∷ []) to
 keys-snoc keys_none k d = keys_more k d keys_none
 keys-snoc (keys_more j e more) k d = keys_more j e (keys-snoc more k d)
@@ -100,7 +100,7 @@ set-parts {text = text} {ts = ts} {at = at} {dot = dot} {gets = gets} {value_at 
     (sets_more t d (subst (λ m. is_word (kind_at ts m) ≡ true) two is_a) (subst (λ m. kind_at ts m ≡ code Gets) three g)
     (subst (λ m. IsExpr text ts m v comma) four x) c sets_none))
 
-map-snoc : {X Y : Type 0} (f : X → Y) (xs : List X) (x : X) → map f (xs ++ x ∷ []) ≡ map f xs ++ f x ∷ []
+pub map-snoc : {X Y : Type 0} (f : X → Y) (xs : List X) (x : X) → map f (xs ++ x ∷ []) ≡ map f xs ++ f x ∷ []
 map-snoc f [] x = refl
 map-snoc f (y ∷ xs) x = ap (λ r. f y ∷ r) (map-snoc f xs x)
 

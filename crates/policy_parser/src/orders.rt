@@ -1,10 +1,11 @@
 //! Reads orders.
 
-ghost use Rattle.std.specs.Prelude.{◌≡◌, ◌<◌, ◌≤◌, ◌+◌, ◌∷◌, List, length, IfOk, IfSome, IfNone, false};
-ghost use Rattle.policy_grammar.specs.Terminals.{kind_at};
-ghost use Rattle.policy_grammar.specs.declared.terminal.Terminal.TheVariants.{Comma};
+ghost use Rattle.std.specs.Prelude.{◌≡◌, ◌==◌, ◌<◌, ◌≤◌, ◌+◌, ◌∷◌, List, length, IfOk, IfSome, IfNone, false};
+ghost use Rattle.policy_syntax.specs.SyntaxTrees.{key_syntax_tree, order_syntax_tree};
+ghost use Rattle.policy_grammar.specs.Terminals.{code, kind_at};
+ghost use Rattle.policy_grammar.specs.declared.terminal.Terminal.TheVariants.{Prefer};
 ghost use Rattle.policy_grammar.specs.Words.{key_word};
-ghost use Rattle.policy_grammar.specs.Expressions.{IsKey, IsOrder};
+ghost use Rattle.policy_grammar.specs.Orders.{IsKey, IsOrder};
 ghost use Rattle.policy_grammar.specs.Machine.{Symbol, order, key, keys, is_key, go};
 ghost use Rattle.policy_parser.specs.Answers.{Answers};
 
@@ -18,7 +19,7 @@ impl<'a> Source<'a> {
     pub(crate) fn order(&self, at: u32) -> Result<(OrderSyntax, u32), ParseFault>
         requires within { at ≤ length self.now.lexemes.now }
         ensures later { IfOk result (λ x. (at < x.1) × (x.1 ≤ length self.now.lexemes.now)) }
-        ensures is { IfOk result (λ x. IsOrder self.now.text.now self.now.lexemes.now at x.0 x.1) }
+        ensures is { IfOk result (λ x. IsOrder self.now.text.now self.now.lexemes.now at (order_syntax_tree x.0) x.1) }
         ensures reads { (below : List Symbol) →
             Answers (go self.now.limits self.now.lexemes.now at 0 (order ∷ below))
             (λ x. go self.now.limits self.now.lexemes.now x.1 0 below) result }
@@ -55,7 +56,44 @@ impl<'a> Source<'a> {
     fn key(&self, at: u32, before: u32) -> Result<(KeySyntax, u32), ParseFault>
         requires within { at ≤ length self.now.lexemes.now }
         ensures later { IfOk result (λ x. (at < x.1) × (x.1 ≤ length self.now.lexemes.now)) }
-        ensures is { IfOk result (λ x. IsKey self.now.text.now self.now.lexemes.now at x.0 x.1) }
+        ensures is { IfOk result (λ x.
+            IsKey self.now.text.now self.now.lexemes.now at (key_syntax_tree x.0) x.1) }
+        ensures reads { (below : List Symbol) →
+            Answers (go self.now.limits self.now.lexemes.now at 0 (key before ∷ below))
+            (λ x. go self.now.limits self.now.lexemes.now x.1 0 (keys (before + 1) ∷ below)) result }
+    {
+        if self.has(at, Terminal::Prefer) {
+            self.preference(at, before)
+        } else {
+            self.rank(at, before)
+        }
+    }
+
+    /// `prefer` and a condition, in the same way.
+    fn preference(&self, at: u32, before: u32) -> Result<(KeySyntax, u32), ParseFault>
+        requires within { at < length self.now.lexemes.now }
+        requires begins { kind_at self.now.lexemes.now at ≡ code Prefer }
+        ensures later { IfOk result (λ x. (at < x.1) × (x.1 ≤ length self.now.lexemes.now)) }
+        ensures is { IfOk result (λ x.
+            IsKey self.now.text.now self.now.lexemes.now at (key_syntax_tree x.0) x.1) }
+        ensures reads { (below : List Symbol) →
+            Answers (go self.now.limits self.now.lexemes.now at 0 (key before ∷ below))
+            (λ x. go self.now.limits self.now.lexemes.now x.1 0 (keys (before + 1) ∷ below)) result }
+    {
+        if before >= self.limits.keys {
+            return Err(ParseFault::Many(at, self.limits.keys));
+        }
+        let (condition, next, _count) = self.condition(at + 1, 0, 0)?;
+        Ok((KeySyntax::Preferring { at, condition }, next))
+    }
+
+    /// `min` or `max` and an expression, in the same way.
+    fn rank(&self, at: u32, before: u32) -> Result<(KeySyntax, u32), ParseFault>
+        requires within { at ≤ length self.now.lexemes.now }
+        requires ranks { (kind_at self.now.lexemes.now at == code Prefer) ≡ false }
+        ensures later { IfOk result (λ x. (at < x.1) × (x.1 ≤ length self.now.lexemes.now)) }
+        ensures is { IfOk result (λ x.
+            IsKey self.now.text.now self.now.lexemes.now at (key_syntax_tree x.0) x.1) }
         ensures reads { (below : List Symbol) →
             Answers (go self.now.limits self.now.lexemes.now at 0 (key before ∷ below))
             (λ x. go self.now.limits self.now.lexemes.now x.1 0 (keys (before + 1) ∷ below)) result }
@@ -69,7 +107,7 @@ impl<'a> Source<'a> {
         }
         let (value, next) = self.expression(at + 1, 0)?;
         Ok((
-            KeySyntax {
+            KeySyntax::Ranked {
                 at,
                 greatest,
                 value,

@@ -1,7 +1,8 @@
 //! Reads the declarations of a policy, and its rules of placing and electing.
 
 ghost use Rattle.std.specs.Prelude.{◌≡◌, ◌==◌, ◌<◌, ◌≤◌, ◌+◌, ◌∷◌, ℕ, List, length, IfOk, IfSome, IfNone, IsTrue};
-ghost use Rattle.std.specs.Prelude.{false, ◌^◌, ◌-◌};
+ghost use Rattle.std.specs.Prelude.{false, ◌^◌, ◌-◌, option_map};
+ghost use Rattle.policy_syntax.specs.SyntaxTrees.{elect_syntax_tree};
 ghost use Rattle.policy_grammar.specs.declared.terminal.Terminal.TheVariants.{Core, Thread, Load, Range, In, Start};
 ghost use Rattle.policy_grammar.specs.declared.terminal.Terminal.TheVariants.{Name};
 ghost use Rattle.policy_grammar.specs.Terminals.{code, kind_at, word_at};
@@ -158,7 +159,8 @@ impl<'a> Source<'a> {
     pub(crate) fn elect(&self, at: u32) -> Result<(Option<ElectSyntax>, u32), ParseFault>
         requires within { at ≤ length self.now.lexemes.now }
         ensures later { IfOk result (λ x. (at ≤ x.1) × (x.1 ≤ length self.now.lexemes.now)) }
-        ensures is { IfOk result (λ x. IsElect self.now.text.now self.now.lexemes.now at x.0 x.1) }
+        ensures is { IfOk result
+            (λ x. IsElect self.now.text.now self.now.lexemes.now at (option_map elect_syntax_tree x.0) x.1) }
         ensures reads { (below : List Symbol) →
             Answers (go self.now.limits self.now.lexemes.now at 0 (elect ∷ below))
             (λ x. go self.now.limits self.now.lexemes.now x.1 0 below) result }

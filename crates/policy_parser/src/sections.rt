@@ -1,23 +1,24 @@
 //! Reads whole policies, section by section.
 
-ghost use Rattle.std.specs.Prelude.{None, ◌≡◌, ◌<◌, ◌≤◌, ◌+◌, ◌∷◌, [], ℕ, List, length, IfOk, map};
+ghost use Rattle.std.specs.Prelude.{None, ◌≡◌, ◌<◌, ◌≤◌, ◌+◌, ◌∷◌, [], ℕ, List, length, IfOk, map, option_map};
 ghost use Rattle.policy_grammar.specs.declared.terminal.Terminal.TheVariants.{Policy, Name, Load, Filter, Choose};
-ghost use Rattle.policy_grammar.specs.declared.terminal.Terminal.TheVariants.{Steal};
-ghost use Rattle.policy_grammar.specs.Terminals.{code, kind_at};
-ghost use Rattle.policy_grammar.specs.Expressions.{IsOrder};
-ghost use Rattle.policy_grammar.specs.Policies.{IsPolicy};
+ghost use Rattle.policy_grammar.specs.declared.terminal.Terminal.TheVariants.{Steal, Limit, Number};
+ghost use Rattle.policy_grammar.specs.Terminals.{code, kind_at, value_at};
+ghost use Rattle.policy_grammar.specs.Orders.{IsOrder};
+ghost use Rattle.policy_grammar.specs.Policies.{IsBatch, IsPolicy};
 ghost use Rattle.policy_grammar.specs.Machine.{Symbol, the, load_rule, attrs, place, elect, handlers, condition, order};
-ghost use Rattle.policy_grammar.specs.Machine.{start, go};
-ghost use Rattle.policy_syntax.specs.SyntaxTrees.{condition_tree, handler_syntax_tree, syntax_tree};
+ghost use Rattle.policy_grammar.specs.Machine.{batch, start, go};
+ghost use Rattle.policy_syntax.specs.SyntaxTrees.{batch_syntax_tree, condition_tree, elect_syntax_tree};
+ghost use Rattle.policy_syntax.specs.SyntaxTrees.{handler_syntax_tree, order_syntax_tree, syntax_tree};
 ghost use Rattle.policy_parser.specs.Answers.{Answers};
-ghost use Rattle.policy_parser.specs.Sections.{IsHeader, IsRules, IsFront, IsChoices, IsBack};
+ghost use Rattle.policy_parser.specs.Sections.{IsHeader, IsRules, IsFront, IsSteals, IsChoices, IsBack};
 
 use crate::source::{Source, both};
 use lists::Items;
 use policy_grammar::{ParseFault, Terminal};
 use policy_syntax::{
-    AttrSyntax, ConditionSyntax, ElectSyntax, HandlerSyntax, LoadSyntax, OrderSyntax, PlaceSyntax,
-    Syntax,
+    AttrSyntax, BatchSyntax, ConditionSyntax, ElectSyntax, HandlerSyntax, LoadSyntax, OrderSyntax,
+    PlaceSyntax, Syntax,
 };
 use policy_tree::Name;
 
@@ -41,6 +42,7 @@ struct Back {
     choose: OrderSyntax,
     steal_at: u32,
     steal: OrderSyntax,
+    batch: Option<BatchSyntax>,
 }
 
 impl<'a> Source<'a> {
@@ -64,6 +66,7 @@ impl<'a> Source<'a> {
             choose: back.choose,
             steal_at: back.steal_at,
             steal: back.steal,
+            batch: back.batch,
         })
     }
 
@@ -71,7 +74,8 @@ impl<'a> Source<'a> {
     fn front(&self) -> Result<(Front, u32), ParseFault>
         ensures within { IfOk result (λ x. x.1 ≤ length self.now.lexemes.now) }
         ensures is { IfOk result (λ x.
-            IsFront self.now.text.now self.now.lexemes.now x.0.name x.0.load x.0.attrs x.0.place x.0.elect x.1) }
+            IsFront self.now.text.now self.now.lexemes.now x.0.name x.0.load x.0.attrs x.0.place
+            (option_map elect_syntax_tree x.0.elect) x.1) }
         ensures reads { (below : List Symbol) →
             Answers (go self.now.limits self.now.lexemes.now 0 0
             (the Policy ∷ the Name ∷ the Load ∷ load_rule ∷ attrs 0 0 ∷ place ∷ elect ∷ below))
@@ -110,7 +114,8 @@ impl<'a> Source<'a> {
     fn rules(&self, at: u32) -> Result<(Option<PlaceSyntax>, Option<ElectSyntax>, u32), ParseFault>
         requires within { at ≤ length self.now.lexemes.now }
         ensures within { IfOk result (λ x. x.2 ≤ length self.now.lexemes.now) }
-        ensures is { IfOk result (λ x. IsRules self.now.text.now self.now.lexemes.now at x.0 x.1 x.2) }
+        ensures is { IfOk result (λ x. IsRules self.now.text.now self.now.lexemes.now at x.0
+            (option_map elect_syntax_tree x.1) x.2) }
         ensures reads { (below : List Symbol) →
             Answers (go self.now.limits self.now.lexemes.now at 0 (place ∷ elect ∷ below))
             (λ x. go self.now.limits self.now.lexemes.now x.2 0 below) result }
@@ -125,15 +130,16 @@ impl<'a> Source<'a> {
         requires within { at ≤ length self.now.lexemes.now }
         ensures is { IfOk result (λ b. IsBack self.now.text.now self.now.lexemes.now at
             (map handler_syntax_tree b.handlers) b.filter_at
-            (condition_tree b.filter) b.choose_at b.choose b.steal_at b.steal) }
+            (condition_tree b.filter) b.choose_at (order_syntax_tree b.choose) b.steal_at (order_syntax_tree b.steal)
+            (option_map batch_syntax_tree b.batch)) }
         ensures reads { Answers (go self.now.limits self.now.lexemes.now at 0
-            (handlers ∷ the Filter ∷ condition ∷ the Choose ∷ order ∷ the Steal ∷ order ∷ []))
+            (handlers ∷ the Filter ∷ condition ∷ the Choose ∷ order ∷ the Steal ∷ order ∷ batch ∷ []))
             (λ b. None) result }
     {
         let (handlers, filter_at) = self.handlers(at)?;
         let guard_at = self.expect(filter_at, Terminal::Filter)?;
         let (filter, choose_at, _count) = self.condition(guard_at, 0, 0)?;
-        let (filter, (choose, steal_at, steal)) = both(filter, self.choices(choose_at))?;
+        let (filter, (choose, steal_at, steal, batch)) = both(filter, self.choices(choose_at))?;
         Ok(Back {
             handlers,
             filter_at,
@@ -142,22 +148,82 @@ impl<'a> Source<'a> {
             choose,
             steal_at,
             steal,
+            batch,
         })
     }
 
-    /// The order of the cores to steal from, the place of the other, and the order of the threads to steal.
-    fn choices(&self, at: u32) -> Result<(OrderSyntax, u32, OrderSyntax), ParseFault>
-        ensures is { IfOk result (λ x. IsChoices self.now.text.now self.now.lexemes.now at x.0 x.1 x.2) }
+    /// The order of the cores to steal from, the place of the other, the order of the threads to steal, and the batch.
+    fn choices(
+        &self,
+        at: u32,
+    ) -> Result<(OrderSyntax, u32, OrderSyntax, Option<BatchSyntax>), ParseFault>
+        ensures is { IfOk result (λ x. IsChoices self.now.text.now self.now.lexemes.now at (order_syntax_tree x.0) x.1
+            (order_syntax_tree x.2) (option_map batch_syntax_tree x.3)) }
         ensures reads { (count : ℕ) →
-            Answers (go self.now.limits self.now.lexemes.now at count (the Choose ∷ order ∷ the Steal ∷ order ∷ []))
+            Answers (go self.now.limits self.now.lexemes.now at count
+            (the Choose ∷ order ∷ the Steal ∷ order ∷ batch ∷ []))
             (λ x. None) result }
     {
         let (choose, steal_at) = self.order_behind(at, Terminal::Choose)?;
-        let (steal, end) = self.order_behind(steal_at, Terminal::Steal)?;
+        let (choose, (steal, batch)) = both(choose, self.steals(steal_at))?;
+        Ok((choose, steal_at, steal, batch))
+    }
+
+    /// The order of the threads to steal and the batch, behind which nothing stands.
+    fn steals(&self, at: u32) -> Result<(OrderSyntax, Option<BatchSyntax>), ParseFault>
+        ensures is { IfOk result (λ x. IsSteals self.now.text.now self.now.lexemes.now at (order_syntax_tree x.0)
+            (option_map batch_syntax_tree x.1)) }
+        ensures reads { (count : ℕ) →
+            Answers (go self.now.limits self.now.lexemes.now at count (the Steal ∷ order ∷ batch ∷ []))
+            (λ x. None) result }
+    {
+        let (steal, batch_at) = self.order_behind(at, Terminal::Steal)?;
+        let (steal, (batch, end)) = both(steal, self.batch(batch_at))?;
         if (end as usize) < self.lexemes.len() {
             return Err(ParseFault::Unexpected(end));
         }
-        Ok((choose, steal_at, steal))
+        Ok((steal, batch))
+    }
+
+    /// The batch, if there is one.
+    fn batch(&self, at: u32) -> Result<(Option<BatchSyntax>, u32), ParseFault>
+        requires within { at ≤ length self.now.lexemes.now }
+        ensures within { IfOk result (λ x. x.1 ≤ length self.now.lexemes.now) }
+        ensures is { IfOk result (λ x.
+            IsBatch self.now.text.now self.now.lexemes.now at (option_map batch_syntax_tree x.0) x.1) }
+        ensures reads { (below : List Symbol) →
+            Answers (go self.now.limits self.now.lexemes.now at 0 (batch ∷ below))
+            (λ x. go self.now.limits self.now.lexemes.now x.1 0 below) result }
+    {
+        if !self.has(at, Terminal::While) {
+            return Ok((None, at));
+        }
+        let (condition, word_at, _count) = self.condition(at + 1, 0, 0)?;
+        let (condition, (limit, next)) = both(condition, self.limit(word_at))?;
+        Ok((
+            Some(BatchSyntax {
+                at,
+                condition,
+                limit_at: word_at + 1,
+                limit,
+            }),
+            next,
+        ))
+    }
+
+    /// The number behind `limit`, which must stand there.
+    fn limit(&self, at: u32) -> Result<(u64, u32), ParseFault>
+        ensures next { IfOk result (λ x. (x.1 ≡ at + 2) × (x.1 ≤ length self.now.lexemes.now)) }
+        ensures begins { IfOk result (λ x. kind_at self.now.lexemes.now at ≡ code Limit) }
+        ensures is { IfOk result (λ x. kind_at self.now.lexemes.now (at + 1) ≡ code Number) }
+        ensures value { IfOk result (λ x. x.0 ≡ value_at self.now.lexemes.now (at + 1)) }
+        ensures reads { (count : ℕ) (below : List Symbol) →
+            Answers (go self.now.limits self.now.lexemes.now at count (the Limit ∷ the Number ∷ below))
+            (λ x. go self.now.limits self.now.lexemes.now x.1 0 below) result }
+    {
+        let number_at = self.expect(at, Terminal::Limit)?;
+        let next = self.expect(number_at, Terminal::Number)?;
+        Ok((self.lexeme(number_at).value, next))
     }
 
     /// An order behind that word.
@@ -165,7 +231,8 @@ impl<'a> Source<'a> {
         requires real { 0 < code word }
         ensures within { IfOk result (λ x. x.1 ≤ length self.now.lexemes.now) }
         ensures begins { IfOk result (λ x. kind_at self.now.lexemes.now at ≡ code word) }
-        ensures is { IfOk result (λ x. IsOrder self.now.text.now self.now.lexemes.now (at + 1) x.0 x.1) }
+        ensures is { IfOk result (λ x. IsOrder self.now.text.now self.now.lexemes.now (at + 1)
+            (order_syntax_tree x.0) x.1) }
         ensures reads { (count : ℕ) (below : List Symbol) →
             Answers (go self.now.limits self.now.lexemes.now at count (the word ∷ order ∷ below))
             (λ x. go self.now.limits self.now.lexemes.now x.1 0 below) result }

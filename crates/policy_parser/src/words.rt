@@ -9,7 +9,7 @@ use policy_lexer::{Symbol, Token, TokenKind};
 use std::alloc::{AllocError, Global};
 
 /// The reserved words, and what each is to the grammar.
-const RESERVED: [(&str, Terminal); 34] = [
+const RESERVED: [(&str, Terminal); 37] = [
     ("policy", Terminal::Policy),
     ("load", Terminal::Load),
     ("count", Terminal::Count),
@@ -42,6 +42,9 @@ const RESERVED: [(&str, Terminal); 34] = [
     ("self", Terminal::Itself),
     ("victim", Terminal::Victim),
     ("t", Terminal::Task),
+    ("while", Terminal::While),
+    ("limit", Terminal::Limit),
+    ("prefer", Terminal::Prefer),
     ("nr", Terminal::Reserved),
     ("fresh", Terminal::Reserved),
 ];

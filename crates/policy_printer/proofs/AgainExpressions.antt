@@ -1,4 +1,4 @@
--- What the grammar has of some tokens, it has of tokens that are alike: expressions and orders.
+-- What the grammar has of some tokens, it has of tokens that are alike: expressions.
 use Rattle.std.proofs.Common.{◌≡◌, ◌∙◌, ◌+◌, ℕ, List, true, false, ap, subst}
 use Rattle.policy_syntax.specs.declared.syntax.IntSyntax.{IntSyntax}
 use Rattle.policy_syntax.specs.declared.syntax.RangeSyntax.{RangeSyntax}
@@ -9,11 +9,9 @@ use Rattle.policy_syntax.specs.declared.syntax.TimesSyntax.{TimesSyntax}
 use Rattle.policy_syntax.specs.declared.syntax.TermSyntax.{TermSyntax}
 use Rattle.policy_syntax.specs.declared.syntax.AddedSyntax.{AddedSyntax}
 use Rattle.policy_syntax.specs.declared.syntax.ExprSyntax.{ExprSyntax}
-use Rattle.policy_syntax.specs.declared.syntax.KeySyntax.{KeySyntax}
-use Rattle.policy_syntax.specs.declared.syntax.OrderSyntax.{OrderSyntax}
 use Rattle.policy_grammar.specs.declared.terminal.Lexeme.{Lexeme}
 use Rattle.policy_grammar.specs.Terminals.{kind_at, is_word}
-use Rattle.policy_grammar.specs.Expressions.{IsInt, int_plain, int_signed, IsRange, range_of, IsOperand, operand_number, operand_reference, IsFactor, factor_plain, factor_signed, IsTimes, times_none, times_more, IsTerm, term_of, IsAdded, added_none, added_more, IsExpr, expr_of, IsKey, key_of, IsKeys, keys_none, keys_more, IsOrder, order_first, order_keys}
+use Rattle.policy_grammar.specs.Expressions.{IsInt, int_plain, int_signed, IsRange, range_of, IsOperand, operand_number, operand_reference, IsFactor, factor_plain, factor_signed, IsTimes, times_none, times_more, IsTerm, term_of, IsAdded, added_none, added_more, IsExpr, expr_of}
 use Rattle.policy_printer.proofs.Alike.{Alike}
 
 module _ (text : List ℕ) (ts : List Lexeme) (other : List ℕ) (us : List Lexeme) (like : Alike text ts other us) where
@@ -58,14 +56,3 @@ module _ (text : List ℕ) (ts : List Lexeme) (other : List ℕ) (us : List Lexe
 
   pub expr-again : {at to : ℕ} {v : ExprSyntax} → IsExpr text ts at v to → IsExpr other us at v to
   expr-again (expr_of d more) = expr_of (term-again d) (added-again more)
-
-  key-again : {at to : ℕ} {v : KeySyntax} → IsKey text ts at v to → IsKey other us at v to
-  key-again {at = at} (key_of greatest k d) = key_of greatest (kind-again at k) (expr-again d)
-
-  keys-again : {at to : ℕ} {v : List KeySyntax} → IsKeys text ts at v to → IsKeys other us at v to
-  keys-again keys_none = keys_none
-  keys-again {at = at} (keys_more k d more) = keys_more (kind-again at k) (key-again d) (keys-again more)
-
-  pub order-again : {at to : ℕ} {v : OrderSyntax} → IsOrder text ts at v to → IsOrder other us at v to
-  order-again {at = at} (order_first k) = order_first (kind-again at k)
-  order-again (order_keys d more) = order_keys (key-again d) (keys-again more)

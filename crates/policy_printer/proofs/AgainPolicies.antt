@@ -1,19 +1,18 @@
--- What the grammar has of some tokens, it has of tokens that are alike: conditions and policies.
-use Rattle.std.proofs.Common.{◌≡◌, ◌+◌, ℕ, List, ◌∷◌, Option, refl, sym, subst}
+-- What the grammar has of some tokens, it has of tokens that are alike: conditions, orders and policies.
+use Rattle.std.proofs.Common.{◌≡◌, ◌+◌, ℕ, List, ◌∷◌, Option, Some, refl, sym, subst}
 use Rattle.policy_syntax.specs.declared.syntax.LoadSyntax.{LoadSyntax}
 use Rattle.policy_syntax.specs.declared.syntax.AttrSyntax.{AttrSyntax}
 use Rattle.policy_syntax.specs.declared.syntax.PlaceSyntax.{PlaceSyntax}
-use Rattle.policy_syntax.specs.declared.syntax.ElectSyntax.{ElectSyntax}
 use Rattle.policy_syntax.specs.declared.syntax.SetSyntax.{SetSyntax}
-use Rattle.policy_syntax.specs.SyntaxTrees.{ConditionTree, ConditionTrees, CaseSyntaxTree, HandlerSyntaxTree, SyntaxTree}
+use Rattle.policy_syntax.specs.SyntaxTrees.{ConditionTree, ConditionTrees, KeySyntaxTree, OrderSyntaxTree, ElectSyntaxTree, BatchSyntaxTree, CaseSyntaxTree, HandlerSyntaxTree, SyntaxTree}
 use Rattle.policy_grammar.specs.declared.terminal.Lexeme.{Lexeme}
 use Rattle.policy_grammar.specs.declared.terminal.Terminal.TheVariants as terminal
 use Rattle.policy_grammar.specs.Terminals.{code, kind_at, word_at}
-use Rattle.policy_grammar.specs.Expressions.{IsOrder}
 use Rattle.policy_grammar.specs.Conditions.{IsUnit, unit_always, unit_not, unit_group, unit_test, IsAnds, ands_none, ands_more, IsConjunction, conjunction_of, IsOrs, ors_none, ors_more, IsCondition, condition_of}
-use Rattle.policy_grammar.specs.Policies.{IsLoad, load_count, load_weight, IsAttr, attr_of, IsAttrs, attrs_none, attrs_more, IsPlace, place_none, place_here, place_least, IsElect, elect_none, elect_some, IsSets, sets_none, sets_more, IsCase, case_of, IsCases, cases_none, cases_more, IsHandler, handler_of, IsHandlers, handlers_none, handlers_more, IsPolicy, policy_of}
+use Rattle.policy_grammar.specs.Orders.{IsKey, key_ranked, key_preferring, IsKeys, keys_none, keys_more, IsOrder, order_first, order_keys}
+use Rattle.policy_grammar.specs.Policies.{IsLoad, load_count, load_weight, IsAttr, attr_of, IsAttrs, attrs_none, attrs_more, IsPlace, place_none, place_here, place_least, IsElect, elect_none, elect_some, IsBatch, batch_none, batch_some, IsSets, sets_none, sets_more, IsCase, case_of, IsCases, cases_none, cases_more, IsHandler, handler_of, IsHandlers, handlers_none, handlers_more, IsPolicy, policy_of}
 use Rattle.policy_printer.proofs.Alike.{Alike}
-use Rattle.policy_printer.proofs.AgainExpressions.{kind-again, word-again, int-again, range-again, expr-again, order-again}
+use Rattle.policy_printer.proofs.AgainExpressions.{kind-again, word-again, int-again, range-again, expr-again}
 
 module _ (text : List ℕ) (ts : List Lexeme) (other : List ℕ) (us : List Lexeme) (like : Alike text ts other us) where
   kind : {k : ℕ} (at : ℕ) → kind_at ts at ≡ k → kind_at us at ≡ k
@@ -41,6 +40,24 @@ module _ (text : List ℕ) (ts : List Lexeme) (other : List ℕ) (us : List Lexe
     condition-again : {at to : ℕ} {v : ConditionTree} → IsCondition text ts at v to → IsCondition other us at v to
     condition-again (condition_of first rest d are) = condition_of first rest (conjunction-again d) (ors-again are)
 
+  key-again : {at to : ℕ} {v : KeySyntaxTree} → IsKey text ts at v to → IsKey other us at v to
+  key-again {at = at} (key_ranked greatest k d) = key_ranked greatest (kind at k) (expr-again text ts other us like d)
+  key-again {at = at} (key_preferring k d) = key_preferring (kind at k) (condition-again d)
+
+  keys-again : {at to : ℕ} {v : List KeySyntaxTree} → IsKeys text ts at v to → IsKeys other us at v to
+  keys-again keys_none = keys_none
+  keys-again {at = at} (keys_more k d more) = keys_more (kind at k) (key-again d) (keys-again more)
+
+  order-again : {at to : ℕ} {v : OrderSyntaxTree} → IsOrder text ts at v to → IsOrder other us at v to
+  order-again {at = at} (order_first k) = order_first (kind at k)
+  order-again (order_keys d more) = order_keys (key-again d) (keys-again more)
+
+  batch-again : {at to : ℕ} {v : Option BatchSyntaxTree} → IsBatch text ts at v to → IsBatch other us at v to
+  batch-again batch_none = batch_none
+  batch-again {at = at} (batch_some {mid = mid} {condition = v} w d l n) =
+      subst (λ (limit : ℕ). IsBatch other us at (Some (record { at = at; condition = v; limit_at = mid + 1; limit = limit })) (mid + 2)) (like.value (mid + 1))
+      (batch_some (kind at w) (condition-again d) (kind mid l) (kind (mid + 1) n))
+
   load-again : {at to : ℕ} {v : LoadSyntax} → IsLoad ts at v to → IsLoad us at v to
   load-again {at = at} (load_count k c) = load_count (kind at k) (kind (at + 1) c)
   load-again {at = at} (load_weight k w d) = load_weight (kind at k) (kind (at + 1) w) (range-again text ts other us like d)
@@ -64,9 +81,9 @@ module _ (text : List ℕ) (ts : List Lexeme) (other : List ℕ) (us : List Lexe
   place-again {at = at} (place_here k h) = place_here (kind at k) (kind (at + 1) h)
   place-again {at = at} (place_least k m d) = place_least (kind at k) (kind (at + 1) m) (expr-again text ts other us like d)
 
-  elect-again : {at to : ℕ} {v : Option ElectSyntax} → IsElect text ts at v to → IsElect other us at v to
+  elect-again : {at to : ℕ} {v : Option ElectSyntaxTree} → IsElect text ts at v to → IsElect other us at v to
   elect-again elect_none = elect_none
-  elect-again {at = at} (elect_some k d) = elect_some (kind at k) (order-again text ts other us like d)
+  elect-again {at = at} (elect_some k d) = elect_some (kind at k) (order-again d)
 
   sets-again : {at to : ℕ} {v : List SetSyntax} → IsSets text ts at v to → IsSets other us at v to
   sets-again sets_none = sets_none
@@ -92,8 +109,8 @@ module _ (text : List ℕ) (ts : List Lexeme) (other : List ℕ) (us : List Lexe
 
   pub policy-again : {s : SyntaxTree} → IsPolicy text ts s → IsPolicy other us s
   policy-again
-      (policy_of {at_filter = at_filter} {at_choose = at_choose} {at_steal = at_steal} {load = load} {attrs = attrs} {place = place} {elect = elect}
-      {handlers = handlers} {filter = filter} {choose = choose} {steal = steal} k0 k1 dl da dp de dh kf df kc dc ks ds) =
+      (policy_of {at_filter = at_filter} {at_choose = at_choose} {at_steal = at_steal} {at_batch = at_batch} {load = load} {attrs = attrs} {place = place} {elect = elect}
+      {handlers = handlers} {filter = filter} {choose = choose} {steal = steal} {batch = batch} k0 k1 dl da dp de dh kf df kc dc ks ds db) =
       subst (λ (name : List ℕ). IsPolicy other us (record {
         name = name;
         load = load;
@@ -107,7 +124,9 @@ module _ (text : List ℕ) (ts : List Lexeme) (other : List ℕ) (us : List Lexe
         choose = choose;
         steal_at = at_steal;
         steal = steal;
+        batch = batch;
       })) (name-again 1 k1)
       (policy_of (kind 0 k0) (kind 1 k1) (load-again dl) (attrs-again da) (place-again dp) (elect-again de) (handlers-again dh) (kind at_filter kf)
-      (condition-again df) (kind at_choose kc) (order-again text ts other us like dc) (kind at_steal ks)
-      (subst (λ n. IsOrder other us (at_steal + 1) steal n) (sym like.size) (order-again text ts other us like ds)))
+      (condition-again df) (kind at_choose kc) (order-again dc) (kind at_steal ks)
+      (order-again ds)
+      (subst (λ n. IsBatch other us at_batch batch n) (sym like.size) (batch-again db)))

@@ -10,5 +10,7 @@ pub mod AgainPolicies
 pub mod WordTable
 pub mod Spells
 pub mod SpelledExpressions
+pub mod SpelledConditions
+pub mod SpelledOrders
 pub mod SpelledPolicies
 pub mod ReadAgain

@@ -1,4 +1,4 @@
--- The tokens of a part are its printed tokens: expressions and orders.
+-- The tokens of a part are its printed tokens: expressions.
 use Rattle.std.proofs.Common.{◌≡◌, ◌+◌, ℕ, List, [], ◌∷◌, Bool, true, false, map, lit<, refl, arith}
 use Rattle.std.specs.List.{flat_map}
 use Rattle.policy_syntax.specs.declared.syntax.IntSyntax.{IntSyntax}
@@ -11,17 +11,15 @@ use Rattle.policy_syntax.specs.declared.syntax.TimesSyntax.{TimesSyntax}
 use Rattle.policy_syntax.specs.declared.syntax.TermSyntax.{TermSyntax}
 use Rattle.policy_syntax.specs.declared.syntax.AddedSyntax.{AddedSyntax}
 use Rattle.policy_syntax.specs.declared.syntax.ExprSyntax.{ExprSyntax}
-use Rattle.policy_syntax.specs.declared.syntax.KeySyntax.{KeySyntax}
-use Rattle.policy_syntax.specs.declared.syntax.OrderSyntax.{OrderSyntax}
 use Rattle.policy_lexer.specs.declared.token.Symbol.TheVariants as sign
 use Rattle.policy_lexer.specs.declared.token.Token.{Token}
 use Rattle.policy_grammar.specs.Lexemes.{reserved_words, lexemes_of}
 use Rattle.policy_grammar.specs.declared.terminal.Terminal.TheVariants as terminal
 use Rattle.policy_grammar.specs.Terminals.{code, kind_at}
-use Rattle.policy_grammar.specs.Words.{key_word, sign_word, owner_word}
-use Rattle.policy_grammar.specs.Expressions.{IsInt, int_plain, int_signed, IsRange, range_of, IsOperand, operand_number, operand_reference, IsFactor, factor_plain, factor_signed, IsTimes, times_none, times_more, IsTerm, term_of, IsAdded, added_none, added_more, IsExpr, expr_of, IsKey, key_of, IsKeys, keys_none, keys_more, IsOrder, order_first, order_keys}
-use Rattle.policy_printer.specs.WordTexts.{key_text, sign_text, owner_text}
-use Rattle.policy_printer.specs.ExpressionTexts.{int_texts, range_texts, operand_texts, factor_texts, times_texts, term_texts, added_texts, expr_texts, key_texts, further_key_texts, order_texts}
+use Rattle.policy_grammar.specs.Words.{sign_word, owner_word}
+use Rattle.policy_grammar.specs.Expressions.{IsInt, int_plain, int_signed, IsRange, range_of, IsOperand, operand_number, operand_reference, IsFactor, factor_plain, factor_signed, IsTimes, times_none, times_more, IsTerm, term_of, IsAdded, added_none, added_more, IsExpr, expr_of}
+use Rattle.policy_printer.specs.WordTexts.{sign_text, owner_text}
+use Rattle.policy_printer.specs.ExpressionTexts.{int_texts, range_texts, operand_texts, factor_texts, times_texts, term_texts, added_texts, expr_texts}
 use Rattle.policy_printer.proofs.Laid.{texts}
 use Rattle.policy_printer.proofs.Normal.{normal}
 use Rattle.policy_printer.proofs.Spells.{Spells, ◌▹◌, nothing, reserved, symbol, word, number}
@@ -77,20 +75,3 @@ module _ (text : List ℕ) (tokens : List Token) where
 
   pub expr-spells : {at to : ℕ} {v : ExprSyntax} → IsExpr text (lexemes_of text tokens) at v to → Are at (expr_texts v) to
   expr-spells (expr_of d more) = term-spells d ▹ added-spells more
-
-  greatest-spells : {at : ℕ} (greatest : Bool) → kind_at (lexemes_of text tokens) at ≡ key_word greatest → Are at (key_text greatest ∷ []) (at + 1)
-  unfolding reserved_words
-  greatest-spells true k = reserved text tokens (code terminal.Max) refl k (lit< tt) (lit< tt)
-  greatest-spells false k = reserved text tokens (code terminal.Min) refl k (lit< tt) (lit< tt)
-
-  key-spells : {at to : ℕ} {v : KeySyntax} → IsKey text (lexemes_of text tokens) at v to → Are at (key_texts v) to
-  key-spells (key_of greatest k d) = greatest-spells greatest k ▹ expr-spells d
-
-  keys-spells : {at to : ℕ} {v : List KeySyntax} → IsKeys text (lexemes_of text tokens) at v to → Are at (flat_map further_key_texts v) to
-  keys-spells keys_none = nothing
-  keys-spells (keys_more k d more) = (symbol text tokens sign.Comma refl k (lit< tt) ▹ key-spells d) ▹ keys-spells more
-
-  pub order-spells : {at to : ℕ} {v : OrderSyntax} → IsOrder text (lexemes_of text tokens) at v to → Are at (order_texts v) to
-  unfolding reserved_words
-  order-spells (order_first k) = reserved text tokens (code terminal.First) refl k (lit< tt) (lit< tt)
-  order-spells (order_keys d more) = key-spells d ▹ keys-spells more

@@ -1,8 +1,6 @@
--- The tokens of a part are its printed tokens: conditions and policies.
-use Rattle.std.proofs.Common.{◌≡◌, ◌+◌, ℕ, List, [], ◌∷◌, ◌++◌, length, Option, Bool, true, false, codes, lit<, refl, arith, append-nil}
+-- The tokens of a part are its printed tokens: policies.
+use Rattle.std.proofs.Common.{◌≡◌, ◌+◌, ℕ, List, [], ◌∷◌, length, Option, Bool, true, false, lit<, refl, arith}
 use Rattle.std.specs.List.{flat_map}
-use Rattle.policy_tree.specs.declared.trees.Cmp.{Cmp}
-use Rattle.policy_tree.specs.declared.trees.Cmp.TheVariants as cmp
 use Rattle.policy_tree.specs.declared.typed.Event.{Event}
 use Rattle.policy_tree.specs.declared.typed.Event.TheVariants as event
 use Rattle.policy_tree.specs.declared.typed.Put.{Put}
@@ -10,32 +8,21 @@ use Rattle.policy_tree.specs.declared.typed.Put.TheVariants as put
 use Rattle.policy_syntax.specs.declared.syntax.LoadSyntax.{LoadSyntax}
 use Rattle.policy_syntax.specs.declared.syntax.AttrSyntax.{AttrSyntax}
 use Rattle.policy_syntax.specs.declared.syntax.PlaceSyntax.{PlaceSyntax}
-use Rattle.policy_syntax.specs.declared.syntax.ElectSyntax.{ElectSyntax}
 use Rattle.policy_syntax.specs.declared.syntax.SetSyntax.{SetSyntax}
-use Rattle.policy_syntax.specs.SyntaxTrees.{ConditionTree, ConditionTrees, no_more, more, CaseSyntaxTree, HandlerSyntaxTree, SyntaxTree}
+use Rattle.policy_syntax.specs.SyntaxTrees.{ElectSyntaxTree, BatchSyntaxTree, CaseSyntaxTree, HandlerSyntaxTree, SyntaxTree}
 use Rattle.policy_lexer.specs.declared.token.Symbol.TheVariants as sign
 use Rattle.policy_lexer.specs.declared.token.Token.{Token}
 use Rattle.policy_grammar.specs.Lexemes.{reserved_words, lexemes_of}
 use Rattle.policy_grammar.specs.declared.terminal.Terminal.TheVariants as terminal
 use Rattle.policy_grammar.specs.Terminals.{code, kind_at, word_at}
-use Rattle.policy_grammar.specs.Words.{attr_word, event_word, put_word, compare_word}
-use Rattle.policy_grammar.specs.Conditions.{conjunction, disjunction, IsUnit, unit_always, unit_not, unit_group, unit_test, IsAnds, ands_none, ands_more, IsConjunction, conjunction_of, IsOrs, ors_none, ors_more, IsCondition, condition_of}
-use Rattle.policy_grammar.specs.Policies.{IsLoad, load_count, load_weight, IsAttr, attr_of, IsAttrs, attrs_none, attrs_more, IsPlace, place_none, place_here, place_least, IsElect, elect_none, elect_some, IsSets, sets_none, sets_more, IsCase, case_of, IsCases, cases_none, cases_more, IsHandler, handler_of, IsHandlers, handlers_none, handlers_more, IsPolicy, policy_of}
-use Rattle.policy_printer.specs.WordTexts.{kind_text, event_text, put_text, compare_text}
-use Rattle.policy_printer.specs.ConditionTexts.{condition_texts, further_texts}
-use Rattle.policy_printer.specs.PolicyTexts.{load_texts, attr_texts, place_texts, elect_texts, set_texts, case_texts, handler_texts, policy_texts}
-use Rattle.policy_printer.proofs.SpelledExpressions.{Are, int-spells, range-spells, expr-spells, order-spells}
-use Rattle.policy_printer.proofs.Spells.{◌▹◌, nothing, spells-as, reserved, symbol, word}
-
-conjunction-texts : (at : ℕ) (first : ConditionTree) (rest : ConditionTrees) →
-    condition_texts first ++ further_texts (codes "and") rest ≡ condition_texts (conjunction at first rest)
-conjunction-texts at first no_more = append-nil (condition_texts first)
-conjunction-texts at first (more second rest) = refl
-
-disjunction-texts : (at : ℕ) (first : ConditionTree) (rest : ConditionTrees) →
-    condition_texts first ++ further_texts (codes "or") rest ≡ condition_texts (disjunction at first rest)
-disjunction-texts at first no_more = append-nil (condition_texts first)
-disjunction-texts at first (more second rest) = refl
+use Rattle.policy_grammar.specs.Words.{attr_word, event_word, put_word}
+use Rattle.policy_grammar.specs.Policies.{IsLoad, load_count, load_weight, IsAttr, attr_of, IsAttrs, attrs_none, attrs_more, IsPlace, place_none, place_here, place_least, IsElect, elect_none, elect_some, IsBatch, batch_none, batch_some, IsSets, sets_none, sets_more, IsCase, case_of, IsCases, cases_none, cases_more, IsHandler, handler_of, IsHandlers, handlers_none, handlers_more, IsPolicy, policy_of}
+use Rattle.policy_printer.specs.WordTexts.{kind_text, event_text, put_text}
+use Rattle.policy_printer.specs.PolicyTexts.{load_texts, attr_texts, place_texts, elect_texts, batch_texts, set_texts, case_texts, handler_texts, policy_texts}
+use Rattle.policy_printer.proofs.SpelledExpressions.{Are, int-spells, range-spells, expr-spells}
+use Rattle.policy_printer.proofs.SpelledConditions.{condition-spells}
+use Rattle.policy_printer.proofs.SpelledOrders.{order-spells}
+use Rattle.policy_printer.proofs.Spells.{◌▹◌, nothing, reserved, symbol, word, number}
 
 module _ (text : List ℕ) (tokens : List Token) where
   two : (at : ℕ) → at + 1 + 1 ≡ at + 2
@@ -50,55 +37,6 @@ module _ (text : List ℕ) (tokens : List Token) where
   -- a name is a word
   name : {at to : ℕ} → at + 1 ≡ to → kind_at (lexemes_of text tokens) at ≡ code terminal.Name → Are text tokens at (word_at text (lexemes_of text tokens) at ∷ []) to
   name next k = word text tokens next (rw k refl)
-
-  compare-spells : {at : ℕ} (c : Cmp) → kind_at (lexemes_of text tokens) at ≡ compare_word c → Are text tokens at (compare_text c ∷ []) (at + 1)
-  compare-spells cmp.Eq k = symbol text tokens sign.Equal refl k (lit< tt)
-  compare-spells cmp.Ne k = symbol text tokens sign.Unequal refl k (lit< tt)
-  compare-spells cmp.Lt k = symbol text tokens sign.Less refl k (lit< tt)
-  compare-spells cmp.Le k = symbol text tokens sign.AtMost refl k (lit< tt)
-  compare-spells cmp.Gt k = symbol text tokens sign.More refl k (lit< tt)
-  compare-spells cmp.Ge k = symbol text tokens sign.AtLeast refl k (lit< tt)
-
-  always-spells : {at : ℕ} → kind_at (lexemes_of text tokens) at ≡ code terminal.Always → Are text tokens at (codes "always" ∷ []) (at + 1)
-  unfolding reserved_words
-  always-spells k = reserved text tokens (code terminal.Always) refl k (lit< tt) (lit< tt)
-
-  not-spells : {at : ℕ} → kind_at (lexemes_of text tokens) at ≡ code terminal.Not →
-      Are text tokens at (codes "not" ∷ []) (at + 1)
-  unfolding reserved_words
-  not-spells k = reserved text tokens (code terminal.Not) refl k (lit< tt) (lit< tt)
-
-  and-spells : {at : ℕ} → kind_at (lexemes_of text tokens) at ≡ code terminal.And →
-      Are text tokens at (codes "and" ∷ []) (at + 1)
-  unfolding reserved_words
-  and-spells k = reserved text tokens (code terminal.And) refl k (lit< tt) (lit< tt)
-
-  or-spells : {at : ℕ} → kind_at (lexemes_of text tokens) at ≡ code terminal.Or →
-      Are text tokens at (codes "or" ∷ []) (at + 1)
-  unfolding reserved_words
-  or-spells k = reserved text tokens (code terminal.Or) refl k (lit< tt) (lit< tt)
-
-  mutual
-    unit-spells : {at to : ℕ} {v : ConditionTree} → IsUnit text (lexemes_of text tokens) at v to → Are text tokens at (condition_texts v) to
-    unit-spells (unit_always k) = always-spells k
-    unit-spells (unit_not k d) = not-spells k ▹ unit-spells d
-    unit-spells (unit_group k d c) =
-        symbol text tokens sign.Open refl k (lit< tt) ▹ condition-spells d ▹ symbol text tokens sign.Close refl c (lit< tt)
-    unit-spells (unit_test c d k e) = expr-spells text tokens d ▹ compare-spells c k ▹ expr-spells text tokens e
-
-    ands-spells : {at to : ℕ} {v : ConditionTrees} → IsAnds text (lexemes_of text tokens) at v to → Are text tokens at (further_texts (codes "and") v) to
-    ands-spells ands_none = nothing
-    ands-spells (ands_more k d rest) = and-spells k ▹ unit-spells d ▹ ands-spells rest
-
-    conjunction-spells : {at to : ℕ} {v : ConditionTree} → IsConjunction text (lexemes_of text tokens) at v to → Are text tokens at (condition_texts v) to
-    conjunction-spells {at = at} (conjunction_of first rest d are) = spells-as (conjunction-texts at first rest) (unit-spells d ▹ ands-spells are)
-
-    ors-spells : {at to : ℕ} {v : ConditionTrees} → IsOrs text (lexemes_of text tokens) at v to → Are text tokens at (further_texts (codes "or") v) to
-    ors-spells ors_none = nothing
-    ors-spells (ors_more k d rest) = or-spells k ▹ conjunction-spells d ▹ ors-spells rest
-
-    condition-spells : {at to : ℕ} {v : ConditionTree} → IsCondition text (lexemes_of text tokens) at v to → Are text tokens at (condition_texts v) to
-    condition-spells {at = at} (condition_of first rest d are) = spells-as (disjunction-texts at first rest) (conjunction-spells d ▹ ors-spells are)
 
   load-spells : {at to : ℕ} {v : LoadSyntax} → IsLoad (lexemes_of text tokens) at v to → Are text tokens at (load_texts v) to
   unfolding reserved_words
@@ -128,7 +66,7 @@ module _ (text : List ℕ) (tokens : List Token) where
   place-spells {at = at} (place_least k m d) =
       reserved text tokens (code terminal.Place) refl k (lit< tt) (lit< tt) ▹ reserved text tokens (code terminal.Min) (two at) m (lit< tt) (lit< tt) ▹ expr-spells text tokens d
 
-  elect-spells : {at to : ℕ} {v : Option ElectSyntax} → IsElect text (lexemes_of text tokens) at v to → Are text tokens at (elect_texts v) to
+  elect-spells : {at to : ℕ} {v : Option ElectSyntaxTree} → IsElect text (lexemes_of text tokens) at v to → Are text tokens at (elect_texts v) to
   unfolding reserved_words
   elect-spells elect_none = nothing
   elect-spells (elect_some k d) =
@@ -151,7 +89,7 @@ module _ (text : List ℕ) (tokens : List Token) where
   case-spells : {at to : ℕ} {v : CaseSyntaxTree} → IsCase text (lexemes_of text tokens) at v to → Are text tokens at (case_texts v) to
   unfolding reserved_words
   case-spells (case_of p k g c s q) =
-      reserved text tokens (code terminal.When) refl k (lit< tt) (lit< tt) ▹ condition-spells g ▹ symbol text tokens sign.Colon refl c (lit< tt) ▹ sets-spells s ▹ put-spells p q
+      reserved text tokens (code terminal.When) refl k (lit< tt) (lit< tt) ▹ condition-spells text tokens g ▹ symbol text tokens sign.Colon refl c (lit< tt) ▹ sets-spells s ▹ put-spells p q
 
   cases-spells : {at to : ℕ} {v : List CaseSyntaxTree} → IsCases text (lexemes_of text tokens) at v to → Are text tokens at (flat_map case_texts v) to
   cases-spells cases_none = nothing
@@ -174,11 +112,18 @@ module _ (text : List ℕ) (tokens : List Token) where
   handlers-spells handlers_none = nothing
   handlers-spells (handlers_more d rest) = handler-spells d ▹ handlers-spells rest
 
+  batch-spells : {at to : ℕ} {v : Option BatchSyntaxTree} → IsBatch text (lexemes_of text tokens) at v to → Are text tokens at (batch_texts v) to
+  unfolding reserved_words
+  batch-spells batch_none = nothing
+  batch-spells (batch_some {mid = mid} w d l n) =
+      reserved text tokens (code terminal.While) refl w (lit< tt) (lit< tt) ▹ condition-spells text tokens d
+      ▹ reserved text tokens (code terminal.Limit) refl l (lit< tt) (lit< tt) ▹ number text tokens (two mid) n
+
   pub policy-spells : {s : SyntaxTree} → IsPolicy text (lexemes_of text tokens) s → Are text tokens 0 (policy_texts s) (length (lexemes_of text tokens))
   unfolding reserved_words
-  policy-spells (policy_of k0 k1 dl da dp de dh kf df kc dc ks ds) =
+  policy-spells (policy_of k0 k1 dl da dp de dh kf df kc dc ks ds db) =
       reserved text tokens (code terminal.Policy) refl k0 (lit< tt) (lit< tt) ▹ name refl k1
       ▹ (load-spells dl ▹ attrs-spells da ▹ place-spells dp ▹ elect-spells de ▹ handlers-spells dh)
-      ▹ reserved text tokens (code terminal.Filter) refl kf (lit< tt) (lit< tt) ▹ condition-spells df ▹ reserved text tokens (code terminal.Choose) refl kc (lit< tt) (lit< tt)
+      ▹ reserved text tokens (code terminal.Filter) refl kf (lit< tt) (lit< tt) ▹ condition-spells text tokens df ▹ reserved text tokens (code terminal.Choose) refl kc (lit< tt) (lit< tt)
       ▹ order-spells text tokens dc ▹ reserved text tokens (code terminal.Steal) refl ks (lit< tt) (lit< tt)
-      ▹ order-spells text tokens ds
+      ▹ order-spells text tokens ds ▹ batch-spells db

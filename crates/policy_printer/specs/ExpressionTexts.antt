@@ -1,4 +1,4 @@
--- The tokens of expressions and orders, each as it is spelled.
+-- The tokens of expressions, each as it is spelled.
 use Rattle.std.specs.Prelude.{ℕ, List, [], ◌∷◌, ◌++◌, Bool, true, false, codes, decimal, replicate}
 use Rattle.std.specs.List.{flat_map}
 use Rattle.policy_syntax.specs.declared.syntax.IntSyntax.{IntSyntax}
@@ -10,9 +10,7 @@ use Rattle.policy_syntax.specs.declared.syntax.TimesSyntax.{TimesSyntax}
 use Rattle.policy_syntax.specs.declared.syntax.TermSyntax.{TermSyntax}
 use Rattle.policy_syntax.specs.declared.syntax.AddedSyntax.{AddedSyntax}
 use Rattle.policy_syntax.specs.declared.syntax.ExprSyntax.{ExprSyntax}
-use Rattle.policy_syntax.specs.declared.syntax.KeySyntax.{KeySyntax}
-use Rattle.policy_syntax.specs.declared.syntax.OrderSyntax.{OrderSyntax}
-use Rattle.policy_printer.specs.WordTexts.{key_text, sign_text, owner_text}
+use Rattle.policy_printer.specs.WordTexts.{sign_text, owner_text}
 
 -- the sign of a number, where it has one
 abbrev pub negative_texts : Bool → List (List ℕ)
@@ -43,16 +41,3 @@ added_texts v = sign_text v.minus ∷ term_texts v.term
 
 abbrev pub expr_texts : ExprSyntax → List (List ℕ)
 expr_texts v = term_texts v.first ++ flat_map added_texts v.rest
-
-abbrev pub key_texts : KeySyntax → List (List ℕ)
-key_texts v = key_text v.greatest ∷ expr_texts v.value
-
-abbrev pub further_key_texts : KeySyntax → List (List ℕ)
-further_key_texts v = codes "," ∷ key_texts v
-
-abbrev pub keys_texts : List KeySyntax → List (List ℕ)
-keys_texts [] = codes "first" ∷ []
-keys_texts (first ∷ rest) = key_texts first ++ flat_map further_key_texts rest
-
-abbrev pub order_texts : OrderSyntax → List (List ℕ)
-order_texts v = keys_texts v.keys

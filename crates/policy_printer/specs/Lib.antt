@@ -1,6 +1,7 @@
 pub mod WordTexts
 pub mod ExpressionTexts
 pub mod ConditionTexts
+pub mod OrderTexts
 pub mod PolicyTexts
 pub mod Printed
 pub mod Adds

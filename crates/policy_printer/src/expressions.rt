@@ -1,16 +1,15 @@
-//! Prints expressions and orders.
+//! Prints expressions.
 
 ghost use Rattle.std.specs.Prelude.{OnOk};
 ghost use Rattle.policy_printer.specs.Adds.{Prints};
 ghost use Rattle.policy_printer.specs.ExpressionTexts.{negative_texts, int_texts, range_texts, operand_texts};
 ghost use Rattle.policy_printer.specs.ExpressionTexts.{factor_texts, times_texts, term_texts, added_texts, expr_texts};
-ghost use Rattle.policy_printer.specs.ExpressionTexts.{key_texts, further_key_texts, order_texts};
 
 use crate::printer::Printer;
-use crate::words::{key_text, owner_text, sign_text};
+use crate::words::{owner_text, sign_text};
 use policy_syntax::{
-    AddedSyntax, ExprSyntax, FactorSyntax, IntSyntax, KeySyntax, OperandSyntax, OrderSyntax,
-    RangeSyntax, TermSyntax, TimesSyntax,
+    AddedSyntax, ExprSyntax, FactorSyntax, IntSyntax, OperandSyntax, RangeSyntax, TermSyntax,
+    TimesSyntax,
 };
 use std::alloc::AllocError;
 
@@ -89,34 +88,6 @@ impl Printer {
         self.term(&expr.first)?;
         for added in expr.rest.as_slice() {
             self.added(added)?;
-        }
-        Ok(())
-    }
-
-    fn key(&mut self, key: &KeySyntax) -> Result<(), AllocError>
-        ensures { OnOk result (Prints (key_texts key.now) self.old self.new) }
-    {
-        self.word(key_text(key.greatest))?;
-        self.expression(&key.value)
-    }
-
-    fn further_key(&mut self, key: &KeySyntax) -> Result<(), AllocError>
-        ensures { OnOk result (Prints (further_key_texts key.now) self.old self.new) }
-    {
-        self.word(",")?;
-        self.key(key)
-    }
-
-    pub(crate) fn order(&mut self, order: &OrderSyntax) -> Result<(), AllocError>
-        ensures { OnOk result (Prints (order_texts order.now) self.old self.new) }
-    {
-        let (first, rest) = match order.keys.as_slice().split_first() {
-            Some(keys) => keys,
-            None => return self.word("first"),
-        };
-        self.key(first)?;
-        for key in rest {
-            self.further_key(key)?;
         }
         Ok(())
     }

@@ -5,6 +5,7 @@ mod conditions;
 mod expressions;
 mod fault;
 mod laws;
+mod orders;
 mod policies;
 mod printer;
 mod printing;

@@ -1,16 +1,18 @@
 //! Prints policies.
 
-ghost use Rattle.std.specs.Prelude.{OnOk, map};
+ghost use Rattle.std.specs.Prelude.{OnOk, map, option_map};
 ghost use Rattle.std.specs.List.{flat_map};
-ghost use Rattle.policy_syntax.specs.SyntaxTrees.{case_syntax_tree, handler_syntax_tree, syntax_tree};
+ghost use Rattle.policy_syntax.specs.SyntaxTrees.{batch_syntax_tree, case_syntax_tree, elect_syntax_tree};
+ghost use Rattle.policy_syntax.specs.SyntaxTrees.{handler_syntax_tree, syntax_tree};
 ghost use Rattle.policy_printer.specs.Adds.{Prints};
 ghost use Rattle.policy_printer.specs.PolicyTexts.{load_texts, attr_texts, place_texts, elect_texts, set_texts};
-ghost use Rattle.policy_printer.specs.PolicyTexts.{case_texts, handler_texts, head_texts, phase_texts};
+ghost use Rattle.policy_printer.specs.PolicyTexts.{batch_texts, case_texts, handler_texts, head_texts, phase_texts};
 
 use crate::printer::Printer;
 use crate::words::{event_text, kind_text, put_text};
 use policy_syntax::{
-    AttrSyntax, CaseSyntax, ElectSyntax, HandlerSyntax, LoadSyntax, PlaceSyntax, SetSyntax, Syntax,
+    AttrSyntax, BatchSyntax, CaseSyntax, ElectSyntax, HandlerSyntax, LoadSyntax, PlaceSyntax,
+    SetSyntax, Syntax,
 };
 use std::alloc::AllocError;
 
@@ -35,7 +37,8 @@ impl Printer {
         self.word("choose")?;
         self.order(&syntax.choose)?;
         self.word("steal")?;
-        self.order(&syntax.steal)
+        self.order(&syntax.steal)?;
+        self.batch(&syntax.batch)
     }
 
     fn load(&mut self, load: LoadSyntax) -> Result<(), AllocError>
@@ -89,13 +92,28 @@ impl Printer {
     }
 
     fn elect(&mut self, elect: &Option<ElectSyntax>) -> Result<(), AllocError>
-        ensures { OnOk result (Prints (elect_texts elect.now) self.old self.new) }
+        ensures { OnOk result (Prints (elect_texts (option_map elect_syntax_tree elect.now)) self.old self.new) }
     {
         match elect {
             None => Ok(()),
             Some(elect) => {
                 self.word("elect")?;
                 self.order(&elect.order)
+            }
+        }
+    }
+
+    fn batch(&mut self, batch: &Option<BatchSyntax>) -> Result<(), AllocError>
+        ensures { OnOk result
+            (Prints (batch_texts (option_map batch_syntax_tree batch.now)) self.old self.new) }
+    {
+        match batch {
+            None => Ok(()),
+            Some(batch) => {
+                self.word("while")?;
+                self.condition(&batch.condition)?;
+                self.word("limit")?;
+                self.number(batch.limit)
             }
         }
     }

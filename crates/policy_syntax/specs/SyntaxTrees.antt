@@ -1,5 +1,5 @@
 -- The syntax of a policy without the places where it lies in memory: what contracts compare.
-use Rattle.std.specs.Prelude.{ℕ, List, [], ◌∷◌, Option, map}
+use Rattle.std.specs.Prelude.{ℕ, Bool, List, [], ◌∷◌, Option, map, option_map}
 use Rattle.policy_tree.specs.declared.trees.Cmp.{Cmp}
 use Rattle.policy_tree.specs.declared.typed.Event.{Event}
 use Rattle.policy_tree.specs.declared.typed.Put.{Put}
@@ -7,7 +7,10 @@ use Rattle.policy_syntax.specs.declared.syntax.LoadSyntax.{LoadSyntax}
 use Rattle.policy_syntax.specs.declared.syntax.AttrSyntax.{AttrSyntax}
 use Rattle.policy_syntax.specs.declared.syntax.PlaceSyntax.{PlaceSyntax}
 use Rattle.policy_syntax.specs.declared.syntax.ElectSyntax.{ElectSyntax}
+use Rattle.policy_syntax.specs.declared.syntax.KeySyntax.{KeySyntax}
+use Rattle.policy_syntax.specs.declared.syntax.KeySyntax.TheVariants.{Ranked, Preferring}
 use Rattle.policy_syntax.specs.declared.syntax.OrderSyntax.{OrderSyntax}
+use Rattle.policy_syntax.specs.declared.syntax.BatchSyntax.{BatchSyntax}
 use Rattle.policy_syntax.specs.declared.syntax.SetSyntax.{SetSyntax}
 use Rattle.policy_syntax.specs.declared.syntax.CaseSyntax.{CaseSyntax}
 use Rattle.policy_syntax.specs.declared.syntax.HandlerSyntax.{HandlerSyntax}
@@ -44,6 +47,43 @@ abbrev mutual
   row_trees end_of-ConditionSyntax = no_more
   row_trees (more_of-ConditionSyntax part rest) = more (condition_tree part) (row_trees rest)
 
+-- a key of an order: the index of its first token, and whether the greater value comes first and the value; or the
+-- condition of what comes first
+pub data KeySyntaxTree : Type 0 where
+  ranked : ℕ → Bool → ExprSyntax → KeySyntaxTree
+  preferring : ℕ → ConditionTree → KeySyntaxTree
+
+abbrev pub key_syntax_tree : KeySyntax → KeySyntaxTree
+key_syntax_tree (Ranked at greatest value) = ranked at greatest value
+key_syntax_tree (Preferring at condition) = preferring at (condition_tree condition)
+
+-- an order
+pub record OrderSyntaxTree : Type 0 where
+  pub at : ℕ
+  pub keys : List KeySyntaxTree
+
+abbrev pub order_syntax_tree : OrderSyntax → OrderSyntaxTree
+order_syntax_tree o = record { at = o.at; keys = map key_syntax_tree o.keys }
+
+-- `elect` and its order
+pub record ElectSyntaxTree : Type 0 where
+  pub at : ℕ
+  pub order : OrderSyntaxTree
+
+abbrev pub elect_syntax_tree : ElectSyntax → ElectSyntaxTree
+elect_syntax_tree e = record { at = e.at; order = order_syntax_tree e.order }
+
+-- when a steal goes on, and how far
+pub record BatchSyntaxTree : Type 0 where
+  pub at : ℕ
+  pub condition : ConditionTree
+  pub limit_at : ℕ
+  pub limit : ℕ
+
+abbrev pub batch_syntax_tree : BatchSyntax → BatchSyntaxTree
+batch_syntax_tree b =
+    record { at = b.at; condition = condition_tree b.condition; limit_at = b.limit_at; limit = b.limit }
+
 -- a case of a handler
 pub record CaseSyntaxTree : Type 0 where
   pub at : ℕ
@@ -70,14 +110,15 @@ pub record SyntaxTree : Type 0 where
   pub load : LoadSyntax
   pub attrs : List AttrSyntax
   pub place : Option PlaceSyntax
-  pub elect : Option ElectSyntax
+  pub elect : Option ElectSyntaxTree
   pub handlers : List HandlerSyntaxTree
   pub filter_at : ℕ
   pub filter : ConditionTree
   pub choose_at : ℕ
-  pub choose : OrderSyntax
+  pub choose : OrderSyntaxTree
   pub steal_at : ℕ
-  pub steal : OrderSyntax
+  pub steal : OrderSyntaxTree
+  pub batch : Option BatchSyntaxTree
 
 abbrev pub syntax_tree : Syntax → SyntaxTree
 syntax_tree s = record {
@@ -85,14 +126,15 @@ syntax_tree s = record {
   load = s.load;
   attrs = s.attrs;
   place = s.place;
-  elect = s.elect;
+  elect = option_map elect_syntax_tree s.elect;
   handlers = map handler_syntax_tree s.handlers;
   filter_at = s.filter_at;
   filter = condition_tree s.filter;
   choose_at = s.choose_at;
-  choose = s.choose;
+  choose = order_syntax_tree s.choose;
   steal_at = s.steal_at;
-  steal = s.steal;
+  steal = order_syntax_tree s.steal;
+  batch = option_map batch_syntax_tree s.batch;
 }
 
 abbrev pub condition_trees : List ConditionSyntax → ConditionTrees

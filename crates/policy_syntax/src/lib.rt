@@ -4,7 +4,7 @@
 mod syntax;
 
 pub use syntax::{
-    AddedSyntax, AttrSyntax, CaseSyntax, ConditionSyntax, ElectSyntax, ExprSyntax, FactorSyntax,
-    HandlerSyntax, IntSyntax, KeySyntax, LoadSyntax, OperandSyntax, OrderSyntax, Owner,
-    PlaceSyntax, RangeSyntax, SetSyntax, Syntax, TermSyntax, TimesSyntax,
+    AddedSyntax, AttrSyntax, BatchSyntax, CaseSyntax, ConditionSyntax, ElectSyntax, ExprSyntax,
+    FactorSyntax, HandlerSyntax, IntSyntax, KeySyntax, LoadSyntax, OperandSyntax, OrderSyntax,
+    Owner, PlaceSyntax, RangeSyntax, SetSyntax, Syntax, TermSyntax, TimesSyntax,
 };

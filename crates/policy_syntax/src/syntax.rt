@@ -22,6 +22,7 @@ pub struct Syntax {
     pub choose: OrderSyntax,
     pub steal_at: u32,
     pub steal: OrderSyntax,
+    pub batch: Option<BatchSyntax>,
 }
 
 /// `load count`, or `load weight` and a range.
@@ -79,13 +80,31 @@ pub struct OrderSyntax {
     pub keys: Items<KeySyntax>,
 }
 
-/// `max` or `min`, and an expression.
+/// A key of an order.
 #[derive(Drop)]
-pub struct KeySyntax {
+pub enum KeySyntax {
+    /// `max` if it is the greatest, else `min`, and an expression.
+    Ranked {
+        at: u32,
+        greatest: bool,
+        value: ExprSyntax,
+    },
+    /// `prefer` and a condition.
+    Preferring {
+        at: u32,
+        condition: ConditionSyntax,
+    },
+}
+
+/// `while`, a condition, `limit` and a number.
+#[derive(Drop)]
+pub struct BatchSyntax {
     pub at: u32,
-    /// Whether it is `max`.
-    pub greatest: bool,
-    pub value: ExprSyntax,
+    pub condition: ConditionSyntax,
+    /// The token of the number.
+    pub limit_at: u32,
+    /// The number as it stands in the text.
+    pub limit: u64,
 }
 
 /// `on`, an event and its cases.

@@ -15,7 +15,7 @@ use Rattle.policy_types.proofs.Firsts.{where_not}
 use Rattle.policy_types.specs.declared.sites.Feature.{Feature}
 use Rattle.policy_types.specs.declared.sites.Feature.TheVariants.{Nr, Load, Weight, Fresh, Attribute}
 use Rattle.policy_types.specs.declared.sites.Site.{Site}
-use Rattle.policy_types.specs.declared.sites.Site.TheVariants.{Filter, Choose, Placement, Elect, Steal, Handler}
+use Rattle.policy_types.specs.declared.sites.Site.TheVariants.{Filter, Choose, Placement, Elect, Steal, GoingOn, Handler}
 use Rattle.policy_types.specs.Expressions.{feature_faults}
 use Rattle.policy_types.specs.References.{allows, attribute_from, attribute_named, attributes_of, feature_among, feature_of, reference_of, variable_of, variable_or_none}
 
@@ -26,6 +26,7 @@ site_of Choose = eval.choosing
 site_of Placement = eval.placing
 site_of Elect = eval.electing
 site_of Steal = eval.stealing
+site_of GoingOn = eval.going_on
 site_of (Handler e) = eval.handling e
 
 -- an attribute is one of those that there are
@@ -97,6 +98,14 @@ module _ (p : Meaning) (cores : length p.core_attrs ≤ 8) (threads : length p.t
   allowed Elect Thread (Attribute at) inside e = grind (arith, nat_tests)
   allowed Steal Thread Weight inside e = refl
   allowed Steal Thread (Attribute at) inside e = grind (arith, nat_tests)
+  allowed GoingOn Itself Nr inside e = refl
+  allowed GoingOn Itself Load inside e = refl
+  allowed GoingOn Itself (Attribute at) inside e = grind (arith, nat_tests)
+  allowed GoingOn Victim Nr inside e = refl
+  allowed GoingOn Victim Load inside e = refl
+  allowed GoingOn Victim (Attribute at) inside e = grind (arith, nat_tests)
+  allowed GoingOn Thread Weight inside e = refl
+  allowed GoingOn Thread (Attribute at) inside e = grind (arith, nat_tests)
   allowed (Handler event.Enqueue) Thread Weight inside e = refl
   allowed (Handler event.Enqueue) Thread Fresh inside e = refl
   allowed (Handler event.Enqueue) Thread (Attribute at) inside e = grind (arith, nat_tests)

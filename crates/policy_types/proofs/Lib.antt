@@ -18,5 +18,6 @@ pub mod SoundPolicies
 pub mod Spans
 pub mod WalkExpressions
 pub mod WalkConditions
+pub mod WalkOrders
 pub mod WalkPolicies
 pub mod NumberedNames

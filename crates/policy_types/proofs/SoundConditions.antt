@@ -3,21 +3,19 @@ use Rattle.std.proofs.Common.{◌≡◌, ℕ, ◌+◌, ◌≤◌, Bool, true, fa
 use Rattle.std.proofs.lemmas.List.{length-map}
 use Rattle.std.proofs.lemmas.List.Elements.{All-cons, All-nil}
 use Rattle.policy_syntax.specs.declared.syntax.ExprSyntax.{ExprSyntax}
-use Rattle.policy_syntax.specs.declared.syntax.KeySyntax.{KeySyntax}
-use Rattle.policy_syntax.specs.declared.syntax.OrderSyntax.{OrderSyntax}
 use Rattle.policy_tree.specs.Meaning.{Meaning}
-use Rattle.policy_syntax.specs.SyntaxTrees.{ConditionTree, always, negated, grouped, all, any, test, ConditionTrees, no_more, more}
+use Rattle.policy_syntax.specs.SyntaxTrees.{ConditionTree, always, negated, grouped, all, any, test, ConditionTrees, no_more, more, KeySyntaxTree, ranked, preferring, OrderSyntaxTree}
 use Rattle.policy_tree.specs.Trees.{CondTree, ExprTree}
 use Rattle.policy_grammar.specs.declared.limits.TheConstants.{POLICY_LIMITS}
 use Rattle.policy_grammar.specs.Breaks as breaks
-use Rattle.policy_grammar.specs.Breaks.{breaks_condition, breaks_expr, breaks_keys, breaks_order, breaks_parts, comparisons, deep, first_of, many}
+use Rattle.policy_grammar.specs.Breaks.{breaks_condition, breaks_expr, breaks_key, breaks_keys, breaks_order, breaks_parts, comparisons, deep, first_of, key_at, many}
 use Rattle.policy_eval.specs.Forms as eval
 use Rattle.policy_eval.specs.Forms.{EachSide}
 use Rattle.policy_eval.specs.Sites as Sites
 use Rattle.policy_eval.specs.Resolved.{IsResolvedCond, IsResolvedExpr, IsResolvedKey, IsResolvedOrder}
 use Rattle.policy_types.specs.declared.scope.Scope.{Scope}
 use Rattle.policy_types.specs.declared.sites.Site.{Site}
-use Rattle.policy_types.specs.Conditions.{chain_meaning, condition_faults, condition_meaning, directed, key_meaning, keys_faults, linked, order_faults, order_meaning, parts_faults}
+use Rattle.policy_types.specs.Conditions.{chain_meaning, condition_faults, condition_meaning, directed, key_faults, key_meaning, keys_faults, linked, order_faults, order_meaning, parts_faults}
 use Rattle.policy_types.specs.Expressions.{expr_faults, expr_meaning}
 use Rattle.policy_types.proofs.Allowed.{declared, site_of}
 use Rattle.policy_types.proofs.Counted.{expr_few, keeps_many, keeps_parts}
@@ -127,24 +125,29 @@ module _ (p : Meaning) (cores : length p.core_attrs ≤ 8) (threads : length p.t
     sides = condition_sides 0 0 c none keeps;
   }
 
-  keys_few : (count : ℕ) (keys : List KeySyntax) → count ≤ 4 → breaks_keys POLICY_LIMITS count keys ≡ None → count + length keys ≤ 4
+  resolved_key : (k : KeySyntaxTree) → key_faults (declared p) site k ≡ [] → breaks_key POLICY_LIMITS k ≡ None → IsResolvedKey p (site_of site) (key_meaning (declared p) k)
+  resolved_key (ranked at greatest e) none keeps =
+      key_resolved p (site_of site) greatest (expr_meaning (declared p) e) (resolved_expr 0 e none keeps)
+  resolved_key (preferring at c) none keeps = resolved_condition c none keeps
+
+  keys_few : (count : ℕ) (keys : List KeySyntaxTree) → count ≤ 4 → breaks_keys POLICY_LIMITS count keys ≡ None → count + length keys ≤ 4
   keys_few count [] few keeps = omega arith
   keys_few count (k ∷ rest) few keeps =
-      let first = keeps_parts (many 4 k.at count) (first_of (breaks_expr POLICY_LIMITS 0 k.value) (breaks_keys POLICY_LIMITS (count + 1) rest)) keeps in
-      let less = keeps_many 4 k.at count first.0 in
-      let later = keys_few (count + 1) rest (omega arith) (keeps_parts (breaks_expr POLICY_LIMITS 0 k.value) (breaks_keys POLICY_LIMITS (count + 1) rest) first.1).1 in
+      let first = keeps_parts (many 4 (key_at k) count) (first_of (breaks_key POLICY_LIMITS k) (breaks_keys POLICY_LIMITS (count + 1) rest)) keeps in
+      let less = keeps_many 4 (key_at k) count first.0 in
+      let later = keys_few (count + 1) rest (omega arith) (keeps_parts (breaks_key POLICY_LIMITS k) (breaks_keys POLICY_LIMITS (count + 1) rest) first.1).1 in
       omega arith
 
-  keys_each : (count : ℕ) (keys : List KeySyntax) → keys_faults (declared p) site keys ≡ [] → breaks_keys POLICY_LIMITS count keys ≡ None → All (IsResolvedKey p (site_of site)) (map (key_meaning (declared p)) keys)
+  keys_each : (count : ℕ) (keys : List KeySyntaxTree) → keys_faults (declared p) site keys ≡ [] → breaks_keys POLICY_LIMITS count keys ≡ None → All (IsResolvedKey p (site_of site)) (map (key_meaning (declared p)) keys)
   keys_each count [] none keeps = All-nil (IsResolvedKey p (site_of site))
   keys_each count (k ∷ rest) none keeps =
-      let empty = none_parts (expr_faults (declared p) site k.value) (keys_faults (declared p) site rest) none in
-      let first = keeps_parts (many 4 k.at count) (first_of (breaks_expr POLICY_LIMITS 0 k.value) (breaks_keys POLICY_LIMITS (count + 1) rest)) keeps in
-      let later = keeps_parts (breaks_expr POLICY_LIMITS 0 k.value) (breaks_keys POLICY_LIMITS (count + 1) rest) first.1 in
+      let empty = none_parts (key_faults (declared p) site k) (keys_faults (declared p) site rest) none in
+      let first = keeps_parts (many 4 (key_at k) count) (first_of (breaks_key POLICY_LIMITS k) (breaks_keys POLICY_LIMITS (count + 1) rest)) keeps in
+      let later = keeps_parts (breaks_key POLICY_LIMITS k) (breaks_keys POLICY_LIMITS (count + 1) rest) first.1 in
       All-cons (IsResolvedKey p (site_of site)) (key_meaning (declared p) k) (map (key_meaning (declared p)) rest)
-      (key_resolved p (site_of site) k.greatest (expr_meaning (declared p) k.value) (resolved_expr 0 k.value empty.0 later.0)) (keys_each (count + 1) rest empty.1 later.1)
+      (resolved_key k empty.0 later.0) (keys_each (count + 1) rest empty.1 later.1)
 
-  pub resolved_order : (order : OrderSyntax) → order_faults (declared p) site order ≡ [] → breaks_order POLICY_LIMITS order ≡ None → IsResolvedOrder p (site_of site) (order_meaning (declared p) order)
+  pub resolved_order : (order : OrderSyntaxTree) → order_faults (declared p) site order ≡ [] → breaks_order POLICY_LIMITS order ≡ None → IsResolvedOrder p (site_of site) (order_meaning (declared p) order)
   resolved_order order none keeps =
       let few = keys_few 0 order.keys (omega arith) keeps in let same = length-map order.keys (key_meaning (declared p)) in
       record { few = omega arith; keys = keys_each 0 order.keys none keeps }

@@ -1,27 +1,30 @@
 -- A syntax that breaks no rule and keeps the limits is a resolved policy.
-use Rattle.std.proofs.Common.{◌≡◌, ◌≤◌, [], ◌++◌, length, refl, sym, subst, Option, Some, None, Result, Ok, Err, IfOk}
-use Rattle.policy_syntax.specs.declared.syntax.ElectSyntax.{ElectSyntax}
+use Rattle.std.proofs.Common.{arith, ◌≡◌, ◌∙◌, ℕ, List, ◌≤◌, [], ◌++◌, length, refl, sym, subst, Option, Some, None, Result, Ok, Err, IfOk}
+use Rattle.std.proofs.lemmas.Bool.Decides.{nat_tests}
 use Rattle.policy_syntax.specs.declared.syntax.PlaceSyntax.{PlaceSyntax}
 use Rattle.policy_syntax.specs.declared.syntax.PlaceSyntax.TheVariants.{Here, Least}
 use Rattle.policy_tree.specs.declared.typed.Event.{Event}
 use Rattle.policy_tree.specs.declared.typed.Event.TheVariants as event
+use Rattle.policy_tree.specs.declared.typed.Load.{Load}
 use Rattle.policy_tree.specs.declared.typed.Policy.{Policy}
 use Rattle.policy_tree.specs.Meaning.{Meaning, cases_on, meaning_of}
-use Rattle.policy_syntax.specs.SyntaxTrees.{SyntaxTree}
+use Rattle.policy_syntax.specs.SyntaxTrees.{ElectSyntaxTree, BatchSyntaxTree, SyntaxTree}
 use Rattle.policy_grammar.specs.declared.limits.TheConstants.{POLICY_LIMITS}
-use Rattle.policy_grammar.specs.Breaks.{breaks_attrs, breaks_condition, breaks_elect, breaks_handlers, breaks_order, breaks_place, first_of}
-use Rattle.policy_eval.specs.Resolved.{IsResolved, IsResolvedOrder, IsResolvedPlace}
+use Rattle.policy_grammar.specs.Breaks.{breaks_attrs, breaks_batch, breaks_condition, breaks_elect, breaks_handlers, breaks_order, breaks_place, first_of}
+use Rattle.policy_eval.specs.Resolved.{HasResolvedBatch, IsResolved, IsResolvedOrder, IsResolvedPlace}
 use Rattle.policy_eval.specs.Sites.{electing}
 use Rattle.policy_types.specs.declared.fault.TypeFault.{TypeFault}
-use Rattle.policy_types.specs.declared.sites.Site.TheVariants.{Choose, Elect, Filter, Placement, Steal}
+use Rattle.policy_types.specs.declared.fault.TypeFault.TheVariants.{BadRange}
+use Rattle.policy_types.specs.declared.scope.Scope.{Scope}
+use Rattle.policy_types.specs.declared.sites.Site.TheVariants.{Choose, Elect, Filter, GoingOn, Placement, Steal}
 use Rattle.policy_types.specs.Conditions.{condition_faults, elect_faults, elect_meaning, order_faults}
 use Rattle.policy_types.specs.Correct.{IsOfGrammar}
-use Rattle.policy_types.specs.Declarations.{attrs_faults, load_faults, nothing_declared}
+use Rattle.policy_types.specs.Declarations.{attrs_faults, load_faults, load_meaning, nothing_declared}
 use Rattle.policy_types.specs.Handlers.{cases_for, handlers_faults}
-use Rattle.policy_types.specs.Policies.{faults_in, place_faults, place_meaning, policy_faults, policy_meaning, scope_of}
+use Rattle.policy_types.specs.Policies.{batch_faults, batch_meaning, faults_in, is_batch_limit, limit_faults, meaning_in, place_faults, place_meaning, policy_faults, policy_meaning, scope_of}
 use Rattle.policy_types.proofs.Allowed.{declared}
 use Rattle.policy_types.proofs.Counted.{keeps_parts}
-use Rattle.policy_types.proofs.Firsts.{none_parts}
+use Rattle.policy_types.proofs.Firsts.{none_parts, where_not}
 use Rattle.policy_types.proofs.SoundConditions.{no_keys, resolved_condition, resolved_expr, resolved_order}
 use Rattle.policy_types.proofs.SoundDeclarations.{attrs_right, load_right, nothing_right}
 use Rattle.policy_types.proofs.SoundHandlers.{handler_resolved}
@@ -32,9 +35,20 @@ module _ (p : Meaning) (cores : length p.core_attrs ≤ 8) (threads : length p.t
   place_resolved (Some (Here at)) none keeps = tt
   place_resolved (Some (Least at e)) none keeps = resolved_expr p cores threads Placement 0 e none keeps
 
-  elect_resolved : (elect : Option ElectSyntax) → elect_faults (declared p) elect ≡ [] → breaks_elect POLICY_LIMITS elect ≡ None → IsResolvedOrder p electing (elect_meaning (declared p) elect)
+  elect_resolved : (elect : Option ElectSyntaxTree) → elect_faults (declared p) elect ≡ [] → breaks_elect POLICY_LIMITS elect ≡ None → IsResolvedOrder p electing (elect_meaning (declared p) elect)
   elect_resolved None none keeps = no_keys p electing
   elect_resolved (Some e) none keeps = resolved_order p cores threads Elect e.order none keeps
+
+  batch_resolved : (batch : Option BatchSyntaxTree) → batch_faults (declared p) batch ≡ [] → breaks_batch POLICY_LIMITS batch ≡ None → HasResolvedBatch p (batch_meaning (declared p) batch)
+  batch_resolved None none keeps = tt
+  batch_resolved (Some b) none keeps =
+      let both = none_parts (condition_faults (declared p) GoingOn b.condition) (limit_faults b) none in
+      let limit = where_not (is_batch_limit b.limit) (BadRange b.limit_at) both.1 in
+      record {
+        condition = resolved_condition p cores threads GoingOn b.condition both.0 keeps;
+        some = grind (arith, nat_tests);
+        few = grind (arith, nat_tests);
+      }
 
 pub policy_resolved : (s : SyntaxTree) → IsOfGrammar s → policy_faults s ≡ [] → IsResolved (policy_meaning s)
 policy_resolved s of none =
@@ -43,20 +57,22 @@ policy_resolved s of none =
     let behind = none_parts (attrs_faults nothing_declared s.attrs) (faults_in scope s) later.1 in
     let kept = of.is.keeps in
     let kept1 = keeps_parts (breaks_attrs POLICY_LIMITS 0 0 s.attrs) (first_of (breaks_place POLICY_LIMITS s.place) (first_of (breaks_elect POLICY_LIMITS s.elect) (first_of (breaks_handlers POLICY_LIMITS s.handlers)
-    (first_of (breaks_condition POLICY_LIMITS 0 0 s.filter) (first_of (breaks_order POLICY_LIMITS s.choose) (breaks_order POLICY_LIMITS s.steal)))))) kept in
+    (first_of (breaks_condition POLICY_LIMITS 0 0 s.filter) (first_of (breaks_order POLICY_LIMITS s.choose) (first_of (breaks_order POLICY_LIMITS s.steal) (breaks_batch POLICY_LIMITS s.batch))))))) kept in
     let kept2 = keeps_parts (breaks_place POLICY_LIMITS s.place) (first_of (breaks_elect POLICY_LIMITS s.elect) (first_of (breaks_handlers POLICY_LIMITS s.handlers)
-    (first_of (breaks_condition POLICY_LIMITS 0 0 s.filter) (first_of (breaks_order POLICY_LIMITS s.choose) (breaks_order POLICY_LIMITS s.steal))))) kept1.1 in
+    (first_of (breaks_condition POLICY_LIMITS 0 0 s.filter) (first_of (breaks_order POLICY_LIMITS s.choose) (first_of (breaks_order POLICY_LIMITS s.steal) (breaks_batch POLICY_LIMITS s.batch)))))) kept1.1 in
     let kept3 = keeps_parts (breaks_elect POLICY_LIMITS s.elect) (first_of (breaks_handlers POLICY_LIMITS s.handlers)
-    (first_of (breaks_condition POLICY_LIMITS 0 0 s.filter) (first_of (breaks_order POLICY_LIMITS s.choose) (breaks_order POLICY_LIMITS s.steal)))) kept2.1 in
+    (first_of (breaks_condition POLICY_LIMITS 0 0 s.filter) (first_of (breaks_order POLICY_LIMITS s.choose) (first_of (breaks_order POLICY_LIMITS s.steal) (breaks_batch POLICY_LIMITS s.batch))))) kept2.1 in
     let kept4 = keeps_parts (breaks_handlers POLICY_LIMITS s.handlers)
-    (first_of (breaks_condition POLICY_LIMITS 0 0 s.filter) (first_of (breaks_order POLICY_LIMITS s.choose) (breaks_order POLICY_LIMITS s.steal))) kept3.1 in
-    let kept5 = keeps_parts (breaks_condition POLICY_LIMITS 0 0 s.filter) (first_of (breaks_order POLICY_LIMITS s.choose) (breaks_order POLICY_LIMITS s.steal)) kept4.1 in
-    let kept6 = keeps_parts (breaks_order POLICY_LIMITS s.choose) (breaks_order POLICY_LIMITS s.steal) kept5.1 in
-    let none1 = none_parts (place_faults scope s.place) (elect_faults scope s.elect ++ (handlers_faults scope [] s.handlers ++ (condition_faults scope Filter s.filter ++ (order_faults scope Choose s.choose ++ order_faults scope Steal s.steal)))) behind.1 in
-    let none2 = none_parts (elect_faults scope s.elect) (handlers_faults scope [] s.handlers ++ (condition_faults scope Filter s.filter ++ (order_faults scope Choose s.choose ++ order_faults scope Steal s.steal))) none1.1 in
-    let none3 = none_parts (handlers_faults scope [] s.handlers) (condition_faults scope Filter s.filter ++ (order_faults scope Choose s.choose ++ order_faults scope Steal s.steal)) none2.1 in
-    let none4 = none_parts (condition_faults scope Filter s.filter) (order_faults scope Choose s.choose ++ order_faults scope Steal s.steal) none3.1 in
-    let none5 = none_parts (order_faults scope Choose s.choose) (order_faults scope Steal s.steal) none4.1 in
+    (first_of (breaks_condition POLICY_LIMITS 0 0 s.filter) (first_of (breaks_order POLICY_LIMITS s.choose) (first_of (breaks_order POLICY_LIMITS s.steal) (breaks_batch POLICY_LIMITS s.batch)))) kept3.1 in
+    let kept5 = keeps_parts (breaks_condition POLICY_LIMITS 0 0 s.filter) (first_of (breaks_order POLICY_LIMITS s.choose) (first_of (breaks_order POLICY_LIMITS s.steal) (breaks_batch POLICY_LIMITS s.batch))) kept4.1 in
+    let kept6 = keeps_parts (breaks_order POLICY_LIMITS s.choose) (first_of (breaks_order POLICY_LIMITS s.steal) (breaks_batch POLICY_LIMITS s.batch)) kept5.1 in
+    let kept7 = keeps_parts (breaks_order POLICY_LIMITS s.steal) (breaks_batch POLICY_LIMITS s.batch) kept6.1 in
+    let none1 = none_parts (place_faults scope s.place) (elect_faults scope s.elect ++ (handlers_faults scope [] s.handlers ++ (condition_faults scope Filter s.filter ++ (order_faults scope Choose s.choose ++ (order_faults scope Steal s.steal ++ batch_faults scope s.batch))))) behind.1 in
+    let none2 = none_parts (elect_faults scope s.elect) (handlers_faults scope [] s.handlers ++ (condition_faults scope Filter s.filter ++ (order_faults scope Choose s.choose ++ (order_faults scope Steal s.steal ++ batch_faults scope s.batch)))) none1.1 in
+    let none3 = none_parts (handlers_faults scope [] s.handlers) (condition_faults scope Filter s.filter ++ (order_faults scope Choose s.choose ++ (order_faults scope Steal s.steal ++ batch_faults scope s.batch))) none2.1 in
+    let none4 = none_parts (condition_faults scope Filter s.filter) (order_faults scope Choose s.choose ++ (order_faults scope Steal s.steal ++ batch_faults scope s.batch)) none3.1 in
+    let none5 = none_parts (order_faults scope Choose s.choose) (order_faults scope Steal s.steal ++ batch_faults scope s.batch) none4.1 in
+    let none6 = none_parts (order_faults scope Steal s.steal) (batch_faults scope s.batch) none5.1 in
     let right = attrs_right nothing_declared s.attrs nothing_right behind.0 kept1.0 in
     let cores = right.cores.few in let threads = right.threads.few in
     record {
@@ -68,8 +84,8 @@ policy_resolved s of none =
       handlers = λ e. handler_resolved p cores threads e s.handlers (same e) none3.0 kept4.0;
       filter = resolved_condition p cores threads Filter s.filter none4.0 kept5.0;
       choose = resolved_order p cores threads Choose s.choose none5.0 kept6.0;
-      steal = resolved_order p cores threads Steal s.steal none5.1 kept6.1;
-      batch = tt;
+      steal = resolved_order p cores threads Steal s.steal none6.0 kept7.0;
+      batch = batch_resolved p cores threads s.batch none6.1 kept7.1;
     }
   where
     same : (e : Event) → cases_on (policy_meaning s).handlers e ≡ cases_for (scope_of s) e s.handlers
@@ -77,6 +93,12 @@ policy_resolved s of none =
     same event.Tick = refl
     same event.Yield = refl
     same event.Block = refl
+
+-- the policy by what was read of its declarations
+pub policy_as : (r : Result Policy TypeFault) (s : SyntaxTree) (scope : Scope) (name : List ℕ) (load : Load) → scope ≡ scope_of s → name ≡ s.name → load ≡ load_meaning s.load →
+    IfOk r (λ p. meaning_of p ≡ record (meaning_in scope s) { name = name; load = load }) → IfOk r (λ p. meaning_of p ≡ policy_meaning s)
+policy_as (Ok p) s scope name load declares names loads is = is ∙ (rw (declares, names, loads) refl)
+policy_as (Err fault) s scope name load declares names loads is = tt
 
 -- the answer is a resolved policy
 pub answer_resolved : (r : Result Policy TypeFault) (s : SyntaxTree) → IfOk r (λ p. meaning_of p ≡ policy_meaning s) → IfOk r (λ p. policy_faults s ≡ []) → IfOk r (λ p. IsOfGrammar s → IsResolved (meaning_of p))

@@ -7,24 +7,21 @@ use Rattle.policy_syntax.specs.declared.syntax.TimesSyntax.{TimesSyntax}
 use Rattle.policy_syntax.specs.declared.syntax.TermSyntax.{TermSyntax}
 use Rattle.policy_syntax.specs.declared.syntax.AddedSyntax.{AddedSyntax}
 use Rattle.policy_syntax.specs.declared.syntax.ExprSyntax.{ExprSyntax}
-use Rattle.policy_syntax.specs.declared.syntax.KeySyntax.{KeySyntax}
-use Rattle.policy_syntax.specs.declared.syntax.OrderSyntax.{OrderSyntax}
 use Rattle.policy_tree.specs.Trees.{ExprTree, times}
 use Rattle.policy_grammar.specs.declared.terminal.Lexeme.{Lexeme}
-use Rattle.policy_grammar.specs.Expressions.{IsOperand, operand_number, operand_reference, IsFactor, factor_plain, factor_signed, IsTimes, times_none, times_more, IsTerm, term_of, IsAdded, added_none, added_more, IsExpr, expr_of, IsKey, key_of, IsKeys, keys_none, keys_more, IsOrder, order_first, order_keys}
+use Rattle.policy_grammar.specs.Expressions.{IsOperand, operand_number, operand_reference, IsFactor, factor_plain, factor_signed, IsTimes, times_none, times_more, IsTerm, term_of, IsAdded, added_none, added_more, IsExpr, expr_of}
 use Rattle.policy_grammar.specs.Terminals.{word_at}
 use Rattle.policy_eval.specs.Forms.{has_reference}
 use Rattle.policy_types.specs.declared.fault.TypeFault.TheVariants.{Unknown, NotLinear, NotHere, Big}
 use Rattle.policy_types.specs.declared.scope.Scope.{Scope}
 use Rattle.policy_types.specs.declared.sites.Feature.{Feature}
 use Rattle.policy_types.specs.declared.sites.Site.{Site}
-use Rattle.policy_types.specs.Conditions.{keys_faults, order_faults}
 use Rattle.policy_types.specs.Expressions.{added_faults, big_faults, expr_faults, factor_faults, factor_meaning, feature_faults, joined, operand_faults, operand_meaning, product_faults, sign_faults, signed, term_faults, term_meaning, times_faults}
 use Rattle.policy_types.specs.Faults.{behind}
 use Rattle.policy_types.specs.Forms.{has_form, has_small_form}
 use Rattle.policy_types.specs.References.{allows, feature_of}
 use Rattle.policy_types.proofs.Firsts.{behind_none}
-use Rattle.policy_types.proofs.Spans.{Spans, behind_is, spans_append, spans_none, spans_one, spans_where, spans_wider}
+use Rattle.policy_types.proofs.Spans.{Spans, behind_is, spans_append, spans_none, spans_one, spans_where}
 
 feature_spans : (site : Site) (from to at : ℕ) (owner : Owner) (found : Option Feature) → from ≤ at → at < to → Spans from to (feature_faults site at owner found)
 feature_spans site from to at owner None low high = spans_one from to (Unknown at) low high
@@ -100,21 +97,3 @@ module _ (text : List ℕ) (ts : List Lexeme) (scope : Scope) (site : Site) wher
   expr_spans {at = at} {to = to} (expr_of {mid = mid} {first = first} {rest = rest} d more) room =
       let later = added_spans (term_meaning scope first) more room in let end = later.ordered in
       spans_append at mid to (term_faults scope site first) (added_faults scope site (term_meaning scope first) rest) (term_spans d (omega arith)) later
-
-  key_spans : {at to : ℕ} {k : KeySyntax} → IsKey text ts at k to → to ≤ 2 ^ 32 → Spans at to (expr_faults scope site k.value)
-  key_spans {at = at} {to = to} (key_of greatest {v = v} k d) room =
-      let is = expr_spans d room in let less = is.ordered in spans_wider at (at + 1) to to (expr_faults scope site v) (omega arith) (omega arith) is
-
-  keys_spans : {at to : ℕ} {ks : List KeySyntax} → IsKeys text ts at ks to → to ≤ 2 ^ 32 → Spans at to (keys_faults scope site ks)
-  keys_spans {at = at} keys_none room = spans_none at at (omega arith)
-  keys_spans {at = at} {to = to} (keys_more {mid = mid} {k = k} {rest = rest} comma d more) room =
-      let later = keys_spans more room in let end = later.ordered in
-      let key = key_spans d (omega arith) in let start = key.ordered in
-      spans_append at mid to (expr_faults scope site k.value) (keys_faults scope site rest)
-      (spans_wider at (at + 1) mid mid (expr_faults scope site k.value) (omega arith) (omega arith) key) later
-
-  pub order_spans : {at to : ℕ} {order : OrderSyntax} → IsOrder text ts at order to → to ≤ 2 ^ 32 → Spans at to (order_faults scope site order)
-  order_spans {at = at} {to = to} (order_first k) room = spans_none at to (omega arith)
-  order_spans {at = at} {to = to} (order_keys {mid = mid} {k = k} {rest = rest} d more) room =
-      let later = keys_spans more room in let end = later.ordered in
-      spans_append at mid to (expr_faults scope site k.value) (keys_faults scope site rest) (key_spans d (omega arith)) later

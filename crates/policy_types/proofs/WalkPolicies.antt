@@ -1,35 +1,35 @@
 -- The faults of a policy stand in the order of its tokens.
 use Rattle.std.proofs.Common.{◌≡◌, ◌≢◌, ◌⊎◌, inl, inr, ℕ, ◌+◌, ◌^◌, ◌<◌, ◌≤◌, not, List, [], ◌∷◌, ◌++◌, length, refl, arith, Option, Some, None, Result, Ok, Err, IfErr}
 use Rattle.policy_syntax.specs.declared.syntax.AttrSyntax.{AttrSyntax}
-use Rattle.policy_syntax.specs.declared.syntax.ElectSyntax.{ElectSyntax}
 use Rattle.policy_syntax.specs.declared.syntax.IntSyntax.{IntSyntax}
 use Rattle.policy_syntax.specs.declared.syntax.LoadSyntax.{LoadSyntax}
 use Rattle.policy_syntax.specs.declared.syntax.PlaceSyntax.{PlaceSyntax}
 use Rattle.policy_syntax.specs.declared.syntax.RangeSyntax.{RangeSyntax}
 use Rattle.policy_syntax.specs.declared.syntax.SetSyntax.{SetSyntax}
 use Rattle.policy_tree.specs.declared.typed.Event.{Event}
-use Rattle.policy_syntax.specs.SyntaxTrees.{CaseSyntaxTree, HandlerSyntaxTree, SyntaxTree}
+use Rattle.policy_syntax.specs.SyntaxTrees.{ElectSyntaxTree, BatchSyntaxTree, CaseSyntaxTree, HandlerSyntaxTree, SyntaxTree}
 use Rattle.policy_grammar.specs.declared.terminal.Lexeme.{Lexeme}
 use Rattle.policy_grammar.specs.Expressions.{IsInt, int_plain, int_signed, IsRange, range_of}
-use Rattle.policy_grammar.specs.Policies.{IsLoad, load_count, load_weight, IsAttr, attr_of, IsAttrs, attrs_none, attrs_more, IsPlace, place_none, place_here, place_least, IsElect, elect_none, elect_some, IsSets, sets_none, sets_more, IsCase, case_of, IsCases, cases_none, cases_more, handler_of, IsHandlers, handlers_none, handlers_more, IsPolicy, policy_of}
-use Rattle.policy_grammar.specs.Terminals.{word_at}
+use Rattle.policy_grammar.specs.Policies.{IsLoad, load_count, load_weight, IsAttr, attr_of, IsAttrs, attrs_none, attrs_more, IsPlace, place_none, place_here, place_least, IsElect, elect_none, elect_some, IsBatch, batch_none, batch_some, IsSets, sets_none, sets_more, IsCase, case_of, IsCases, cases_none, cases_more, handler_of, IsHandlers, handlers_none, handlers_more, IsPolicy, policy_of}
+use Rattle.policy_grammar.specs.Terminals.{value_at, word_at}
 use Rattle.policy_types.specs.declared.fault.TypeFault.{TypeFault}
 use Rattle.policy_types.specs.declared.fault.TypeFault.TheVariants.{BadRange, Memory, NotHere, Twice, Unknown}
 use Rattle.policy_types.specs.declared.scope.Scope.{Scope}
 use Rattle.policy_types.specs.declared.sites.Feature.{Feature}
 use Rattle.policy_types.specs.declared.sites.Feature.TheVariants.{Nr, Load, Weight, Fresh, Attribute}
-use Rattle.policy_types.specs.declared.sites.Site.TheVariants.{Choose, Elect, Filter, Handler, Placement, Steal}
+use Rattle.policy_types.specs.declared.sites.Site.TheVariants.{Choose, Elect, Filter, GoingOn, Handler, Placement, Steal}
 use Rattle.policy_types.specs.Conditions.{condition_faults, elect_faults, order_faults}
 use Rattle.policy_types.specs.Correct.{IsLeast, IsOfGrammar}
 use Rattle.policy_types.specs.Declarations.{attr_faults, attrs_faults, declared_with, is_weight_range, load_faults, nothing_declared, of_kind, scope_after}
 use Rattle.policy_types.specs.Expressions.{expr_faults}
 use Rattle.policy_types.specs.Faults.{IsFirst, behind, where_broken}
 use Rattle.policy_types.specs.Handlers.{case_faults, cases_faults, handlers_faults, is_among, sets_faults, target_faults}
-use Rattle.policy_types.specs.Policies.{place_faults, policy_faults}
+use Rattle.policy_types.specs.Policies.{batch_faults, is_batch_limit, limit_faults, place_faults, policy_faults}
 use Rattle.policy_types.specs.References.{allows_put, feature_among}
 use Rattle.policy_types.proofs.Spans.{Spans, behind_is, first_least, first_real, spans_append, spans_none, spans_one, spans_where, spans_wider}
 use Rattle.policy_types.proofs.WalkConditions.{guard_spans}
-use Rattle.policy_types.proofs.WalkExpressions.{expr_spans, order_spans}
+use Rattle.policy_types.proofs.WalkExpressions.{expr_spans}
+use Rattle.policy_types.proofs.WalkOrders.{order_spans}
 
 target_spans : (from to at : ℕ) (found : Option Feature) → from ≤ at → at < to → Spans from to (target_faults at found)
 target_spans from to at None low high = spans_one from to (Unknown at) low high
@@ -74,10 +74,18 @@ module _ (text : List ℕ) (ts : List Lexeme) where
     place_spans {at = at} {to = to} (place_least {v = v} k more d) room =
         spans_wider at (at + 2) to to (expr_faults scope Placement v) (omega arith) (omega arith) (expr_spans text ts scope Placement d room)
 
-    elect_spans : {at to : ℕ} {elect : Option ElectSyntax} → IsElect text ts at elect to → to ≤ 2 ^ 32 → Spans at to (elect_faults scope elect)
+    elect_spans : {at to : ℕ} {elect : Option ElectSyntaxTree} → IsElect text ts at elect to → to ≤ 2 ^ 32 → Spans at to (elect_faults scope elect)
     elect_spans {at = at} elect_none room = spans_none at at (omega arith)
     elect_spans {at = at} {to = to} (elect_some {order = order} k d) room =
         spans_wider at (at + 1) to to (order_faults scope Elect order) (omega arith) (omega arith) (order_spans text ts scope Elect d room)
+
+    batch_spans : {at to : ℕ} {batch : Option BatchSyntaxTree} → IsBatch text ts at batch to → to ≤ 2 ^ 32 → Spans at to (batch_faults scope batch)
+    batch_spans {at = at} batch_none room = spans_none at at (omega arith)
+    batch_spans {at = at} (batch_some {mid = mid} {condition = c} w d l n) room =
+        let is = guard_spans text ts scope GoingOn d (omega arith) in let less = is.ordered in
+        spans_append at mid (mid + 2) (condition_faults scope GoingOn c) (limit_faults (record { at = at; condition = c; limit_at = mid + 1; limit = value_at ts (mid + 1) }))
+        (spans_wider at (at + 1) mid mid (condition_faults scope GoingOn c) (omega arith) (omega arith) is)
+        (spans_where mid (mid + 2) (not (is_batch_limit (value_at ts (mid + 1)))) (BadRange (mid + 1)) (omega arith) (omega arith))
 
     sets_spans : {at to : ℕ} {sets : List SetSyntax} (e : Event) → IsSets text ts at sets to → to ≤ 2 ^ 32 → Spans at to (sets_faults scope e sets)
     sets_spans {at = at} e sets_none room = spans_none at at (omega arith)
@@ -121,9 +129,10 @@ module _ (text : List ℕ) (ts : List Lexeme) where
         (spans_wider (at + 3) (at + 3) last (last + 1) (cases_faults scope event (c ∷ cs)) (omega arith) (omega arith) cases) later)
 
   policy_spans : {s : SyntaxTree} → IsPolicy text ts s → length ts < 2 ^ 32 → Spans 1 (length ts) (policy_faults s)
-  policy_spans (policy_of {at_attrs = at_attrs} {at_place = at_place} {at_elect = at_elect} {at_handlers = at_handlers} {at_filter = at_filter} {at_choose = at_choose} {at_steal = at_steal}
-      {load = load} {attrs = attrs} {place = place} {elect = elect} {handlers = handlers} {filter = filter} {choose = choose} {steal = steal}
-      word name l attributes placed elected handled fw f cw c sw st) room =
+  policy_spans (policy_of {at_attrs = at_attrs} {at_place = at_place} {at_elect = at_elect} {at_handlers = at_handlers} {at_filter = at_filter} {at_choose = at_choose} {at_steal = at_steal} {at_batch = at_batch}
+      {load = load} {attrs = attrs} {place = place} {elect = elect} {handlers = handlers} {filter = filter} {choose = choose} {steal = steal} {batch = batch}
+      word name l attributes placed elected handled fw f cw c sw st b) room =
+      let goes_on = batch_spans scope b (omega arith) in let s7 = goes_on.ordered in
       let steals = order_spans text ts scope Steal st (omega arith) in let s6 = steals.ordered in
       let chooses = order_spans text ts scope Choose c (omega arith) in let s5 = chooses.ordered in
       let filters = guard_spans text ts scope Filter f (omega arith) in let s4 = filters.ordered in
@@ -140,9 +149,10 @@ module _ (text : List ℕ) (ts : List Lexeme) where
       (spans_append at_handlers at_filter (length ts) (handlers_faults scope [] handlers) _ handles
       (spans_append at_filter at_choose (length ts) (condition_faults scope Filter filter) _
       (spans_wider at_filter (at_filter + 1) at_choose at_choose (condition_faults scope Filter filter) (omega arith) (omega arith) filters)
-      (spans_append at_choose at_steal (length ts) (order_faults scope Choose choose) (order_faults scope Steal steal)
+      (spans_append at_choose at_steal (length ts) (order_faults scope Choose choose) _
       (spans_wider at_choose (at_choose + 1) at_steal at_steal (order_faults scope Choose choose) (omega arith) (omega arith) chooses)
-      (spans_wider at_steal (at_steal + 1) (length ts) (length ts) (order_faults scope Steal steal) (omega arith) (omega arith) steals))))))))
+      (spans_append at_steal at_batch (length ts) (order_faults scope Steal steal) (batch_faults scope batch)
+      (spans_wider at_steal (at_steal + 1) at_batch at_batch (order_faults scope Steal steal) (omega arith) (omega arith) steals) goes_on))))))))
     where
       scope : Scope
       scope = scope_after nothing_declared attrs

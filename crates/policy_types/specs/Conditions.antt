@@ -1,14 +1,12 @@
 -- The conditions and orders that a syntax is, and the rules that they break, in the order of the text. `and` and `or`
 -- group to the left.
 use Rattle.std.specs.Prelude.{Bool, true, false, List, [], ◌∷◌, ◌++◌, map, Option, Some, None}
-use Rattle.policy_syntax.specs.declared.syntax.ElectSyntax.{ElectSyntax}
-use Rattle.policy_syntax.specs.declared.syntax.KeySyntax.{KeySyntax}
-use Rattle.policy_syntax.specs.declared.syntax.OrderSyntax.{OrderSyntax}
-use Rattle.policy_tree.specs.Meaning.{KeyTree, greatest_first, least_first}
+use Rattle.policy_tree.specs.Meaning.{KeyTree, greatest_first, least_first, preferring}
 use Rattle.policy_tree.specs.Trees as tree
 use Rattle.policy_tree.specs.Trees.{CondTree, ExprTree}
 use Rattle.policy_syntax.specs.SyntaxTrees.{ConditionTree, always, negated, grouped, all, any, test, ConditionTrees}
-use Rattle.policy_syntax.specs.SyntaxTrees.{no_more, more}
+use Rattle.policy_syntax.specs.SyntaxTrees.{no_more, more, KeySyntaxTree, ranked, OrderSyntaxTree, ElectSyntaxTree}
+use Rattle.policy_syntax.specs.SyntaxTrees as syntax
 use Rattle.policy_types.specs.declared.fault.TypeFault.{TypeFault}
 use Rattle.policy_types.specs.declared.scope.Scope.{Scope}
 use Rattle.policy_types.specs.declared.sites.Site.{Site}
@@ -60,27 +58,29 @@ abbrev pub directed : Bool → ExprTree → KeyTree
 directed true e = greatest_first e
 directed false e = least_first e
 
-abbrev pub key_meaning : Scope → KeySyntax → KeyTree
-key_meaning scope k = directed k.greatest (expr_meaning scope k.value)
+abbrev pub key_meaning : Scope → KeySyntaxTree → KeyTree
+key_meaning scope (ranked at greatest e) = directed greatest (expr_meaning scope e)
+key_meaning scope (syntax.preferring at c) = preferring (condition_meaning scope c)
 
-abbrev pub order_meaning : Scope → OrderSyntax → List KeyTree
+abbrev pub order_meaning : Scope → OrderSyntaxTree → List KeyTree
 order_meaning scope order = map (key_meaning scope) order.keys
 
-abbrev pub key_faults : Scope → Site → KeySyntax → List TypeFault
-key_faults scope site k = expr_faults scope site k.value
+abbrev pub key_faults : Scope → Site → KeySyntaxTree → List TypeFault
+key_faults scope site (ranked at greatest e) = expr_faults scope site e
+key_faults scope site (syntax.preferring at c) = condition_faults scope site c
 
-abbrev pub keys_faults : Scope → Site → List KeySyntax → List TypeFault
+abbrev pub keys_faults : Scope → Site → List KeySyntaxTree → List TypeFault
 keys_faults scope site [] = []
 keys_faults scope site (k ∷ rest) = key_faults scope site k ++ keys_faults scope site rest
 
-abbrev pub order_faults : Scope → Site → OrderSyntax → List TypeFault
+abbrev pub order_faults : Scope → Site → OrderSyntaxTree → List TypeFault
 order_faults scope site order = keys_faults scope site order.keys
 
 -- `first` where nothing is said
-abbrev pub elect_meaning : Scope → Option ElectSyntax → List KeyTree
+abbrev pub elect_meaning : Scope → Option ElectSyntaxTree → List KeyTree
 elect_meaning scope None = []
 elect_meaning scope (Some e) = order_meaning scope e.order
 
-abbrev pub elect_faults : Scope → Option ElectSyntax → List TypeFault
+abbrev pub elect_faults : Scope → Option ElectSyntaxTree → List TypeFault
 elect_faults scope None = []
 elect_faults scope (Some e) = order_faults scope Elect e.order

@@ -1,16 +1,19 @@
 -- The policy that a syntax is, and the rules that it breaks, in the order of the text.
-use Rattle.std.specs.Prelude.{List, [], ◌++◌, Option, Some, None}
+use Rattle.std.specs.Prelude.{ℕ, Bool, nat_le, ◌&&◌, not, List, [], ◌++◌, Option, Some, None}
+use Rattle.sched_base.specs.declared.limits.TheConstants.{MAX_STOLEN}
 use Rattle.policy_syntax.specs.declared.syntax.PlaceSyntax.{PlaceSyntax}
 use Rattle.policy_syntax.specs.declared.syntax.PlaceSyntax.TheVariants.{Here, Least}
-use Rattle.policy_tree.specs.Meaning.{Meaning, PlaceTree, here, least}
-use Rattle.policy_syntax.specs.SyntaxTrees.{SyntaxTree}
+use Rattle.policy_tree.specs.Meaning.{BatchTree, Meaning, PlaceTree, here, least}
+use Rattle.policy_syntax.specs.SyntaxTrees.{BatchSyntaxTree, SyntaxTree}
 use Rattle.policy_types.specs.declared.fault.TypeFault.{TypeFault}
+use Rattle.policy_types.specs.declared.fault.TypeFault.TheVariants.{BadRange}
 use Rattle.policy_types.specs.declared.scope.Scope.{Scope}
-use Rattle.policy_types.specs.declared.sites.Site.TheVariants.{Choose, Filter, Placement, Steal}
+use Rattle.policy_types.specs.declared.sites.Site.TheVariants.{Choose, Filter, GoingOn, Placement, Steal}
 use Rattle.policy_types.specs.Conditions.{condition_faults, condition_meaning, elect_faults, elect_meaning}
 use Rattle.policy_types.specs.Conditions.{order_faults, order_meaning}
 use Rattle.policy_types.specs.Declarations.{attrs_faults, load_faults, load_meaning, nothing_declared, scope_after}
 use Rattle.policy_types.specs.Expressions.{expr_faults, expr_meaning}
+use Rattle.policy_types.specs.Faults.{where_broken}
 use Rattle.policy_types.specs.Handlers.{handlers_faults, handlers_meaning}
 
 -- on the core that lets the thread in, where nothing is said
@@ -24,11 +27,27 @@ place_faults scope None = []
 place_faults scope (Some (Here at)) = []
 place_faults scope (Some (Least at e)) = expr_faults scope Placement e
 
+-- a steal moves one thread, where nothing is said
+abbrev pub batch_meaning : Scope → Option BatchSyntaxTree → Option BatchTree
+batch_meaning scope None = None
+batch_meaning scope (Some b) = Some (record { condition = condition_meaning scope b.condition; limit = b.limit })
+
+-- whether one steal may move so many threads
+abbrev pub is_batch_limit : ℕ → Bool
+is_batch_limit n = nat_le 1 n && nat_le n MAX_STOLEN
+
+abbrev pub limit_faults : BatchSyntaxTree → List TypeFault
+limit_faults b = where_broken (not (is_batch_limit b.limit)) (BadRange b.limit_at)
+
+abbrev pub batch_faults : Scope → Option BatchSyntaxTree → List TypeFault
+batch_faults scope None = []
+batch_faults scope (Some b) = condition_faults scope GoingOn b.condition ++ limit_faults b
+
 -- what the policy declares
 abbrev pub scope_of : SyntaxTree → Scope
 scope_of s = scope_after nothing_declared s.attrs
 
--- the policy, where what it declares is this. No text spells a batch
+-- the policy, where what it declares is this
 abbrev pub meaning_in : Scope → SyntaxTree → Meaning
 meaning_in scope s = record {
   name = s.name;
@@ -41,7 +60,7 @@ meaning_in scope s = record {
   filter = condition_meaning scope s.filter;
   choose = order_meaning scope s.choose;
   steal = order_meaning scope s.steal;
-  batch = None;
+  batch = batch_meaning scope s.batch;
 }
 
 abbrev pub policy_meaning : SyntaxTree → Meaning
@@ -54,7 +73,8 @@ faults_in scope s =
     ++ (elect_faults scope s.elect
     ++ (handlers_faults scope [] s.handlers
     ++ (condition_faults scope Filter s.filter
-    ++ (order_faults scope Choose s.choose ++ order_faults scope Steal s.steal))))
+    ++ (order_faults scope Choose s.choose
+    ++ (order_faults scope Steal s.steal ++ batch_faults scope s.batch)))))
 
 abbrev pub policy_faults : SyntaxTree → List TypeFault
 policy_faults s = load_faults s.load ++ (attrs_faults nothing_declared s.attrs ++ faults_in (scope_of s) s)

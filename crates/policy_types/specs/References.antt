@@ -17,7 +17,8 @@ use Rattle.policy_types.specs.declared.scope.Scope.{Scope}
 use Rattle.policy_types.specs.declared.sites.Feature.{Feature}
 use Rattle.policy_types.specs.declared.sites.Feature.TheVariants.{Nr, Load, Weight, Fresh, Attribute}
 use Rattle.policy_types.specs.declared.sites.Site.{Site}
-use Rattle.policy_types.specs.declared.sites.Site.TheVariants.{Filter, Choose, Placement, Elect, Steal, Handler}
+use Rattle.policy_types.specs.declared.sites.Site.TheVariants.{Filter, Choose, Placement, Elect, Steal, GoingOn}
+use Rattle.policy_types.specs.declared.sites.Site.TheVariants.{Handler}
 
 -- the first attribute of that name, where the first of the list has that number
 abbrev pub attribute_named : ℕ → List Attr → List ℕ → Option Feature
@@ -84,6 +85,9 @@ allows Choose Victim feature = is_of_core feature
 allows Placement Core feature = is_of_core feature
 allows Elect Thread feature = is_of_thread feature
 allows Steal Thread feature = is_of_thread feature
+allows GoingOn Itself feature = is_of_core feature
+allows GoingOn Victim feature = is_of_core feature
+allows GoingOn Thread feature = is_of_thread feature
 allows (Handler event.Enqueue) Thread feature = is_of_arriving_thread feature
 allows (Handler event.Tick) Thread feature = is_of_thread feature
 allows (Handler event.Yield) Thread feature = is_of_thread feature

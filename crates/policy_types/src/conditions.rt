@@ -2,9 +2,9 @@
 
 ghost use Rattle.std.specs.Prelude.{◌≡◌, IfOk, IfErr, [], None, option_map};
 ghost use Rattle.policy_tree.specs.Meaning.{key_tree, order_tree};
-ghost use Rattle.policy_tree.specs.Trees.{cond_tree};
-ghost use Rattle.policy_syntax.specs.SyntaxTrees.{condition_tree, condition_trees};
-ghost use Rattle.policy_types.specs.Conditions.{chain_meaning, condition_faults, condition_meaning, linked};
+ghost use Rattle.policy_tree.specs.Trees.{cond_tree, expr_tree};
+ghost use Rattle.policy_syntax.specs.SyntaxTrees.{condition_tree, condition_trees, key_syntax_tree, order_syntax_tree};
+ghost use Rattle.policy_types.specs.Conditions.{chain_meaning, condition_faults, condition_meaning, directed, linked};
 ghost use Rattle.policy_types.specs.Conditions.{key_faults, key_meaning, order_faults, order_meaning, parts_faults};
 ghost use Rattle.policy_types.specs.Faults.{IsFirst};
 
@@ -13,7 +13,7 @@ use crate::scope::Scope;
 use crate::sites::Site;
 use lists::Items;
 use policy_syntax::{ConditionSyntax, KeySyntax, OrderSyntax};
-use policy_tree::{Cond, Key, Order};
+use policy_tree::{Cond, Expr, Key, Order};
 use std::alloc::{AllocError, Global};
 
 impl Scope<'_> {
@@ -85,9 +85,9 @@ impl Scope<'_> {
         site: Site,
         order: &OrderSyntax,
     ) -> Result<Order, TypeFault>
-        ensures tree { IfOk result (λ o. order_tree o ≡ order_meaning self.now order.now) }
-        ensures sound { IfOk result (λ o. order_faults self.now site order.now ≡ []) }
-        ensures fault { IfErr result (IsFirst (order_faults self.now site order.now)) }
+        ensures tree { IfOk result (λ o. order_tree o ≡ order_meaning self.now (order_syntax_tree order.now)) }
+        ensures sound { IfOk result (λ o. order_faults self.now site (order_syntax_tree order.now) ≡ []) }
+        ensures fault { IfErr result (IsFirst (order_faults self.now site (order_syntax_tree order.now))) }
     {
         let mut keys = Vec::new(alloc);
         let read = order.keys.as_slice();
@@ -99,16 +99,31 @@ impl Scope<'_> {
 
     /// A key.
     fn key(&self, alloc: Global, site: Site, key: &KeySyntax) -> Result<Key, TypeFault>
-        ensures tree { IfOk result (λ k. key_tree k ≡ key_meaning self.now key.now) }
-        ensures sound { IfOk result (λ k. key_faults self.now site key.now ≡ []) }
-        ensures fault { IfErr result (IsFirst (key_faults self.now site key.now)) }
+        ensures tree { IfOk result (λ k. key_tree k ≡ key_meaning self.now (key_syntax_tree key.now)) }
+        ensures sound { IfOk result (λ k. key_faults self.now site (key_syntax_tree key.now) ≡ []) }
+        ensures fault { IfErr result (IsFirst (key_faults self.now site (key_syntax_tree key.now))) }
     {
-        let expr = self.expr(alloc, site, &key.value)?;
-        if key.greatest {
-            Ok(Key::Greatest(expr))
-        } else {
-            Ok(Key::Least(expr))
+        match key {
+            KeySyntax::Ranked {
+                greatest,
+                value,
+                ..
+            } => Ok(directed(*greatest, self.expr(alloc, site, value)?)),
+            KeySyntax::Preferring { condition, .. } => {
+                Ok(Key::Prefer(self.condition(alloc, site, condition)?))
+            }
         }
+    }
+}
+
+/// The key that puts the greater value first, or the lesser.
+fn directed(greatest: bool, expr: Expr) -> Key
+    ensures { key_tree result ≡ directed greatest (expr_tree expr) }
+{
+    if greatest {
+        Key::Greatest(expr)
+    } else {
+        Key::Least(expr)
     }
 }
 

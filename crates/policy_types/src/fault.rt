@@ -15,7 +15,7 @@ pub enum TypeFault {
     NotLinear(u32),
     /// This word, or where the thread is put, is known but mayn't stand here.
     NotHere(u32),
-    /// The range that begins here isn't one that may be declared.
+    /// The range that begins here isn't one that may be declared, or this number isn't one that may limit a steal.
     BadRange(u32),
     /// This number, or the linear form at this operator, is too big.
     Big(u32),

@@ -15,6 +15,8 @@ pub enum Site {
     Placement,
     Elect,
     Steal,
+    /// Behind `while`: whether a steal goes on.
+    GoingOn,
     /// In a case of that event.
     Handler(Event),
 }
@@ -39,7 +41,7 @@ pub(crate) fn allows(site: Site, owner: Owner, feature: Feature) -> bool
     ensures { result ≡ allows site owner feature }
 {
     match (site, owner) {
-        (Site::Filter | Site::Choose, Owner::Itself | Owner::Victim)
+        (Site::Filter | Site::Choose | Site::GoingOn, Owner::Itself | Owner::Victim)
         | (Site::Placement, Owner::Core) => matches!(
             feature,
             Feature::Nr | Feature::Load | Feature::Attribute(_)
@@ -48,7 +50,7 @@ pub(crate) fn allows(site: Site, owner: Owner, feature: Feature) -> bool
             feature,
             Feature::Weight | Feature::Fresh | Feature::Attribute(_)
         ),
-        (Site::Elect | Site::Steal | Site::Handler(_), Owner::Thread) => {
+        (Site::Elect | Site::Steal | Site::GoingOn | Site::Handler(_), Owner::Thread) => {
             matches!(feature, Feature::Weight | Feature::Attribute(_))
         }
         (Site::Handler(_), Owner::Itself) => matches!(feature, Feature::Attribute(_)),

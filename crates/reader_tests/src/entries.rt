@@ -1,11 +1,15 @@
 //! Entries by their numbers, and whether those are in their ranges.
 
-ghost use Rattle.std.specs.Prelude.{◌≤◌, All, IsTrue, length};
-ghost use Rattle.sched_history.specs.Ranges.{AreReads, AreStolen, IsCoreNumber, IsPrintable, IsThreadNumber};
-ghost use Rattle.sched_history.specs.Ranges.{NamesThread};
+ghost use Rattle.std.specs.Prelude.{◌≡◌, ◌⊎◌, ◌<◌, ◌≤◌, [], All, IsTrue, length};
+ghost use Rattle.sched_history.specs.declared.forms.LineForm.TheVariants as forms;
+ghost use Rattle.sched_history.specs.Lines.{entry_lines};
+ghost use Rattle.sched_history.specs.Ranges.{AreOneEach, AreStolen, CanBePrinted, IsCoreCount, IsPositionFrom};
+ghost use Rattle.sched_history.specs.Ranges.{IsPrintable, IsPrintableLine, IsThreadNumber, NamesThread};
+ghost use Rattle.sched_history.specs.Spelling.{second_form};
 
 use round_model::{Did, Entry};
-use sched_base::{MAX_CORES, MAX_ENTRIES, MAX_ROUNDS, MAX_STOLEN, MAX_THREADS, Reads, Stolen};
+use sched_base::{MAX_CORES, MAX_ENTRIES, MAX_ROUNDS, MAX_STOLEN, MAX_THREADS, Pos, Reads, Stolen};
+use sched_history::start_behind;
 
 /// These positions.
 fn reads_at(positions: &[u32]) -> Reads
@@ -90,20 +94,40 @@ pub(crate) fn pass(by: u32, positions: &[u32]) -> Entry
     }
 }
 
-/// Whether the numbers of all these entries are in their ranges.
-pub(crate) fn are_printable(entries: &[Entry]) -> bool
-    ensures { IsTrue result → All IsPrintable entries.now }
+/// Whether the entries have a text of the second format, of so many cores.
+pub(crate) fn are_printable(entries: &[Entry], cores: u32) -> bool
+    ensures { IsTrue result → CanBePrinted cores entries.now }
 {
+    is_core_count(cores) && entries.len() <= MAX_ENTRIES as usize && have_lines(entries, cores)
+}
+
+fn is_core_count(cores: u32) -> bool
+    ensures { IsTrue result → IsCoreCount cores }
+{
+    1 <= cores && cores as usize <= MAX_CORES
+}
+
+/// Whether each of the entries has a line.
+fn have_lines(entries: &[Entry], cores: u32) -> bool
+    requires cores { IsCoreCount cores }
+    requires few { length entries.now ≤ MAX_ENTRIES }
+    ensures { IsTrue result → All IsPrintableLine (entry_lines 0 (second_form cores) entries.now) }
+{
+    let mut start = 0;
+    let mut count = 0;
     for entry in entries {
-        if !is_printable(entry) {
+        if !is_printable(entry, cores, start) {
             return false;
         }
+        count += 1;
+        start = start_behind(start, entry, count);
     }
     true
 }
 
-fn is_printable(entry: &Entry) -> bool
-    ensures { IsTrue result → IsPrintable entry.now }
+fn is_printable(entry: &Entry, cores: u32, start: Pos) -> bool
+    requires { IsCoreCount cores }
+    ensures { IsTrue result → IsPrintable (forms.Second cores start) entry.now }
 {
     match entry {
         Entry::Round { number } => 1 <= *number && *number <= MAX_ROUNDS,
@@ -118,16 +142,25 @@ fn is_printable(entry: &Entry) -> bool
             by,
             at,
             reads,
-        } => is_thread(*thread) && is_core(*by) && is_core(*at) && are_positions(reads),
+        } => {
+            is_thread(*thread)
+                && is_core(*by)
+                && is_core(*at)
+                && are_placement_reads(reads, cores, start)
+        }
         Entry::Work { by, did } => is_core(*by) && names_thread(did),
         Entry::Steal {
             by,
             from,
             threads,
             reads,
-        } => is_core(*by) && is_core(*from) && are_stolen(threads) && are_positions(reads),
-        Entry::Fail { by, from, reads } => is_core(*by) && is_core(*from) && are_positions(reads),
-        Entry::Pass { by, reads } => is_core(*by) && are_positions(reads),
+        } => {
+            is_core(*by) && is_core(*from) && are_stolen(threads) && are_reads(reads, cores, start)
+        }
+        Entry::Fail { by, from, reads } => {
+            is_core(*by) && is_core(*from) && are_reads(reads, cores, start)
+        }
+        Entry::Pass { by, reads } => is_core(*by) && are_reads(reads, cores, start),
     }
 }
 
@@ -165,16 +198,31 @@ fn are_threads(threads: &Stolen) -> bool
 }
 
 fn is_core(core: u32) -> bool
-    ensures { IsTrue result → IsCoreNumber core }
+    ensures { IsTrue result → core < MAX_CORES }
 {
     (core as usize) < MAX_CORES
 }
 
-fn are_positions(reads: &Reads) -> bool
-    ensures { IsTrue result → AreReads reads.now }
+fn are_placement_reads(reads: &Reads, cores: u32, start: Pos) -> bool
+    requires { IsCoreCount cores }
+    ensures { IsTrue result → (reads.now ≡ []) ⊎ AreOneEach cores start reads.now }
+{
+    reads.is_empty() || are_reads(reads, cores, start)
+}
+
+fn are_reads(reads: &Reads, cores: u32, start: Pos) -> bool
+    requires { IsCoreCount cores }
+    ensures { IsTrue result → AreOneEach cores start reads.now }
+{
+    reads.len() == cores && are_positions(reads, start)
+}
+
+fn are_positions(reads: &Reads, start: Pos) -> bool
+    ensures { IsTrue result → All (IsPositionFrom start) reads.now }
 {
     for at in 0..reads.len() {
-        if reads.get(at) > MAX_ENTRIES {
+        let position = reads.get(at);
+        if position < start || position > MAX_ENTRIES {
             return false;
         }
     }

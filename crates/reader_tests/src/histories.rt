@@ -10,18 +10,24 @@ use std::alloc::{AllocError, Global};
 /// The room of a sink, in bytes.
 const ROOM: u64 = 1_048_576;
 
-/// How many entries of the text are read, where they are written as the same text. Else its first bad line.
-pub(crate) fn written_again(alloc: Global, text: &[u8]) -> Result<String, AllocError> {
-    match read_history(alloc, text) {
-        Ok(history) => read_answer(alloc, history.as_slice(), text),
+/// How many entries of the text of so many cores are read, where a text of the second format is what is written of them
+/// again. Else its first bad line.
+pub(crate) fn written_again(alloc: Global, text: &[u8], cores: u32) -> Result<String, AllocError> {
+    match read_history(alloc, text, cores) {
+        Ok(history) => read_answer(alloc, history.as_slice(), text, cores),
         Err(HistoryFault::BadLine(line)) => format!(in alloc; "bad-line {line}"),
         Err(HistoryFault::Memory) => Err(AllocError),
     }
 }
 
-/// How many entries there are, where they are written as this text.
-fn read_answer(alloc: Global, entries: &[Entry], text: &[u8]) -> Result<String, AllocError> {
-    if is_written(alloc, entries, text)? {
+/// How many entries there are, where they are written as this text or it is of the first format.
+fn read_answer(
+    alloc: Global,
+    entries: &[Entry],
+    text: &[u8],
+    cores: u32,
+) -> Result<String, AllocError> {
+    if !text.starts_with(b"history") || is_written(alloc, entries, text, cores)? {
         format!(in alloc; "read {}", entries.len())
     } else {
         String::from_str(alloc, "another text")
@@ -33,9 +39,10 @@ pub(crate) fn is_written(
     alloc: Global,
     entries: &[Entry],
     text: &[u8],
+    cores: u32,
 ) -> Result<bool, AllocError> {
     let mut out = sink(alloc, Vec::new(alloc))?;
-    let whole = are_printable(entries) && put_history(&mut out, entries).is_ok();
+    let whole = are_printable(entries, cores) && put_history(&mut out, entries, cores).is_ok();
     Ok(whole && out.bytes() == text)
 }
 
@@ -44,9 +51,10 @@ pub(crate) fn is_cut_short(
     alloc: Global,
     entries: &[Entry],
     text: &[u8],
+    cores: u32,
 ) -> Result<bool, AllocError> {
     let mut out = sink(alloc, vec![in alloc; 2]?)?;
-    let cut_short = are_printable(entries) && put_history(&mut out, entries).is_err();
+    let cut_short = are_printable(entries, cores) && put_history(&mut out, entries, cores).is_err();
     Ok(cut_short && out.bytes() == text)
 }
 

@@ -26,8 +26,8 @@ enum Question {
     Made,
     /// Of a trace: what is printed of it.
     Printed,
-    /// Of a history: how many entries are read, or its first bad line.
-    History,
+    /// Of a history of so many cores: how many entries are read, or its first bad line.
+    History(u32),
 }
 
 impl Answers for Question {
@@ -39,13 +39,13 @@ impl Answers for Question {
             Question::Lines => made_lines(alloc, text),
             Question::Made => made_plan(alloc, text),
             Question::Printed => printed_again(alloc, text),
-            Question::History => written_again(alloc, text),
+            Question::History(cores) => written_again(alloc, text, *cores),
         }
     }
 }
 
 /// The tables, in the order in which they are played.
-const TABLES: [(&str, Question); 8] = [
+const TABLES: [(&str, Question); 10] = [
     ("forms.cases", Question::Trace),
     ("limits.cases", Question::Trace),
     ("numbers.cases", Question::Number),
@@ -53,7 +53,9 @@ const TABLES: [(&str, Question); 8] = [
     ("sizes.cases", Question::Lines),
     ("made.cases", Question::Made),
     ("printed.cases", Question::Printed),
-    ("histories.cases", Question::History),
+    ("first_histories.cases", Question::History(2)),
+    ("second_histories.cases", Question::History(2)),
+    ("many_cores.cases", Question::History(64)),
 ];
 
 /// Plays all tables.

@@ -9,7 +9,11 @@ use std::io;
 
 /// Prints of each history whether it is written as its text.
 pub(crate) fn tell_histories<R: Print>(rt: &R, alloc: Global) -> io::Result<()> {
-    told(rt, "no entries", is_written(alloc, &[], b"")?)?;
+    told(
+        rt,
+        "no entries",
+        is_written(alloc, &[], b"history 2 cores 2\n", 2)?,
+    )?;
     told(rt, "one core and two units", one_core_and_two_units(alloc)?)?;
     told(
         rt,
@@ -40,8 +44,8 @@ fn one_core_and_two_units(alloc: Global) -> Result<bool, AllocError> {
         pass(0, &[6]),
     ];
     let text =
-        "round 1\nenter 1 0 0 :\nwork 0 1 keep\npass 0 : 3\nround 2\nwork 0 1 end\npass 0 : 6\n";
-    is_written(alloc, &entries, text.as_bytes())
+        "history 2 cores 1\nround 1\nenter 1 0 0\nwork 0 1 keep\npass 0 : 2\nround 2\nwork 0 1 end\npass 0 : 1\n";
+    is_written(alloc, &entries, text.as_bytes(), 1)
 }
 
 fn a_stale_read(alloc: Global) -> Result<bool, AllocError> {
@@ -57,9 +61,9 @@ fn a_stale_read(alloc: Global) -> Result<bool, AllocError> {
         fail(2, 0, &[5, 6, 7]),
     ];
     let text =
-        "round 1\nenter 1 0 0 :\nenter 2 0 0 :\nwork 0 1 keep\npass 0 : 4 1 1\nwork 1 -\nwork 2 -\n\
-        steal 1 0 2 : 5 6 1\nfail 2 0 : 5 6 7\n";
-    is_written(alloc, &entries, text.as_bytes())
+        "history 2 cores 3\nround 1\nenter 1 0 0\nenter 2 0 0\nwork 0 1 keep\npass 0 : 3 0 0\nwork 1 -\n\
+        work 2 -\nsteal 1 0 2 : 4 5 0\nfail 2 0 : 4 5 6\n";
+    is_written(alloc, &entries, text.as_bytes(), 3)
 }
 
 fn a_block_and_a_wake(alloc: Global) -> Result<bool, AllocError> {
@@ -79,10 +83,10 @@ fn a_block_and_a_wake(alloc: Global) -> Result<bool, AllocError> {
         pass(1, &[11, 12]),
     ];
     let text =
-        "round 1\nenter 1 0 0 : 1 1\nenter 2 0 1 : 2 1\nwork 0 1 block\npass 0 : 4 3\nwork 1 2 queue\n\
-        pass 1 : 5 6\nround 2\nwake 1 0 0 : 8 8\nwork 0 1 end\npass 0 : 10 8\nwork 1 2 queue\n\
-        pass 1 : 11 12\n";
-    is_written(alloc, &entries, text.as_bytes())
+        "history 2 cores 2\nround 1\nenter 1 0 0 : 0 0\nenter 2 0 1 : 1 0\nwork 0 1 block\npass 0 : 3 2\n\
+        work 1 2 queue\npass 1 : 4 5\nround 2\nwake 1 0 0 : 0 0\nwork 0 1 end\npass 0 : 2 0\n\
+        work 1 2 queue\npass 1 : 3 4\n";
+    is_written(alloc, &entries, text.as_bytes(), 2)
 }
 
 fn two_cores_and_a_put_that_fails(alloc: Global) -> Result<bool, AllocError> {
@@ -96,9 +100,10 @@ fn two_cores_and_a_put_that_fails(alloc: Global) -> Result<bool, AllocError> {
         steal(1, 0, &[2], &[5, 6]),
     ];
     let text =
-        "round 1\nenter 1 0 0 :\nenter 2 0 0 :\nwork 0 1 keep\npass 0 : 4 1\nwork 1 -\nsteal 1 0 2 : 5 6\n";
-    let whole = is_written(alloc, &entries, text.as_bytes())?;
-    let cut_short = is_cut_short(alloc, &entries, b"round 1\nenter 1 0 0 :\n")?;
+        "history 2 cores 2\nround 1\nenter 1 0 0\nenter 2 0 0\nwork 0 1 keep\npass 0 : 3 0\nwork 1 -\n\
+        steal 1 0 2 : 4 5\n";
+    let whole = is_written(alloc, &entries, text.as_bytes(), 2)?;
+    let cut_short = is_cut_short(alloc, &entries, b"history 2 cores 2\nround 1\n", 2)?;
     Ok(whole && cut_short)
 }
 
@@ -109,21 +114,21 @@ fn greatest_numbers(alloc: Global) -> Result<bool, AllocError> {
         steal(63, 63, &[1023; 8], &[65536; 64]),
         work(63, Did::Blocked(1023)),
     ];
-    let mut text = String::from_str(alloc, "round 4096\n")?;
+    let mut text = String::from_str(alloc, "history 2 cores 64\nround 4096\n")?;
     push_reads(&mut text, "enter 1023 63 63 :")?;
     push_reads(
         &mut text,
         "steal 63 63 1023 1023 1023 1023 1023 1023 1023 1023 :",
     )?;
     text.push_str("work 63 1023 block\n")?;
-    is_written(alloc, &entries, text.as_bytes())
+    is_written(alloc, &entries, text.as_bytes(), 64)
 }
 
-/// A line with the greatest position of each of 64 cores.
+/// A line with the greatest position of each of 64 cores, behind one entry.
 fn push_reads(text: &mut String, front: &str) -> Result<(), AllocError> {
     text.push_str(front)?;
     for _core in 0..64 {
-        text.push_str(" 65536")?;
+        text.push_str(" 65535")?;
     }
     text.push_str("\n")
 }

@@ -1,5 +1,5 @@
 -- Idle and overloaded cores, and the measure of how far loads lie apart.
-use Rattle.std.specs.Prelude.{◌≡◌, ℕ, ◌+◌, ◌<◌, ◌≤◌, List, [], ◌∷◌, map, sum_by}
+use Rattle.std.specs.Prelude.{◌≡◌, ℕ, ◌+◌, ◌<◌, ◌≤◌, ◌==◌, Bool, List, [], ◌∷◌, count_by, map, sum_by}
 use Rattle.std.specs.Int.{abs_diff}
 use Rattle.round_model.specs.declared.state.ModelCore.{ModelCore}
 use Rattle.round_model.specs.declared.plan.Plan.{Plan}
@@ -12,6 +12,14 @@ IsIdle core = thread_count core ≡ 0
 -- two threads or more are current or queued
 abbrev pub IsOverloaded : ModelCore → Type 0
 IsOverloaded core = 2 ≤ thread_count core
+
+-- whether a core of the state is idle
+abbrev pub has_none : Cores → ℕ → Bool
+has_none m c = thread_count (m c) == 0
+
+-- how many cores are idle
+unfoldable pub idle_count : Plan → Cores → ℕ
+idle_count plan m = count_by (has_none m) (core_numbers plan)
 
 -- some core is idle while another is overloaded
 pub record Beside (plan : Plan) (m : Cores) : Type 0 where

@@ -76,7 +76,8 @@ impl Entry {
     ghost use Rattle.round_model.specs.Kinds.{is_attempt as makes_attempt, is_round as begins_round};
     ghost use Rattle.round_model.specs.Kinds.{is_work as runs_unit};
 
-    /// The entry of the core `by` for an attempt on the core `from` that moves these threads: a fail where there is none.
+    /// The entry of the core `by` for an attempt on the core `from` that moves these threads: a fail where there is
+    /// none.
     pub fn steal_or_fail(by: CoreId, from: CoreId, threads: Stolen, reads: Reads) -> Entry
         ensures { result ≡ steals_or_fails by from reads threads }
     {

@@ -8,7 +8,7 @@ use Rattle.round_model.specs.Cores.{opening_state}
 use Rattle.round_model.specs.Entries.{touches}
 use Rattle.round_model.specs.Moves.{core_after_event, handed, handed_all, received, received_all, released}
 use Rattle.round_model.specs.Rounds.{IsStill}
-use Rattle.round_model.specs.Spread.{spread}
+use Rattle.round_model.specs.Spread.{idle_count, spread}
 use Rattle.round_model.specs.StillRounds.{spread_at}
 use Rattle.round_model.specs.Stretches.{IsStillStretch}
 use Rattle.round_model.specs.Work.{worked}
@@ -26,11 +26,11 @@ use Rattle.model_tests.proofs.RoundRows.{eight_threads_rounds, stale_read_explai
 use Rattle.row_tests.specs.Rows.{EightThreadsReported, StaleReadReported, eight_threads_report, stale_read_report}
 
 stale_read_rounds : stale_read_report.rounds ≡ round_rows basic stale_read stale_read_history
-unfolding round_row spread touches effect after_from opening_state core_after_event handed handed_all received received_all released worked holding_cases outcomes_of task_after_set pair_values core_values thread_values event_values
+unfolding round_row idle_count spread touches effect after_from opening_state core_after_event handed handed_all received received_all released worked holding_cases outcomes_of task_after_set pair_values core_values thread_values event_values
 stale_read_rounds = refl
 
 eight_threads_rows : eight_threads_report.rounds ≡ round_rows basic eight_threads eight_threads_history
-unfolding round_row spread touches effect after_from opening_state core_after_event handed handed_all received received_all released worked holding_cases outcomes_of task_after_set pair_values core_values thread_values event_values
+unfolding round_row idle_count spread touches effect after_from opening_state core_after_event handed handed_all received received_all released worked holding_cases outcomes_of task_after_set pair_values core_values thread_values event_values
 eight_threads_rows = refl
 
 stale_read_totals : stale_read_report.totals ≡ totals_of stale_read_history stale_read_report.rounds

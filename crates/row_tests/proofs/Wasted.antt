@@ -10,7 +10,7 @@ use Rattle.round_model.specs.Explains.{Explains}
 use Rattle.round_model.specs.Moves.{core_after_event, handed, handed_all, received, received_all, released}
 use Rattle.round_model.specs.Reads.{value_read}
 use Rattle.round_model.specs.Rounds.{IsStill}
-use Rattle.round_model.specs.Spread.{spread}
+use Rattle.round_model.specs.Spread.{idle_count, spread}
 use Rattle.round_model.specs.StillRounds.{spread_at}
 use Rattle.round_model.specs.Stretches.{IsStillStretch}
 use Rattle.round_model.specs.Work.{worked}
@@ -41,7 +41,7 @@ eight_threads_wasted = record {
 
 -- one thread, and a policy that takes from a core with nothing queued
 eager_rounds : eager_waste.rounds ≡ round_rows eager one_thread one_thread_history
-unfolding round_row spread touches effect after_from opening_state core_after_event handed handed_all received received_all released worked holding_cases outcomes_of task_after_set pair_values core_values thread_values event_values
+unfolding round_row idle_count spread touches effect after_from opening_state core_after_event handed handed_all received received_all released worked holding_cases outcomes_of task_after_set pair_values core_values thread_values event_values
 eager_rounds = refl
 
 eager_totals : eager_waste.totals ≡ totals_of one_thread_history eager_waste.rounds
@@ -113,7 +113,7 @@ eager_wasted = record {
 
 -- two threads, and a policy that leaves them on one core
 timid_rounds : timid_waste.rounds ≡ round_rows timid two_threads two_threads_history
-unfolding round_row spread touches effect after_from opening_state core_after_event handed handed_all received received_all released worked holding_cases outcomes_of task_after_set pair_values core_values thread_values event_values
+unfolding round_row idle_count spread touches effect after_from opening_state core_after_event handed handed_all received received_all released worked holding_cases outcomes_of task_after_set pair_values core_values thread_values event_values
 timid_rounds = refl
 
 timid_totals : timid_waste.totals ≡ totals_of two_threads_history timid_waste.rounds

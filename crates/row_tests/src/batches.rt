@@ -1,8 +1,9 @@
 //! Steals of several threads, entry by entry and by serial play: core 1 takes threads of core 0.
 
-ghost use Rattle.std.specs.Prelude.{◌≤◌, All, IfOk, IfSome, length};
+ghost use Rattle.std.specs.Prelude.{◌≤◌, IfOk, IfSome, length};
 ghost use Rattle.sched_base.specs.declared.limits.TheConstants.{MAX_ENTRIES, MAX_STOLEN};
-ghost use Rattle.sched_history.specs.Ranges.{IsPrintable};
+ghost use Rattle.sched_history.specs.Ranges.{CanBePrinted};
+ghost use Rattle.row_tests.specs.declared.batches.TheConstants.{CORES};
 
 use crate::reports::sink;
 use history_reader::{HistoryFault, read_history};
@@ -11,19 +12,22 @@ use round_model::{Entry, History, ModelMemory, Played};
 use sched_history::put_history;
 use std::alloc::{AllocError, Global};
 
+// How many cores the machine has.
+const CORES: u32 = 2;
+
 /// Six threads, up to the steal.
 const SIX: &[u8] =
-    b"round 1\nenter 1 0 0 :\nenter 2 0 0 :\nenter 3 0 0 :\nenter 4 0 0 :\nenter 5 0 0 :\nenter 6 0 0 :\n\
-    work 0 1 keep\npass 0 : 8 1\nwork 1 -\n";
+    b"history 2 cores 2\nround 1\nenter 1 0 0\nenter 2 0 0\nenter 3 0 0\nenter 4 0 0\nenter 5 0 0\nenter 6 0 0\n\
+    work 0 1 keep\npass 0 : 7 0\nwork 1 -\n";
 
 /// The same, and a thread of core 1.
 const SEVEN: &[u8] =
-    b"round 1\nenter 1 0 0 :\nenter 2 0 0 :\nenter 3 0 0 :\nenter 4 0 0 :\nenter 5 0 0 :\nenter 6 0 0 :\n\
-    work 0 1 keep\npass 0 : 8 1\nenter 7 1 1 :\nwork 1 7 keep\n";
+    b"history 2 cores 2\nround 1\nenter 1 0 0\nenter 2 0 0\nenter 3 0 0\nenter 4 0 0\nenter 5 0 0\nenter 6 0 0\n\
+    work 0 1 keep\npass 0 : 7 0\nenter 7 1 1\nwork 1 7 keep\n";
 
 /// Three threads, up to the steal.
 const THREE: &[u8] =
-    b"round 1\nenter 1 0 0 :\nenter 2 0 0 :\nenter 3 0 0 :\nwork 0 1 keep\npass 0 : 5 1\nwork 1 -\n";
+    b"history 2 cores 2\nround 1\nenter 1 0 0\nenter 2 0 0\nenter 3 0 0\nwork 0 1 keep\npass 0 : 4 0\nwork 1 -\n";
 
 /// Threads of weight 1: a steal stops where the gap is closed, or at the limit.
 pub(crate) fn batches_of_threads(alloc: Global) -> Result<bool, ModelMemory> {
@@ -33,20 +37,20 @@ pub(crate) fn batches_of_threads(alloc: Global) -> Result<bool, ModelMemory> {
             BatchRow::SixThreads,
             8,
             SIX,
-            b"steal 1 0 2 3 4 : 9 10\n",
+            b"steal 1 0 2 3 4 : 8 9\n",
         )? && plays(
             alloc,
             BatchRow::SixThreads,
             2,
             SIX,
-            b"steal 1 0 2 3 : 9 10\n",
-        )? && plays(alloc, BatchRow::SixThreads, 1, SIX, b"steal 1 0 2 : 9 10\n")?
+            b"steal 1 0 2 3 : 8 9\n",
+        )? && plays(alloc, BatchRow::SixThreads, 1, SIX, b"steal 1 0 2 : 8 9\n")?
             && plays(
                 alloc,
                 BatchRow::SevenThreads,
                 8,
                 SEVEN,
-                b"steal 1 0 2 3 : 9 11\n",
+                b"steal 1 0 2 3 : 8 10\n",
             )?,
     )
 }
@@ -59,14 +63,14 @@ pub(crate) fn batches_of_weights(alloc: Global) -> Result<bool, ModelMemory> {
             BatchRow::SixWeights,
             8,
             SIX,
-            b"steal 1 0 3 2 : 9 10\n",
-        )? && plays(alloc, BatchRow::SixWeights, 1, SIX, b"steal 1 0 3 : 9 10\n")?
+            b"steal 1 0 3 2 : 8 9\n",
+        )? && plays(alloc, BatchRow::SixWeights, 1, SIX, b"steal 1 0 3 : 8 9\n")?
             && plays(
                 alloc,
                 BatchRow::ThreeWeights,
                 8,
                 THREE,
-                b"steal 1 0 2 3 : 6 7\n",
+                b"steal 1 0 2 3 : 5 6\n",
             )?,
     )
 }
@@ -79,31 +83,31 @@ pub(crate) fn lists_of_another_length_or_order(alloc: Global) -> Result<bool, Mo
             BatchRow::SixThreads,
             2,
             SIX,
-            b"steal 1 0 2 3 4 : 9 10\n",
+            b"steal 1 0 2 3 4 : 8 9\n",
         )? && misses(
             alloc,
             BatchRow::SixThreads,
             8,
             SIX,
-            b"steal 1 0 2 3 : 9 10\n",
+            b"steal 1 0 2 3 : 8 9\n",
         )? && misses(
             alloc,
             BatchRow::SixThreads,
             8,
             SIX,
-            b"steal 1 0 2 3 4 5 : 9 10\n",
+            b"steal 1 0 2 3 4 5 : 8 9\n",
         )? && misses(
             alloc,
             BatchRow::SixThreads,
             8,
             SIX,
-            b"steal 1 0 3 2 4 : 9 10\n",
+            b"steal 1 0 3 2 4 : 8 9\n",
         )? && misses(
             alloc,
             BatchRow::SixWeights,
             8,
             SIX,
-            b"steal 1 0 2 3 : 9 10\n",
+            b"steal 1 0 2 3 : 8 9\n",
         )?,
     )
 }
@@ -116,25 +120,25 @@ pub(crate) fn lists_of_other_threads(alloc: Global) -> Result<bool, ModelMemory>
             BatchRow::SixThreads,
             8,
             SIX,
-            b"steal 1 0 2 3 3 : 9 10\n",
+            b"steal 1 0 2 3 3 : 8 9\n",
         )? && misses(
             alloc,
             BatchRow::SixThreads,
             8,
             SIX,
-            b"steal 1 0 2 3 1 : 9 10\n",
+            b"steal 1 0 2 3 1 : 8 9\n",
         )? && misses(
             alloc,
             BatchRow::SixThreads,
             8,
             SIX,
-            b"steal 1 0 2 3 7 : 9 10\n",
+            b"steal 1 0 2 3 7 : 8 9\n",
         )? && misses(
             alloc,
             BatchRow::SevenThreads,
             8,
             SEVEN,
-            b"steal 1 0 2 7 : 9 11\n",
+            b"steal 1 0 2 7 : 8 10\n",
         )?,
     )
 }
@@ -188,7 +192,7 @@ fn joined(alloc: Global, front: &[u8], behind: &[u8]) -> Result<Vec<u8>, AllocEr
 fn history_of(alloc: Global, text: &[u8]) -> Result<Option<History>, ModelMemory>
     ensures { IfOk result (λ read. IfSome read (λ history. length history ≤ MAX_ENTRIES)) }
 {
-    match read_history(alloc, text) {
+    match read_history(alloc, text, CORES) {
         Ok(history) => Ok(Some(history)),
         Err(HistoryFault::Memory) => Err(ModelMemory::Memory),
         Err(HistoryFault::BadLine(_)) => Ok(None),
@@ -209,8 +213,8 @@ fn is_played(alloc: Global, row: BatchRow, limit: u32, text: &[u8]) -> Result<bo
 
 /// Whether the history is written as that text.
 fn is_spelled(alloc: Global, history: &[Entry], text: &[u8]) -> Result<bool, AllocError>
-    requires { All IsPrintable history.now }
+    requires { CanBePrinted CORES history.now }
 {
     let mut out = sink(alloc, &[])?;
-    Ok(put_history(&mut out, history).is_ok() && out.bytes() == text)
+    Ok(put_history(&mut out, history, CORES).is_ok() && out.bytes() == text)
 }

@@ -41,7 +41,7 @@ pub(crate) fn a_round_with_one_steal(alloc: Global) -> Result<bool, ModelMemory>
 
 /// How many entries of the history are legal one after another, `None` where the text is none of a history.
 fn legal_in(alloc: Global, text: &[u8]) -> Result<Option<u32>, ModelMemory> {
-    let history = match read_history(alloc, text) {
+    let history = match read_history(alloc, text, 2) {
         Ok(history) => history,
         Err(HistoryFault::Memory) => return Err(ModelMemory::Memory),
         Err(HistoryFault::BadLine(_)) => return Ok(None),

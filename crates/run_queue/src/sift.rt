@@ -4,7 +4,8 @@ ghost use Rattle.std.specs.Prelude.{◌≡◌, ◌<◌, IsPermutation, MatchOpti
 ghost use Rattle.std.specs.Vec.{vec_capacity, vec_len};
 ghost use Rattle.policy_tree.specs.Meaning.{order_tree};
 ghost use Rattle.run_queue.specs.Code.Ahead.{AllNodes, ahead};
-ghost use Rattle.run_queue.specs.Code.Heaps.{FollowsParent, IsChildAhead, IsFirstChild, IsHeap, IsHeapBut, LeadsChildren};
+ghost use Rattle.run_queue.specs.Code.Heaps.{FollowsParent, IsChildAhead, IsFirstChild, IsHeap, IsHeapBut};
+ghost use Rattle.run_queue.specs.Code.Heaps.{LeadsChildren};
 ghost use Rattle.run_queue.specs.Code.Heaps.{HasNoChild, IsParentBehind};
 ghost use Rattle.run_queue.specs.Code.Lines.{tasks_of};
 ghost use Rattle.run_queue.specs.Code.Scans.{CanScan};

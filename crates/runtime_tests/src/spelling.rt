@@ -1,14 +1,14 @@
 //! A history that a person worked out, as a text.
 
-ghost use Rattle.std.specs.Prelude.{◌≡◌, ◌≤◌, All, length};
+ghost use Rattle.std.specs.Prelude.{◌≡◌, ◌≤◌, length};
 ghost use Rattle.policy_tree.specs.Meaning.{meaning_of};
-ghost use Rattle.sched_history.specs.Ranges.{IsPrintable};
+ghost use Rattle.sched_history.specs.Ranges.{CanBePrinted};
 ghost use Rattle.table_players.specs.Crowds.{IsCrowd, IsTried};
 
 use policy_tree::Policy;
 use round_model::{Entry, ModelMemory, Plan};
-use sched_history::print_entry;
-use sched_io::Line;
+use sched_history::put_history;
+use sched_io::MemorySink;
 use std::alloc::Global;
 use table_players::games::is_legal;
 
@@ -25,33 +25,22 @@ pub(crate) fn is_spelled(
 {
     let legal = is_legal(alloc, policy, plan, entries)?;
     if legal {
-        Ok(are_lines(entries, text))
+        Ok(is_text(alloc, entries, plan.cores, text))
     } else {
         Ok(false)
     }
 }
 
-/// Whether the text has a line for each of the entries, and no other.
-fn are_lines(entries: &[Entry], text: &str) -> bool
-    requires { All IsPrintable entries.now }
-{
-    let mut lines = text.lines();
-    for entry in entries {
-        if !is_line(entry, lines.next()) {
-            return false;
-        }
-    }
-    lines.next().is_none()
-}
+/// Room for the text of a history.
+const ROOM: u64 = 4096;
 
-/// Whether that is the line of the entry.
-fn is_line(entry: &Entry, expected: Option<&str>) -> bool
-    requires { IsPrintable entry.now }
+/// Whether the text of the second format of these entries is this, and there was memory for it.
+fn is_text(alloc: Global, entries: &[Entry], cores: u32, text: &str) -> bool
+    requires { CanBePrinted cores entries.now }
 {
-    let mut line = Line::new();
-    print_entry(&mut line, entry);
-    match expected {
-        Some(text) => line.as_bytes().strip_suffix(b"\n") == Some(text.as_bytes()),
-        None => false,
-    }
+    let Ok(mut out) = MemorySink::new(alloc, ROOM, Vec::new(alloc)) else {
+        return false;
+    };
+    let _whole = put_history(&mut out, entries, cores);
+    out.bytes() == text.as_bytes()
 }

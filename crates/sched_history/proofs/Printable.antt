@@ -1,5 +1,5 @@
 -- The entries of a legal history can be printed.
-use Rattle.std.proofs.Common.{◌≡◌, ℕ, zero, suc, ◌-◌, ◌<◌, ◌≤◌, Bool, true, false, cond, List, [], ◌∷◌, map, find, take, length, get_or, slice_get, All, IfSome, IsSomeAnd, Option, Some, None, option_and_then, refl, sym, ap, subst, arith}
+use Rattle.std.proofs.Common.{◌≡◌, inl, inr, ℕ, zero, suc, ◌-◌, ◌<◌, ◌≤◌, Bool, true, false, cond, List, [], ◌∷◌, map, find, take, length, get_or, slice_get, All, IfSome, IsSomeAnd, Option, Some, None, option_and_then, refl, sym, subst, arith}
 use Rattle.std.proofs.lemmas.Bool.Decides.{nat_tests}
 use Rattle.std.proofs.lemmas.List.{length-take}
 use Rattle.std.proofs.lemmas.List.Elements.{All-contains}
@@ -29,7 +29,7 @@ use Rattle.round_model.specs.Fits.{Fits, ThreadFits}
 use Rattle.round_model.specs.Legal.{LegalNext}
 use Rattle.round_model.specs.Moves.{handed, is_task, received}
 use Rattle.round_model.specs.Programs.{Meeting, blocking, burst_of, ending_now, planned_of, tick, yielding}
-use Rattle.round_model.specs.Reads.{ReadsFit, read_values}
+use Rattle.round_model.specs.Reads.{ReadsFit, read_values, round_start}
 use Rattle.round_model.specs.Rows.{PlacementReads, Row}
 use Rattle.round_model.specs.Scenes.{Scene, entering_next, is_due_blocked, is_entering, own_entries, scene_of, waking_next}
 use Rattle.round_model.specs.Work.{after_meeting, after_unit, before, did_of, elected, run_over, worked}
@@ -40,7 +40,11 @@ use Rattle.round_model.proofs.Finding.{find-All, find-passes}
 use Rattle.round_model.proofs.Keeping.{All-append, All-one, All-without}
 use Rattle.round_model.proofs.Outcomes.{choice_there}
 use Rattle.round_model.proofs.There.{are_there}
-use Rattle.sched_history.specs.Ranges.{AreReads, AreStolen, IsCoreNumber, IsPrintable, IsThreadNumber, LegalIsPrintable, NamesThread}
+use Rattle.sched_history.specs.declared.forms.LineForm.TheVariants as form
+use Rattle.sched_history.specs.Lines.{entry_lines}
+use Rattle.sched_history.specs.Ranges.{AreOneEach, ArePlacementReads, AreStolen, IsCoreNumber, IsPrintable, IsPrintableLine, IsThreadNumber, LegalIsPrintable, NamesThread}
+use Rattle.sched_history.specs.Spelling.{second_form}
+use Rattle.sched_history.proofs.EntryLines.{length-lines, line_at}
 
 -- what holds of each task holds of the best
 best_All : {X : Type 0} (P : X → Type 0) (comes : X → X → Bool) (xs : List X) → All P xs → IfSome (best_of comes xs) P
@@ -64,18 +68,19 @@ module _ (p : Meaning) (plan : Plan) (fits : Fits p plan) where
           let thread = subst (λ (found : Option Planned). IfSome found (ThreadFits p plan.cores)) is (find-All (is_thread t.id) (ThreadFits p plan.cores) plan.threads fits.threads) in
           subst IsThreadNumber same (thread.id_positive, thread.id_small)
 
-  core_small : (c : ℕ) → c < plan.cores → IsCoreNumber c
-  core_small c there = let few = fits.few_cores in omega arith
+  core_small : (start c : ℕ) → c < plan.cores → IsCoreNumber (form.Second plan.cores start) c
+  core_small start c there = let few = fits.few_cores in omega arith
 
-  reads_small : (s : Scene) (reads : List ℕ) → s.position ≤ MAX_ENTRIES → ReadsFit plan.cores s.start s.position reads → AreReads reads
+  reads_small : (s : Scene) (reads : List ℕ) → s.position ≤ MAX_ENTRIES → ReadsFit plan.cores s.start s.position reads → AreOneEach plan.cores s.start reads
   reads_small s reads room fit = record {
-    few = let few = fits.few_cores in omega (arith, fit.one_each);
-    positions = λ k d inside. let read = (fit.each k d inside).before_entry in omega arith;
+    count = (fits.some_cores, fits.few_cores);
+    one_each = fit.one_each;
+    positions = λ k d inside. let read = fit.each k d inside in let low = read.in_round in let high = read.before_entry in (omega arith, omega arith);
   }
 
-  placement_small : (place : PlaceTree) (s : Scene) (reads : List ℕ) → s.position ≤ MAX_ENTRIES → PlacementReads place plan s reads → AreReads reads
-  placement_small here s reads room none = record { few = omega (arith, ap length none); positions = λ k d inside. absurd (omega (arith, ap length none)) }
-  placement_small (least e) s reads room fit = reads_small s reads room fit
+  placement_small : (place : PlaceTree) (s : Scene) (reads : List ℕ) → s.position ≤ MAX_ENTRIES → PlacementReads place plan s reads → ArePlacementReads (form.Second plan.cores s.start) reads
+  placement_small here s reads room none = inl none
+  placement_small (least e) s reads room fit = inr (reads_small s reads room fit)
 
   -- the words of a unit name its thread
   named_by : (id : ℕ) (o : Task × Put) → IsThreadNumber id → NamesThread (did_of id o)
@@ -156,10 +161,10 @@ module _ (p : Meaning) (plan : Plan) (fits : Fits p plan) where
     }
 
   -- an attempt names cores and threads of the plan
-  attempt_printable : (m : Cores) (a : ℕ) (reads : List ℕ) (chosen : Option ℕ) → ((c : ℕ) → HaveBursts plan (m c)) → a < plan.cores → AreReads reads → IfSome chosen (λ v. v < plan.cores)
-      → IsPrintable (attempt_with p plan m a reads chosen)
-  attempt_printable m a reads None have own read there = (core_small a own, read)
-  attempt_printable m a reads (Some v) have own read there =
+  attempt_printable : (start : ℕ) (m : Cores) (a : ℕ) (reads : List ℕ) (chosen : Option ℕ) → ((c : ℕ) → HaveBursts plan (m c)) → a < plan.cores → AreOneEach plan.cores start reads → IfSome chosen (λ v. v < plan.cores)
+      → IsPrintable (form.Second plan.cores start) (attempt_with p plan m a reads chosen)
+  attempt_printable start m a reads None have own read there = (core_small start a own, read)
+  attempt_printable start m a reads (Some v) have own read there =
       by_first (first_of p plan a v (m a) (m v)) (first_bursts (may_steal p (present_values plan m a) (present_values plan m v)))
     where
       first_bursts : (b : Bool) → IfSome (cond b (best_of (before p.steal) (m v).queue) None) (HasBurst plan)
@@ -167,17 +172,17 @@ module _ (p : Meaning) (plan : Plan) (fits : Fits p plan) where
       first_bursts false = tt
 
       by_first : (first : Option Task) → IfSome first (HasBurst plan)
-          → IsPrintable (steal_or_fail a v reads (moves_with first (λ t. t.id ∷ moves_after p plan a v p.batch (received t (m a)) (handed t.id (m v)))))
-      by_first None has = (core_small a own, core_small v there, read)
-      by_first (Some t) has = (core_small a own, core_small v there, stolen_small a v (m a) (m v) t (have v).queue has, read)
+          → IsPrintable (form.Second plan.cores start) (steal_or_fail a v reads (moves_with first (λ t. t.id ∷ moves_after p plan a v p.batch (received t (m a)) (handed t.id (m v)))))
+      by_first None has = (core_small start a own, core_small start v there, read)
+      by_first (Some t) has = (core_small start a own, core_small start v there, stolen_small a v (m a) (m v) t (have v).queue has, read)
 
   -- what the reads of an attempt come to
   attempt_is_printable : (h : List Entry) (a : ℕ) (reads : List ℕ) (e : Entry) → length h ≤ MAX_ENTRIES → a < plan.cores → ReadsFit plan.cores (scene_of p plan h a).start (scene_of p plan h a).position reads
-      → e ≡ attempt_of p plan (after p plan h) (read_values plan (scene_of p plan h a).seen reads) a reads → IsPrintable e
+      → e ≡ attempt_of p plan (after p plan h) (read_values plan (scene_of p plan h a).seen reads) a reads → IsPrintable (form.Second plan.cores (round_start h)) e
   unfolding attempt_of scene_of
   attempt_is_printable h a reads e room own fit is =
-      subst IsPrintable (sym is)
-      (attempt_printable (after p plan h) a reads (choice_of p plan.cores (read_values plan (scene_of p plan h a).seen reads) a) (λ c. have_bursts p plan h c fits) own (reads_small (scene_of p plan h a) reads room fit)
+      subst (IsPrintable (form.Second plan.cores (round_start h))) (sym is)
+      (attempt_printable (round_start h) (after p plan h) a reads (choice_of p plan.cores (read_values plan (scene_of p plan h a).seen reads) a) (λ c. have_bursts p plan h c fits) own (reads_small (scene_of p plan h a) reads room fit)
       (choice_there p plan.cores (read_values plan (scene_of p plan h a).seen reads) a))
 
   entering_numbered : (found : Option Planned) (id : ℕ) → IfSome found (ThreadFits p plan.cores) → IsSomeAnd found (λ t. t.id ≡ id) → IsThreadNumber id
@@ -188,7 +193,7 @@ module _ (p : Meaning) (plan : Plan) (fits : Fits p plan) where
   waking_numbered None id is next = absurd next
   waking_numbered (Some b) id is next = subst IsThreadNumber next (numbered b.task is)
 
-  next_printable : (h : List Entry) (e : Entry) → length h ≤ MAX_ENTRIES → LegalNext p plan h e → IsPrintable e
+  next_printable : (h : List Entry) (e : Entry) → length h ≤ MAX_ENTRIES → LegalNext p plan h e → IsPrintable (form.Second plan.cores (round_start h)) e
   unfolding LegalNext Row scene_of entering_next waking_next
   next_printable h (entry.Round number) room legal =
       let few = fits.few_rounds in let due = due_within plan h legal.due in let next = legal.next in (omega arith, omega arith)
@@ -196,20 +201,20 @@ module _ (p : Meaning) (plan : Plan) (fits : Fits p plan) where
       let s = scene_of p plan h by in
       let test = is_entering (round_of h) by (own_entries h by) in (
         entering_numbered (find test plan.threads) thread (find-All test (ThreadFits p plan.cores) plan.threads fits.threads) legal.row.next,
-        core_small by legal.row.core,
-        core_small at (are_there p plan h (entry.Enter thread by at reads) legal),
+        core_small (round_start h) by legal.row.core,
+        core_small (round_start h) at (are_there p plan h (entry.Enter thread by at reads) legal),
         placement_small p.place s reads room legal.row.placement.read,
       )
   next_printable h (entry.Wake thread by at reads) room legal =
       let s = scene_of p plan h by in
       let test = is_due_blocked (round_of h) in let core = after p plan h by in (
         waking_numbered (find test core.blocked) thread (find-All test (λ (b : Blocked). HasBurst plan b.task) core.blocked (have_bursts p plan h by fits).blocked) legal.row.next,
-        core_small by legal.row.core,
-        core_small at (are_there p plan h (entry.Wake thread by at reads) legal).1,
+        core_small (round_start h) by legal.row.core,
+        core_small (round_start h) at (are_there p plan h (entry.Wake thread by at reads) legal).1,
         placement_small p.place s reads room legal.row.placement.read,
       )
   next_printable h (entry.Work by what) room legal =
-      (core_small by legal.row.core, All-contains NamesThread (worked p plan (round_of h) (after p plan h by)).dids what (work_named (round_of h) (after p plan h by) (have_bursts p plan h by fits)) legal.row.outcome)
+      (core_small (round_start h) by legal.row.core, All-contains NamesThread (worked p plan (round_of h) (after p plan h by)).dids what (work_named (round_of h) (after p plan h by) (have_bursts p plan h by fits)) legal.row.outcome)
   next_printable h (entry.Steal by from threads reads) room legal = attempt_is_printable h by reads (entry.Steal by from threads reads) room legal.row.core legal.row.read legal.row.outcome
   next_printable h (entry.Fail by from reads) room legal = attempt_is_printable h by reads (entry.Fail by from reads) room legal.row.core legal.row.read legal.row.outcome
   next_printable h (entry.Pass by reads) room legal = attempt_is_printable h by reads (entry.Pass by reads) room legal.row.core legal.row.read legal.row.outcome
@@ -220,5 +225,13 @@ elem_at (x ∷ xs) zero d inside = refl
 elem_at (x ∷ xs) (suc k) d inside = elem_at xs k d (omega arith)
 
 pub legal_is_printable : LegalIsPrintable
-legal_is_printable p plan history fits legal room = λ k d inside.
-    next_printable p plan fits (take k history) (get_or history k d) (omega (arith, length-take k history)) (legal k (get_or history k d) (elem_at history k d inside))
+legal_is_printable p plan history fits legal room = record {
+  count = (fits.some_cores, fits.few_cores);
+  printable = record { lines = each; few = room };
+}
+  where
+    each : All IsPrintableLine (entry_lines 0 (second_form plan.cores) history)
+    each k d inside =
+        let within : k < length history = omega (arith, inside, length-lines 0 (second_form plan.cores) history) in
+        subst IsPrintableLine (sym (line_at 0 (second_form plan.cores) history k d.entry d within))
+        (next_printable p plan fits (take k history) (get_or history k d.entry) (omega (arith, length-take k history)) (legal k (get_or history k d.entry) (elem_at history k d.entry within)))

@@ -2,65 +2,93 @@
 
 ghost use Rattle.std.specs.Prelude.{◌≡◌, ◌+◌, ◌≤◌, [], ◌∷◌, ◌++◌, All, codes, length};
 ghost use Rattle.sched_io.specs.Puts.{Puts};
-ghost use Rattle.sched_history.specs.Ranges.{IsPrintable};
-ghost use Rattle.sched_history.specs.Spelling.{line_of_entry, lines_of_history, spaced, spaced_number, words_of_entry};
-ghost use Rattle.sched_history.specs.Spelling.{words_of_work};
+ghost use Rattle.sched_history.specs.Ranges.{CanBePrinted, IsCoreCount, IsPrintableFrom};
+ghost use Rattle.sched_history.specs.Spelling.{head_of, header, line_from, lines_of_history, reads_from};
+ghost use Rattle.sched_history.specs.Spelling.{spaced, spaced_number, words_of_work};
 
+use crate::forms::start_behind;
 use round_model::{Did, Entry};
-use sched_base::{CoreId, Reads, Stolen};
+use sched_base::{CoreId, Pos, Reads, Stolen};
 use sched_io::{LINE_ROOM, Line, NUMBER_ROOM, PutFault, Sink, put_all};
 
-/// Writes the text of the history, a line at a time.
-pub fn put_history<S: Sink>(out: &mut S, entries: &[Entry]) -> Result<(), PutFault>
-    requires { All IsPrintable entries.now }
-    ensures { Puts (lines_of_history entries.now) result (S.shown out.old) (S.shown out.new) }
+/// Writes the text of the history in the second format, of a machine of so many cores: the header, and then a line for
+/// each entry.
+pub fn put_history<S: Sink>(out: &mut S, entries: &[Entry], cores: u32) -> Result<(), PutFault>
+    requires { CanBePrinted cores entries.now }
+    ensures { Puts (lines_of_history cores entries.now) result (S.shown out.old) (S.shown out.new) }
 {
+    put_header(out, cores)?;
+    let mut start = 0;
+    let mut count = 0;
     for entry in entries {
-        let mut line = Line::new();
-        print_entry(&mut line, entry);
-        put_all(out, line.as_bytes())?;
+        put_entry(out, entry, start)?;
+        count += 1;
+        start = start_behind(start, entry, count);
     }
     Ok(())
 }
 
-/// Makes the empty line the line of the entry, with its line feed.
-pub fn print_entry(line: &mut Line, entry: &Entry)
-    requires empty { line.old ≡ [] }
-    requires printable { IsPrintable entry.now }
-    ensures { line.new ≡ line_of_entry entry.now }
+/// Writes the first line of a text of the second format.
+pub fn put_header<S: Sink>(out: &mut S, cores: u32) -> Result<(), PutFault>
+    requires { IsCoreCount cores }
+    ensures { Puts (header cores ∷ []) result (S.shown out.old) (S.shown out.new) }
 {
-    add_entry(line, entry);
+    let mut line = Line::new();
+    print_header(&mut line, cores);
+    put_all(out, line.as_bytes())
+}
+
+/// Writes the line of the entry in the second format, in a round that starts there.
+pub fn put_entry<S: Sink>(out: &mut S, entry: &Entry, start: Pos) -> Result<(), PutFault>
+    requires { IsPrintableFrom start entry.now }
+    ensures { Puts (line_from start entry.now ∷ []) result (S.shown out.old) (S.shown out.new) }
+{
+    let mut line = Line::new();
+    print_entry(&mut line, entry, start);
+    put_all(out, line.as_bytes())
+}
+
+/// Makes the empty line the first one of a text of the second format, with its line feed.
+pub fn print_header(line: &mut Line, cores: u32)
+    requires empty { line.old ≡ [] }
+    requires cores { IsCoreCount cores }
+    ensures { line.new ≡ header cores }
+{
+    line.add(b"history 2 cores");
+    add_spaced(line, cores);
     line.add(b"\n");
 }
 
-/// Adds the words of the entry.
-fn add_entry(line: &mut Line, entry: &Entry)
-    requires { length line.old + length (words_of_entry entry.now) + NUMBER_ROOM ≤ LINE_ROOM }
-    ensures { line.new ≡ line.old ++ words_of_entry entry.now }
+/// Makes the empty line that of the entry in the second format, with its line feed. Its round starts behind `start`
+/// entries.
+pub fn print_entry(line: &mut Line, entry: &Entry, start: Pos)
+    requires empty { line.old ≡ [] }
+    requires printable { IsPrintableFrom start entry.now }
+    ensures { line.new ≡ line_from start entry.now }
+{
+    add_head(line, entry);
+    add_distances(line, &entry.reads(), start);
+    line.add(b"\n");
+}
+
+/// Adds the words of the entry before its reads.
+fn add_head(line: &mut Line, entry: &Entry)
+    requires { length line.old + length (head_of entry.now) + NUMBER_ROOM ≤ LINE_ROOM }
+    ensures { line.new ≡ line.old ++ head_of entry.now }
 {
     match entry {
         Entry::Round { number } => add_numbered(line, b"round", &[*number]),
-        Entry::Enter {
-            thread,
-            by,
-            at,
-            reads,
-        } => add_with_reads(line, b"enter", &[*thread, *by, *at], reads),
-        Entry::Wake {
-            thread,
-            by,
-            at,
-            reads,
-        } => add_with_reads(line, b"wake", &[*thread, *by, *at], reads),
+        Entry::Enter { thread, by, at, .. } => add_numbered(line, b"enter", &[*thread, *by, *at]),
+        Entry::Wake { thread, by, at, .. } => add_numbered(line, b"wake", &[*thread, *by, *at]),
         Entry::Work { by, did } => add_work(line, *by, did),
         Entry::Steal {
             by,
             from,
             threads,
-            reads,
-        } => add_steal(line, *by, *from, threads, reads),
-        Entry::Fail { by, from, reads } => add_with_reads(line, b"fail", &[*by, *from], reads),
-        Entry::Pass { by, reads } => add_with_reads(line, b"pass", &[*by], reads),
+            ..
+        } => add_stolen(line, *by, *from, threads),
+        Entry::Fail { by, from, .. } => add_numbered(line, b"fail", &[*by, *from]),
+        Entry::Pass { by, .. } => add_numbered(line, b"pass", &[*by]),
     }
 }
 
@@ -88,19 +116,6 @@ fn add_unit(line: &mut Line, numbers: &[u32], last: &[u8])
     line.add(last);
 }
 
-/// Adds the words of a steal: its cores and its threads, and the reads behind a colon.
-fn add_steal(line: &mut Line, by: CoreId, from: CoreId, threads: &Stolen, reads: &Reads)
-    requires { length line.old
-        + length (codes "steal" ++ spaced (by ∷ from ∷ threads.now) ++ codes " :" ++ spaced reads.now)
-        + NUMBER_ROOM ≤ LINE_ROOM }
-    ensures { line.new
-        ≡ line.old ++ codes "steal" ++ spaced (by ∷ from ∷ threads.now) ++ codes " :" ++ spaced reads.now }
-{
-    add_stolen(line, by, from, threads);
-    line.add(b" :");
-    add_reads(line, reads);
-}
-
 /// Adds the first word of a steal, its cores and its threads.
 fn add_stolen(line: &mut Line, by: CoreId, from: CoreId, threads: &Stolen)
     requires { length line.old + length (codes "steal" ++ spaced (by ∷ from ∷ threads.now))
@@ -109,17 +124,6 @@ fn add_stolen(line: &mut Line, by: CoreId, from: CoreId, threads: &Stolen)
 {
     add_numbered(line, b"steal", &[by, from]);
     add_threads(line, threads);
-}
-
-/// Adds the words of an entry with reads: its first word, its numbers, and the reads behind a colon.
-fn add_with_reads(line: &mut Line, first: &[u8], numbers: &[u32], reads: &Reads)
-    requires { length line.old + length (first.now ++ spaced numbers.now ++ codes " :" ++ spaced reads.now)
-        + NUMBER_ROOM ≤ LINE_ROOM }
-    ensures { line.new ≡ line.old ++ first.now ++ spaced numbers.now ++ codes " :" ++ spaced reads.now }
-{
-    add_numbered(line, first, numbers);
-    line.add(b" :");
-    add_reads(line, reads);
 }
 
 /// Adds the word, and then the numbers.
@@ -151,13 +155,19 @@ fn add_threads(line: &mut Line, threads: &Stolen)
     }
 }
 
-/// Adds the positions that were read.
-fn add_reads(line: &mut Line, reads: &Reads)
-    requires { length line.old + length (spaced reads.now) + NUMBER_ROOM ≤ LINE_ROOM }
-    ensures { line.new ≡ line.old ++ spaced reads.now }
+/// Adds the reads as distances from the start, behind a colon. Where there are none nothing is added.
+fn add_distances(line: &mut Line, reads: &Reads, start: Pos)
+    requires room { length line.old + length (reads_from start reads.now) + NUMBER_ROOM ≤ LINE_ROOM }
+    requires start { All (λ position. start ≤ position) reads.now }
+    ensures { line.new ≡ line.old ++ reads_from start reads.now }
 {
+    if reads.is_empty() {
+        return;
+    }
+    line.add(b" :");
     for at in 0..reads.len() {
-        add_spaced(line, reads.get(at));
+        let distance = reads.get(at) - start;
+        add_spaced(line, distance);
     }
 }
 

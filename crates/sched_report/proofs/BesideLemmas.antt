@@ -8,8 +8,8 @@ use Rattle.std.proofs.lemmas.List.FromFn.{get_or-range_with_len, length-range_wi
 use Rattle.std.proofs.lemmas.List.Sums.{count_by-le-length, get_or-le-sum_by, sum_by-cons}
 use Rattle.round_model.specs.declared.plan.Plan.{Plan}
 use Rattle.round_model.specs.Cores.{Cores, core_numbers, thread_count}
-use Rattle.round_model.specs.Spread.{Beside}
-use Rattle.sched_report.specs.RoundRows.{idle_beside, idle_count, is_bad, is_overloaded, round_row}
+use Rattle.round_model.specs.Spread.{Beside, idle_count}
+use Rattle.sched_report.specs.RoundRows.{idle_beside, is_bad, is_overloaded, round_row}
 
 abbrev one_if : Bool → ℕ
 one_if b = cond b 1 0
@@ -56,6 +56,7 @@ module _ (plan : Plan) (m : Cores) where
   core_there k c inside is = omega (arith, length-range_with_len 0 plan.cores, get_or-range_with_len 0 plan.cores k c)
 
   beside_from : 0 < idle_beside plan m → Beside plan m
+  unfolding idle_count
   beside_from some =
       let both = positive_if (is_overloaded plan m) (idle_count plan m) some in
       let over = Any-from_list_any overloaded_test (core_numbers plan) both.0 in
@@ -73,6 +74,7 @@ module _ (plan : Plan) (m : Cores) where
       }
 
   from_beside : Beside plan m → 0 < idle_beside plan m
+  unfolding idle_count
   from_beside is =
       let size = length-range_with_len 0 plan.cores in
       let c = is.idle in let v = is.overloaded in
@@ -93,7 +95,7 @@ module _ (plan : Plan) (m : Cores) where
 
   -- no more cores are idle than there are
   pub few_idle : (number : ℕ) → (round_row plan number m).idle ≤ plan.cores
-  unfolding round_row
+  unfolding round_row idle_count
   few_idle number = by_test (is_overloaded plan m)
     where
       by_test : (b : Bool) → cond b (idle_count plan m) 0 ≤ plan.cores

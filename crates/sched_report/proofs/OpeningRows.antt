@@ -7,7 +7,7 @@ use Rattle.std.proofs.lemmas.List.Sums.{sum_by-cons}
 use Rattle.round_model.specs.declared.plan.Plan.{Plan}
 use Rattle.round_model.specs.declared.state.ModelCore.{ModelCore}
 use Rattle.round_model.specs.Cores.{Cores, core_numbers, listed, load_of, thread_count}
-use Rattle.round_model.specs.Spread.{spread, spread_of}
+use Rattle.round_model.specs.Spread.{idle_count, spread, spread_of}
 use Rattle.sched_report.specs.declared.rows.RoundRow.{RoundRow}
 use Rattle.sched_report.specs.Code.Openings.{idle_in, row_in}
 use Rattle.sched_report.specs.RoundRows.{idle_beside, round_row}
@@ -36,6 +36,7 @@ sum_map f g (x ∷ xs) = omega (arith, sum_by-cons f (g x) (map g xs), sum_by-co
 
 -- how many are idle beside an overloaded one
 idle_is : (plan : Plan) (m : Cores) → idle_in (listed plan.cores m) ≡ idle_beside plan m
+unfolding idle_count
 idle_is plan m =
     ap₂ (λ (b : Bool) (n : ℕ). cond b n 0) (any_map (λ (core : ModelCore). nat_le 2 (thread_count core)) m (core_numbers plan))
     (sum_map (λ (core : ModelCore). cond (thread_count core == 0) 1 0) m (core_numbers plan))

@@ -1,5 +1,5 @@
 -- A row for each round of a history.
-use Rattle.std.specs.Prelude.{ℕ, ◌==◌, nat_lt, nat_le, ◌&&◌, Bool, cond, List, Option, None, Some, count_by, filter_map}
+use Rattle.std.specs.Prelude.{ℕ, nat_lt, nat_le, ◌&&◌, Bool, cond, List, Option, None, Some, count_by, filter_map}
 use Rattle.std.specs.Prelude.{take}
 use Rattle.std.specs.List.{enumerate_from, list_any}
 use Rattle.policy_tree.specs.Meaning.{Meaning}
@@ -8,12 +8,8 @@ use Rattle.round_model.specs.declared.entry.Entry.TheVariants as entry
 use Rattle.round_model.specs.declared.plan.Plan.{Plan}
 use Rattle.round_model.specs.After.{after}
 use Rattle.round_model.specs.Cores.{Cores, core_numbers, thread_count}
-use Rattle.round_model.specs.Spread.{spread}
+use Rattle.round_model.specs.Spread.{idle_count, spread}
 use Rattle.sched_report.specs.declared.rows.RoundRow.{RoundRow}
-
--- how many cores are idle
-abbrev pub idle_count : Plan → Cores → ℕ
-idle_count plan m = count_by (λ c. thread_count (m c) == 0) (core_numbers plan)
 
 -- whether some core is overloaded
 abbrev pub is_overloaded : Plan → Cores → Bool

@@ -1,5 +1,5 @@
 -- What serial play of a trace's text comes to.
-use Rattle.std.specs.Prelude.{◌≡◌, ℕ, List, [], ◌∷◌, Option, Some, None}
+use Rattle.std.specs.Prelude.{◌≡◌, ℕ, List, [], ◌∷◌, length, Option, Some, None}
 use Rattle.policy_tree.specs.Meaning.{Meaning}
 use Rattle.round_model.specs.declared.entry.Entry.{Entry}
 use Rattle.round_model.specs.declared.plan.Plan.{Plan}
@@ -14,8 +14,8 @@ use Rattle.round_model.specs.declared.serial.Played.{Played}
 use Rattle.round_model.specs.declared.serial.Played.TheVariants as played
 use Rattle.round_model.specs.SerialEnds.{IsPlayed}
 use Rattle.core_state.specs.Views.{ClosedView}
-use Rattle.history_merge.specs.Merged.{CanBeWritten, merged}
-use Rattle.sched_history.specs.Spelling.{lines_of_history, text_of_history}
+use Rattle.history_merge.specs.Merged.{CanBeWritten, merged, text_lines}
+use Rattle.sched_history.specs.Spelling.{text_of_history}
 use Rattle.trace_play.specs.declared.answer.PlayAnswer.{PlayAnswer}
 use Rattle.trace_play.specs.declared.answer.PlayAnswer.TheVariants as answer
 use Rattle.trace_play.specs.declared.cores.PlayedCores.{PlayedCores}
@@ -43,12 +43,12 @@ played_by (cores.Full closed) = played.Full (merged closed)
 -- the bytes of an answer
 abbrev pub output_of : PlayAnswer → List ℕ
 output_of (answer.Broken fault) = fault_line fault
-output_of (answer.Played left) = text_of_history (merged (closed_of left))
+output_of (answer.Played left) = text_of_history (length (closed_of left).cores) (merged (closed_of left))
 
 -- the lines of an answer
 abbrev pub lines_of : PlayAnswer → List (List ℕ)
 lines_of (answer.Broken fault) = fault_line fault ∷ []
-lines_of (answer.Played left) = lines_of_history (merged (closed_of left))
+lines_of (answer.Played left) = text_lines (closed_of left)
 
 -- the answer can be written
 abbrev pub IsShown : PlayAnswer → Type 0
@@ -87,7 +87,12 @@ pub record PlaysText (p : Meaning) (text : List ℕ) (play : Played) : Type 0 wh
   pub fits : Fits p plan
   pub played : IsPlayed p plan play
 
+-- so it is with what these cores played, and they are the plan's
+pub record PlaysCores (p : Meaning) (text : List ℕ) (left : PlayedCores) : Type 0 where
+  pub plays : PlaysText p text (played_by left)
+  pub count : length (closed_of left).cores ≡ plays.plan.cores
+
 -- the answer is the one that the text gets under the policy
 abbrev pub IsPlayOf : Meaning → List ℕ → PlayAnswer → Type 0
 IsPlayOf p text (answer.Broken fault) = HasFault p text fault
-IsPlayOf p text (answer.Played left) = PlaysText p text (played_by left)
+IsPlayOf p text (answer.Played left) = PlaysCores p text left

@@ -58,6 +58,7 @@ pub fn play_cores(
 ) -> Result<PlayedCores, PlayMemory>
     requires { Fits (meaning_of policy.now) plan.now }
     ensures play { IfOk result (λ left. IsPlayed (meaning_of policy.now) plan.now (played_by left)) }
+    ensures cores { IfOk result (λ left. length (closed_of left).cores ≡ plan.now.cores) }
     ensures shown { IfOk result (λ left. CanBeWritten (closed_of left)) }
 {
     match play_rounds(alloc, policy, plan) {

@@ -43,11 +43,11 @@ module _ (p : Meaning) (plan : Plan) (Passed : ℕ → ℕ → Type 0) (closed :
   module _ (fits : Fits p plan) where
     pub whole_can_be_written : RunsWhole p plan Passed closed → CanBeWritten closed
     whole_can_be_written run =
-        can_be_written p plan closed run.history fits run.left.legal (let most = fits.few_entries in let few = run.left.few in omega arith) run.left.logs
+        can_be_written p plan closed run.history fits run.left.legal (let most = fits.few_entries in let few = run.left.few in omega arith) run.left.count run.left.logs
 
     pub full_can_be_written : RunsFull p plan Passed closed → CanBeWritten closed
     full_can_be_written run =
-        can_be_written p plan closed run.history fits run.left.legal (let most = fits.few_entries in let few = run.left.few in omega arith) run.left.logs
+        can_be_written p plan closed run.history fits run.left.legal (let most = fits.few_entries in let few = run.left.few in omega arith) run.left.count run.left.logs
 
 -- the cores that are left are those of the fault
 pub full_of : (p : Meaning) (plan : Plan) (Passed : ℕ → ℕ → Type 0) (why : RunFault) (left : ClosedView) → IsFaultOf p plan Passed why → Left why left

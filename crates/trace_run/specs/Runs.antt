@@ -17,7 +17,8 @@ use Rattle.job_trace.specs.Plans.{SpellsPlan}
 use Rattle.job_trace.specs.TraceText.{SpellsTrace}
 use Rattle.trace_play.specs.declared.answer.PlayAnswer.{PlayAnswer}
 use Rattle.trace_play.specs.declared.answer.PlayAnswer.TheVariants as answer
-use Rattle.trace_play.specs.Plays.{HasFault, MeansPlan, history_of, played_by}
+use Rattle.trace_play.specs.declared.cores.PlayedCores.{PlayedCores}
+use Rattle.trace_play.specs.Plays.{HasFault, MeansPlan, closed_of, history_of, played_by}
 
 -- the run came to its end: the history is whole, and each of its rounds had room
 pub record RunEnds (p : Meaning) (plan : Plan) (history : List Entry) : Type 0 where
@@ -54,10 +55,15 @@ pub record RunsText (p : Meaning) (text : List ℕ) (play : Played) : Type 0 whe
   pub fits : Fits p plan
   pub ran : IsRun p plan play
 
+-- so it is with what these cores ran, and they are the plan's
+pub record RunsCores (p : Meaning) (text : List ℕ) (left : PlayedCores) : Type 0 where
+  pub runs : RunsText p text (played_by left)
+  pub count : length (closed_of left).cores ≡ runs.plan.cores
+
 -- the answer is one that the text may get under the policy
 abbrev pub IsRunOf : Meaning → List ℕ → PlayAnswer → Type 0
 IsRunOf p text (answer.Broken fault) = HasFault p text fault
-IsRunOf p text (answer.Played left) = RunsText p text (played_by left)
+IsRunOf p text (answer.Played left) = RunsCores p text left
 
 -- each core of the plan passed the gate in each round of the history that was run
 abbrev pub HavePassed : (Passed : ℕ → ℕ → Type 0) → Plan → Played → Type 0

@@ -1,6 +1,6 @@
 //! Runs a trace's text.
 
-ghost use Rattle.std.specs.Prelude.{◌<◌, ℕ, IfOk, IsTrue, length};
+ghost use Rattle.std.specs.Prelude.{◌<◌, ◌≡◌, ℕ, IfOk, IsTrue, length};
 ghost use Rattle.policy_tree.specs.Meaning.{meaning_of};
 ghost use Rattle.round_model.specs.Fits.{Fits};
 ghost use Rattle.history_merge.specs.Merged.{CanBeWritten};
@@ -58,6 +58,7 @@ pub fn run_plan<R: Threads + Wait + Sync, G: Gate + Sync>(
     requires fits { Fits (meaning_of policy.now) plan.now }
     requires gate { (c r : ℕ) → IsTrue (G.admits gate.now c r) }
     ensures run { IfOk result (λ left. IsRun (meaning_of policy.now) plan.now (played_by left)) }
+    ensures cores { IfOk result (λ left. length (closed_of left).cores ≡ plan.now.cores) }
     ensures shown { IfOk result (λ left. CanBeWritten (closed_of left)) }
     ensures passed { IfOk result (λ left. HavePassed (G.passed gate.now) plan.now (played_by left)) }
 {

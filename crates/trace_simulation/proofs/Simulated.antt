@@ -1,21 +1,21 @@
 -- What serial play of a plan comes to can be written, and what that wasted is what is answered.
-use Rattle.std.proofs.Common.{ℕ, List, All}
+use Rattle.std.proofs.Common.{ℕ, List}
 use Rattle.policy_tree.specs.Meaning.{Meaning}
 use Rattle.round_model.specs.declared.plan.Plan.{Plan}
 use Rattle.round_model.specs.declared.serial.Played.{Played}
 use Rattle.round_model.specs.declared.serial.Played.TheVariants as played
 use Rattle.round_model.specs.Fits.{Fits}
 use Rattle.round_model.specs.SerialEnds.{IsPlayed}
-use Rattle.sched_history.specs.Ranges.{IsPrintable}
+use Rattle.sched_history.specs.Ranges.{CanBePrinted}
 use Rattle.sched_history.proofs.Printable.{legal_is_printable}
 use Rattle.trace_play.specs.Plays.{history_of}
 use Rattle.trace_simulation.specs.declared.answer.PlayedWaste.{PlayedWaste}
 use Rattle.trace_simulation.specs.declared.answer.PlayedWaste.TheVariants as wasted
 use Rattle.trace_simulation.specs.declared.answer.SimulationAnswer.TheVariants as answer
-use Rattle.trace_simulation.specs.declared.simulating.PlayedPlan.{PlayedPlan}
+use Rattle.trace_simulation.specs.declared.answer.PlayedPlan.{PlayedPlan}
 use Rattle.trace_simulation.specs.Simulations.{IsPlayedPlan, IsWasteOf, WastesPlayed}
 
-pub can_be_written : (p : Meaning) (plan : Plan) (play : Played) → Fits p plan → IsPlayed p plan play → All IsPrintable (history_of play)
+pub can_be_written : (p : Meaning) (plan : Plan) (play : Played) → Fits p plan → IsPlayed p plan play → CanBePrinted plan.cores (history_of play)
 can_be_written p plan (played.Whole history) fits ends = legal_is_printable p plan history fits ends.whole.legal ends.few
 can_be_written p plan (played.Full history) fits ends = legal_is_printable p plan history fits ends.legal ends.few
 

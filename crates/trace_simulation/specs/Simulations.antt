@@ -1,12 +1,12 @@
 -- What a trace's text comes to that is simulated under a policy.
-use Rattle.std.specs.Prelude.{ℕ, List, All}
+use Rattle.std.specs.Prelude.{ℕ, List}
 use Rattle.policy_tree.specs.Meaning.{Meaning}
 use Rattle.round_model.specs.declared.entry.Entry.{Entry}
 use Rattle.round_model.specs.declared.plan.Plan.{Plan}
 use Rattle.round_model.specs.declared.serial.Played.{Played}
 use Rattle.round_model.specs.declared.serial.Played.TheVariants as played
 use Rattle.round_model.specs.SerialEnds.{EndsWhole, IsPlayed, StopsFull}
-use Rattle.sched_history.specs.Ranges.{IsPrintable}
+use Rattle.sched_history.specs.Ranges.{CanBePrinted}
 use Rattle.sched_report.specs.Wastes.{IsWaste}
 use Rattle.sched_report.specs.declared.rows.WasteReport.{WasteReport}
 use Rattle.trace_play.specs.Plays.{HasFault, MeansPlan, history_of}
@@ -14,12 +14,12 @@ use Rattle.trace_simulation.specs.declared.answer.PlayedWaste.{PlayedWaste}
 use Rattle.trace_simulation.specs.declared.answer.PlayedWaste.TheVariants as wasted
 use Rattle.trace_simulation.specs.declared.answer.SimulationAnswer.{SimulationAnswer}
 use Rattle.trace_simulation.specs.declared.answer.SimulationAnswer.TheVariants as answer
-use Rattle.trace_simulation.specs.declared.simulating.PlayedPlan.{PlayedPlan}
+use Rattle.trace_simulation.specs.declared.answer.PlayedPlan.{PlayedPlan}
 
--- the answer can be written: the numbers of a history are in the ranges of its text
+-- the answer can be written: the history has a text of the second format
 abbrev pub IsShown : SimulationAnswer → Type 0
 IsShown (answer.Broken fault) = Unit {0}
-IsShown (answer.Played play) = All IsPrintable (history_of play)
+IsShown (answer.Played made) = CanBePrinted made.plan.cores (history_of made.played)
 IsShown (answer.Wasted waste) = Unit {0}
 
 -- what serial play came to wasted this
@@ -50,13 +50,12 @@ module _ (p : Meaning) (text : List ℕ) where
   -- the answer is the history that the text gets
   abbrev pub IsSimulationOf : SimulationAnswer → Type 0
   IsSimulationOf (answer.Broken fault) = HasFault p text fault
-  IsSimulationOf (answer.Played (played.Whole history)) = Simulates EndsWhole history
-  IsSimulationOf (answer.Played (played.Full history)) = Simulates StopsFull history
+  IsSimulationOf (answer.Played made) = IsPlayedPlan made
   IsSimulationOf (answer.Wasted waste) = ⊥
 
   -- the answer is what that history wastes
   abbrev pub IsWasteOf : SimulationAnswer → Type 0
   IsWasteOf (answer.Broken fault) = HasFault p text fault
-  IsWasteOf (answer.Played play) = ⊥
+  IsWasteOf (answer.Played made) = ⊥
   IsWasteOf (answer.Wasted (wasted.Whole report)) = Wastes EndsWhole report
   IsWasteOf (answer.Wasted (wasted.Full report)) = Wastes StopsFull report

@@ -1,14 +1,13 @@
 //! What a trace comes to that is simulated, and how it is written.
 
-ghost use Rattle.std.specs.Prelude.{◌≡◌, All};
-ghost use Rattle.sched_history.specs.Ranges.{IsPrintable};
-ghost use Rattle.sched_history.specs.Spelling.{lines_of_history};
+ghost use Rattle.std.specs.Prelude.{◌≡◌};
+ghost use Rattle.sched_history.specs.Ranges.{CanBePrinted};
 ghost use Rattle.sched_io.specs.Puts.{Puts};
 ghost use Rattle.trace_play.specs.Plays.{history_of};
-ghost use Rattle.trace_simulation.specs.Lines.{lines_of, report_of};
+ghost use Rattle.trace_simulation.specs.Lines.{lines_of, lines_of_plan, report_of};
 ghost use Rattle.trace_simulation.specs.Simulations.{IsShown};
 
-use round_model::{History, Played};
+use round_model::{History, Plan, Played};
 use sched_history::put_history;
 use sched_io::{PutFault, Sink, put_all};
 use sched_report::{WasteReport, print_waste};
@@ -19,10 +18,19 @@ use trace_play::LineFault;
 pub enum SimulationAnswer {
     /// The text is no trace, or its trace doesn't fit the policy: it has this fault.
     Broken(LineFault),
-    /// This history was played.
-    Played(Played),
+    /// This plan was played.
+    Played(PlayedPlan),
     /// That is what the history wasted that was played.
     Wasted(PlayedWaste),
+}
+
+/// A plan, and what serial play of it comes to.
+#[derive(Drop)]
+pub struct PlayedPlan {
+    /// What the trace means under the policy.
+    pub plan: Plan,
+    /// The history that was played.
+    pub played: Played,
 }
 
 /// What a history wasted that was played.
@@ -42,18 +50,18 @@ impl SimulationAnswer {
     {
         match self {
             SimulationAnswer::Broken(fault) => put_all(out, fault.to_line().as_bytes()),
-            SimulationAnswer::Played(played) => put_played(out, played),
+            SimulationAnswer::Played(made) => put_played(out, made),
             SimulationAnswer::Wasted(wasted) => print_waste(out, report_of(wasted)),
         }
     }
 }
 
 /// Writes the history that was played.
-fn put_played<S: Sink>(out: &mut S, played: &Played) -> Result<(), PutFault>
-    requires { All IsPrintable (history_of played.now) }
-    ensures { Puts (lines_of_history (history_of played.now)) result (S.shown out.old) (S.shown out.new) }
+fn put_played<S: Sink>(out: &mut S, made: &PlayedPlan) -> Result<(), PutFault>
+    requires { CanBePrinted made.now.plan.cores (history_of made.now.played) }
+    ensures { Puts (lines_of_plan made.now) result (S.shown out.old) (S.shown out.new) }
 {
-    put_history(out, history_of(played).as_slice())
+    put_history(out, history_of(&made.played).as_slice(), made.plan.cores)
 }
 
 /// The history that was played, however its play ended.

@@ -9,24 +9,15 @@ ghost use Rattle.round_model.specs.SerialEnds.{IsPlayed};
 ghost use Rattle.trace_play.specs.Plays.{IsPlanStop};
 ghost use Rattle.trace_simulation.specs.Simulations.{IsPlayedPlan, IsShown, IsSimulationOf, IsWasteOf, WastesPlayed};
 
-use crate::answer::{PlayedWaste, SimulationAnswer};
+use crate::answer::{PlayedPlan, PlayedWaste, SimulationAnswer};
 use crate::memory::SimulationMemory;
 use policy_checker::PlayablePolicy;
 use policy_tree::Policy;
-use round_model::{ModelMemory, Plan, Played};
+use round_model::{ModelMemory, Played};
 use sched_report::waste;
 use serial_play::play_rounds;
 use std::alloc::Global;
 use trace_play::{PlanStop, plan_text};
-
-/// A plan, and what serial play of it comes to.
-#[derive(Drop)]
-pub struct PlayedPlan {
-    /// What the trace means under the policy.
-    pub plan: Plan,
-    /// The history that was played.
-    pub played: Played,
-}
 
 /// The serial history of the trace that the text spells, under a policy that can be played.
 pub fn simulate_text(
@@ -39,7 +30,7 @@ pub fn simulate_text(
     ensures shown { IfOk result IsShown }
 {
     match played_plan(alloc, policy.policy(), text) {
-        Ok(made) => Ok(SimulationAnswer::Played(made.played)),
+        Ok(made) => Ok(SimulationAnswer::Played(made)),
         Err(PlanStop::Broken(fault)) => Ok(SimulationAnswer::Broken(fault)),
         Err(PlanStop::Memory) => Err(SimulationMemory::Memory),
     }

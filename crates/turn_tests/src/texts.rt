@@ -50,6 +50,6 @@ pub(crate) fn is_spelled(
     let Ok(mut out) = MemorySink::new(alloc, ROOM, Vec::new(alloc)) else {
         return false;
     };
-    let _whole = put_history(&mut out, history);
+    let _whole = put_history(&mut out, history, plan.cores);
     out.bytes() == text.as_bytes()
 }

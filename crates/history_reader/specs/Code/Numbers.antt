@@ -17,8 +17,8 @@ pub record BeginsWithNumber (IsRight : ℕ → Type 0) (text : List ℕ) (number
 abbrev pub BeginsWithNoNumber : (ℕ → Type 0) → List ℕ → Type 0
 BeginsWithNoNumber IsRight text = (number : ℕ) (behind : List ℕ) → BeginsWithNumber IsRight text number behind → ⊥
 
--- The text begins with these threads. Where it is that of threads and then of no thread, then of these and of what stands
--- behind them.
+-- The text begins with these threads. Where it is that of threads and then of no thread, then of these and of what
+-- stands behind them.
 pub record BeginsWithThreads (text threads behind : List ℕ) : Type 0 where
   pub text_is : text ≡ spaced threads ++ behind
   pub few : length threads ≤ MAX_STOLEN

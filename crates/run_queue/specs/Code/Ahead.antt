@@ -1,5 +1,6 @@
 -- Which of two nodes of a line comes out of its heap first. No clause of a queue speaks of it.
-use Rattle.std.specs.Prelude.{◌≡◌, ◌≢◌, ℕ, ◌==◌, Bool, true, false, cond, not, nat_lt, List, [], ◌∷◌, Some, All, slice_get}
+use Rattle.std.specs.Prelude.{◌≡◌, ◌≢◌, ℕ, ◌==◌, Bool, true, false, cond, not, nat_lt, List, [], ◌∷◌, Some, All}
+use Rattle.std.specs.Prelude.{slice_get}
 use Rattle.sched_base.specs.declared.task.Task.{Task}
 use Rattle.policy_tree.specs.Meaning.{KeyTree}
 use Rattle.run_queue.specs.declared.ranked.Ranked.{Ranked}

@@ -1,5 +1,6 @@
 -- The heap of a line, and what a queue keeps. No clause of a queue speaks of it.
-use Rattle.std.specs.Prelude.{◌≡◌, ℕ, ◌==◌, ◌<◌, ◌≤◌, ◌^◌, List, All, Contains, Some, count_by, length, slice_get, sum_by}
+use Rattle.std.specs.Prelude.{◌≡◌, ℕ, ◌==◌, ◌<◌, ◌≤◌, ◌^◌, List, All, Contains, Some, count_by, length, slice_get}
+use Rattle.std.specs.Prelude.{sum_by}
 use Rattle.sched_base.specs.declared.task.Task.{Task}
 use Rattle.policy_tree.specs.Meaning.{KeyTree}
 use Rattle.run_queue.specs.declared.ranked.Ranked.{Ranked}

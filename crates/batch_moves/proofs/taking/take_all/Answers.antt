@@ -6,7 +6,7 @@ use Rattle.round_model.specs.Attempts.{moves_of}
 use Rattle.round_model.specs.Moves.{handed_all, received_all, taken_from}
 use Rattle.batch_moves.specs.Code.Moved.{IsMoved}
 use Rattle.batch_moves.proofs.Moving.{first_come, first_left, first_moved, is_queued, is_seen, more_moved, next_best, none_come, none_leave, with_core}
-use Rattle.batch_moves.proofs.Steps.{full-further, none-further}
+use Rattle.round_model.proofs.MoveSteps.{full-further, none-further}
 use Rattle.batch_moves.proofs.taking.take_all.Goals as goal
 
 pub returns-in_default-clause-thief : goal.returns-in_default-clause-thief

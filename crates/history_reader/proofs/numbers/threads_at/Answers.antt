@@ -1,4 +1,4 @@
-use Rattle.std.proofs.Common.{◌≡◌, ◌+◌, ◌∷◌, [], length, length-append, ap, ◌∙◌, arith}
+use Rattle.std.proofs.Common.{◌∷◌, [], length-append, arith}
 use Rattle.history_reader.proofs.Threads.{is_full, more_read, none_read, stops}
 use Rattle.history_reader.proofs.numbers.threads_at.Goals as goal
 

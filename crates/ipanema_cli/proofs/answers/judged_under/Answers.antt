@@ -10,3 +10,8 @@ pub replay_texts-requires-clause-handlers : goal.replay_texts-requires-clause-ha
 replay_texts-requires-clause-handlers c =
     handler_obligations (meaning_of c.policy-policy.result.now)
     (subst (λ (policy : Policy). MeetsObligations (meaning_of policy)) (sym c.policy-policy.ensures.policy) c.policy-policy.ensures.meets)
+
+pub migrate_texts-requires-clause-handlers : goal.migrate_texts-requires-clause-handlers
+migrate_texts-requires-clause-handlers c =
+    handler_obligations (meaning_of c.policy-policy.result.now)
+    (subst (λ (policy : Policy). MeetsObligations (meaning_of policy)) (sym c.policy-policy.ensures.policy) c.policy-policy.ensures.meets)

@@ -1,5 +1,5 @@
 -- The two cores, and then the threads.
-use Rattle.std.proofs.Common.{◌≡◌, List, [], ◌∷◌, ◌++◌, codes, length, length-append, sym, ap, ◌∙◌, arith}
+use Rattle.std.proofs.Common.{List, [], ◌∷◌, ◌++◌, codes, length, length-append, sym, ap, ◌∙◌, arith}
 use Rattle.std.proofs.lemmas.List.{append_assoc}
 use Rattle.sched_history.specs.Spelling.{spaced}
 use Rattle.sched_history.proofs.SpacedLemmas.{spaced-behind-two}

@@ -12,7 +12,10 @@ play_cores-requires c = subst (λ policy. Fits (meaning_of policy) c.in-Ok.plan)
 pub returns-in_ok-play_cores-in-Ok-clause-play : goal.returns-in_ok-play_cores-in-Ok-clause-play
 returns-in_ok-play_cores-in-Ok-clause-play c =
     let means = subst (λ policy. MeansPlan (meaning_of policy) c.args.text.now c.in-Ok.plan) c.policy.ensures.policy c.in-Ok.ensures.plan in
-    record { trace = means.trace; spells = means.spells; plan = c.in-Ok.plan; means = means.means; fits = means.fits; played = c.in_ok-play_cores-in-Ok.ensures.play }
+    record {
+      plays = record { trace = means.trace; spells = means.spells; plan = c.in-Ok.plan; means = means.means; fits = means.fits; played = c.in_ok-play_cores-in-Ok.ensures.play };
+      count = c.in_ok-play_cores-in-Ok.ensures.cores;
+    }
 
 pub returns-in-Err-Broken-clause-play : goal.returns-in-Err-Broken-clause-play
 returns-in-Err-Broken-clause-play c =

@@ -13,6 +13,9 @@ pub returns-in-Ok-run_rounds-clause-run : goal.returns-in-Ok-run_rounds-clause-r
 returns-in-Ok-run_rounds-clause-run g c =
     merged_whole (meaning_of c.args.policy.now) c.args.plan.now (g.G.Gate.passed c.args.gate.now) c.in-Ok-run_rounds.closed c.in-Ok-run_rounds.ensures.whole
 
+pub returns-in-Ok-run_rounds-clause-cores : goal.returns-in-Ok-run_rounds-clause-cores
+returns-in-Ok-run_rounds-clause-cores g c = c.in-Ok-run_rounds.ensures.whole.left.count
+
 pub returns-in-Ok-run_rounds-clause-shown : goal.returns-in-Ok-run_rounds-clause-shown
 returns-in-Ok-run_rounds-clause-shown g c =
     whole_can_be_written (meaning_of c.args.policy.now) c.args.plan.now (g.G.Gate.passed c.args.gate.now) c.in-Ok-run_rounds.closed c.requires.fits c.in-Ok-run_rounds.ensures.whole
@@ -25,6 +28,11 @@ pub returns-in-Err-clause-run : goal.returns-in-Err-clause-run
 returns-in-Err-clause-run g c =
     let p = meaning_of c.args.policy.now in let plan = c.args.plan.now in let Passed = g.G.Gate.passed c.args.gate.now in let left = c.left_by.result in
     merged_full p plan Passed left (full_of p plan Passed c.in-Err.fault left c.in-Err.ensures.fault c.left_by.ensures)
+
+pub returns-in-Err-clause-cores : goal.returns-in-Err-clause-cores
+returns-in-Err-clause-cores g c =
+    let p = meaning_of c.args.policy.now in let plan = c.args.plan.now in let Passed = g.G.Gate.passed c.args.gate.now in let left = c.left_by.result in
+    (full_of p plan Passed c.in-Err.fault left c.in-Err.ensures.fault c.left_by.ensures).left.count
 
 pub returns-in-Err-clause-shown : goal.returns-in-Err-clause-shown
 returns-in-Err-clause-shown g c =

@@ -11,7 +11,10 @@ run_plan-requires-clause-fits g c _ _ = subst (λ policy. Fits (meaning_of polic
 pub returns-in_ok-run_plan-in-Ok-clause-run : goal.returns-in_ok-run_plan-in-Ok-clause-run
 returns-in_ok-run_plan-in-Ok-clause-run g c =
     let means = subst (λ policy. MeansPlan (meaning_of policy) c.args.text.now c.in-Ok.plan) c.policy.ensures.policy c.in-Ok.ensures.plan in
-    record { trace = means.trace; spells = means.spells; plan = c.in-Ok.plan; means = means.means; fits = means.fits; ran = c.in_ok-run_plan-in-Ok.ensures.run }
+    record {
+      runs = record { trace = means.trace; spells = means.spells; plan = c.in-Ok.plan; means = means.means; fits = means.fits; ran = c.in_ok-run_plan-in-Ok.ensures.run };
+      count = c.in_ok-run_plan-in-Ok.ensures.cores;
+    }
 
 pub returns-in-Err-Broken-clause-run : goal.returns-in-Err-Broken-clause-run
 returns-in-Err-Broken-clause-run g c =

@@ -1,6 +1,7 @@
 use Rattle.std.proofs.Common.{◌∷◌, ◌∙◌, subst}
 use Rattle.std.proofs.lemmas.Result.{err_from_is_err_and}
-use Rattle.policy_grammar.specs.Expressions.{IsOrder}
+use Rattle.policy_syntax.specs.SyntaxTrees.{order_syntax_tree}
+use Rattle.policy_grammar.specs.Orders.{IsOrder}
 use Rattle.policy_grammar.specs.Machine.{order}
 use Rattle.policy_parser.proofs.Moves.{passes}
 use Rattle.policy_parser.proofs.source.Source.order_behind.Goals as goal
@@ -21,4 +22,4 @@ returns-clause-reads c = λ count below.
 
 pub returns-clause-is : goal.returns-clause-is
 returns-clause-is c =
-    subst (λ n. IsOrder c.args.self.now.text.now c.args.self.now.lexemes.now n c.in_ok-order.order c.in_ok-order.next) c.in_ok-order_at.ensures.next.0 c.in_ok-order.ensures.is
+    subst (λ n. IsOrder c.args.self.now.text.now c.args.self.now.lexemes.now n (order_syntax_tree c.in_ok-order.order) c.in_ok-order.next) c.in_ok-order_at.ensures.next.0 c.in_ok-order.ensures.is
