@@ -1,7 +1,7 @@
 # What the front adds to the program's answers, on standard error alone: its status and its output stay as they are. To be read by a
 # script of bash that has set `front`, the folder of this file. Sentences on a fault need python3; without it they are left out.
 
-commands=(check explain prove verify play run simulate waste replay report migrate make bench)
+commands=(check explain prove bound verify play run simulate waste replay report migrate make bench)
 obligations=(B1 B2 B3 B4 {H1,H2}.{enqueue,tick,yield,block})
 
 say() {
@@ -14,6 +14,7 @@ usage_of() {
     check) say '  ipanema check POLICY                    is the policy accepted? a line for each obligation' ;;
     explain) say '  ipanema explain POLICY NAME             does that obligation hold? if not, numbers at which it fails' ;;
     prove) say '  ipanema prove POLICY                    write the certificates of an accepted policy, which anyone can verify' ;;
+    bound) say '  ipanema bound POLICY                    what bounds the rounds that the policy may waste?' ;;
     verify) say '  ipanema verify POLICY CERTS             do these certificates prove the policy? no solver is asked' ;;
     play) say '  ipanema play POLICY TRACE               play the trace, core after core, and write the history' ;;
     run) say '  ipanema run POLICY TRACE                play it with all cores side by side' ;;
@@ -69,7 +70,7 @@ say_near() {
 # How many words a command takes behind it.
 words_of() {
   case "$1" in
-    check | prove) echo 1 ;;
+    check | prove | bound) echo 1 ;;
     replay | report | migrate) echo 3 ;;
     *) echo 2 ;;
   esac
@@ -115,7 +116,7 @@ say_words() {
 # The words of a command that are files.
 files_of() {
   case "$1" in
-    check | explain | prove) files=("$2") ;;
+    check | explain | prove | bound) files=("$2") ;;
     *) files=("${@:2}") ;;
   esac
 }

@@ -20,10 +20,11 @@ use std::thread::Threads;
 use std::{fs, io};
 
 /// The tables, in the order in which they are played.
-const TABLES: [&str; 14] = [
+const TABLES: [&str; 15] = [
     "statuses.cases",
     "words.cases",
     "check.cases",
+    "bound.cases",
     "certs.cases",
     "play.cases",
     "faults.cases",

@@ -4,8 +4,8 @@ use Rattle.std.proofs.Common.{option_and_then, option_map}
 use Rattle.std.specs.List.{list_all}
 use Rattle.std.specs.Str.{bytes_eq}
 use Rattle.obligations.specs.declared.names.ObName.{ObName}
-use Rattle.command_words.specs.Command.{Asked, asked_by, asked_plainly, bench, check, explain, is_plain, make, name_of, play}
-use Rattle.command_words.specs.Command.{migrate, prove, replay, report, run, simulate, verify, waste}
+use Rattle.command_words.specs.Command.{Asked, asked_by, asked_plainly, bench, bound, check, explain, is_plain, make}
+use Rattle.command_words.specs.Command.{migrate, name_of, play, prove, replay, report, run, simulate, verify, waste}
 use Rattle.command_words.specs.Numbers.{is_size, seed_in, size_in}
 
 -- if a trace is to be made, its size is one, and if one is to be played too
@@ -72,6 +72,9 @@ explained policy (Some name) =
 proved : (policy : List ℕ) → IsSized (Some (prove policy))
 proved policy = record { made = λ s n e. absurd (let bad = e in cc); benched = λ s n e. absurd (let bad = e in cc) }
 
+bounded : (policy : List ℕ) → IsSized (Some (bound policy))
+bounded policy = record { made = λ s n e. absurd (let bad = e in cc); benched = λ s n e. absurd (let bad = e in cc) }
+
 verified : (policy certs : List ℕ) → IsSized (Some (verify policy certs))
 verified policy certs =
     record { made = λ s n e. absurd (let bad = e in cc); benched = λ s n e. absurd (let bad = e in cc) }
@@ -113,7 +116,8 @@ plainly [] = nothing
 plainly (verb ∷ []) = nothing
 plainly (verb ∷ a ∷ []) =
     either (bytes_eq (codes "check") verb) _ _ (checked a)
-    (either (bytes_eq (codes "prove") verb) _ _ (proved a) nothing)
+    (either (bytes_eq (codes "prove") verb) _ _ (proved a)
+    (either (bytes_eq (codes "bound") verb) _ _ (bounded a) nothing))
 plainly (verb ∷ a ∷ b ∷ []) =
     either (bytes_eq (codes "explain") verb) _ _ (explained a (name_of b))
     (either (bytes_eq (codes "verify") verb) _ _ (verified a b)

@@ -53,6 +53,13 @@ prove (one a) = simp a.plain
 prove (two a b) = simp (a.plain, b.plain)
 prove (three a b c) = simp (a.plain, b.plain, c.plain)
 
+bound : (behind : Behind) → AgreesAt (codes "bound" ∷ texts behind)
+unfolding clap_on_literals
+bound none = refl
+bound (one a) = simp a.plain
+bound (two a b) = simp (a.plain, b.plain)
+bound (three a b c) = simp (a.plain, b.plain, c.plain)
+
 explain : (behind : Behind) → AgreesAt (codes "explain" ∷ texts behind)
 unfolding clap_on_literals
 explain none = refl
@@ -134,6 +141,7 @@ bench (three a b c) = simp (a.plain, b.plain, c.plain)
 other : (v : Word) (behind : Behind)
     → bytes_eq (codes "check") (text v) ≡ false
     → bytes_eq (codes "prove") (text v) ≡ false
+    → bytes_eq (codes "bound") (text v) ≡ false
     → bytes_eq (codes "explain") (text v) ≡ false
     → bytes_eq (codes "verify") (text v) ≡ false
     → bytes_eq (codes "play") (text v) ≡ false
@@ -147,10 +155,10 @@ other : (v : Word) (behind : Behind)
     → bytes_eq (codes "bench") (text v) ≡ false
     → AgreesAt (text v ∷ texts behind)
 unfolding clap_on_literals
-other v none a b c d e f g h i j k l m = simp (v.plain, a, b, c, d, e, f, g, h, i, j, k, l, m)
-other v (one w) a b c d e f g h i j k l m = simp (v.plain, w.plain, a, b, c, d, e, f, g, h, i, j, k, l, m)
-other v (two w x) a b c d e f g h i j k l m = simp (v.plain, w.plain, x.plain, a, b, c, d, e, f, g, h, i, j, k, l, m)
-other v (three w x y) a b c d e f g h i j k l m = simp (v.plain, w.plain, x.plain, y.plain, a, b, c, d, e, f, g, h, i, j, k, l, m)
+other v none a b c d e f g h i j k l m n = simp (v.plain, a, b, c, d, e, f, g, h, i, j, k, l, m, n)
+other v (one w) a b c d e f g h i j k l m n = simp (v.plain, w.plain, a, b, c, d, e, f, g, h, i, j, k, l, m, n)
+other v (two w x) a b c d e f g h i j k l m n = simp (v.plain, w.plain, x.plain, a, b, c, d, e, f, g, h, i, j, k, l, m, n)
+other v (three w x y) a b c d e f g h i j k l m n = simp (v.plain, w.plain, x.plain, y.plain, a, b, c, d, e, f, g, h, i, j, k, l, m, n)
 
 -- the verb is this one, or it isn't
 at_verb : (verb word : Text) (P : Text → Type 0) → P verb → (bytes_eq verb word ≡ false → P word) → P word
@@ -165,18 +173,19 @@ with_verb v behind =
     let P : Text → Type 0 = λ verb. AgreesAt (verb ∷ texts behind) in
     at_verb (codes "check") (text v) P (check behind) (λ a.
     at_verb (codes "prove") (text v) P (prove behind) (λ b.
-    at_verb (codes "explain") (text v) P (explain behind) (λ c.
-    at_verb (codes "verify") (text v) P (verify behind) (λ d.
-    at_verb (codes "play") (text v) P (play behind) (λ e.
-    at_verb (codes "run") (text v) P (run behind) (λ f.
-    at_verb (codes "simulate") (text v) P (simulate behind) (λ g.
-    at_verb (codes "waste") (text v) P (waste behind) (λ h.
-    at_verb (codes "replay") (text v) P (replay behind) (λ i.
-    at_verb (codes "report") (text v) P (report behind) (λ j.
-    at_verb (codes "migrate") (text v) P (migrate behind) (λ k.
-    at_verb (codes "make") (text v) P (make behind) (λ l.
-    at_verb (codes "bench") (text v) P (bench behind) (λ m.
-    other v behind a b c d e f g h i j k l m)))))))))))))
+    at_verb (codes "bound") (text v) P (bound behind) (λ c.
+    at_verb (codes "explain") (text v) P (explain behind) (λ d.
+    at_verb (codes "verify") (text v) P (verify behind) (λ e.
+    at_verb (codes "play") (text v) P (play behind) (λ f.
+    at_verb (codes "run") (text v) P (run behind) (λ g.
+    at_verb (codes "simulate") (text v) P (simulate behind) (λ h.
+    at_verb (codes "waste") (text v) P (waste behind) (λ i.
+    at_verb (codes "replay") (text v) P (replay behind) (λ j.
+    at_verb (codes "report") (text v) P (report behind) (λ k.
+    at_verb (codes "migrate") (text v) P (migrate behind) (λ l.
+    at_verb (codes "make") (text v) P (make behind) (λ m.
+    at_verb (codes "bench") (text v) P (bench behind) (λ n.
+    other v behind a b c d e f g h i j k l m n))))))))))))))
 
 no_words : AgreesAt []
 unfolding clap_on_literals

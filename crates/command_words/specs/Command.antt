@@ -15,6 +15,8 @@ pub data Asked : Type 0 where
   explain : (policy : List ℕ) (name : ObName) → Asked
   -- to write the certificates of the policy in this file
   prove : (policy : List ℕ) → Asked
+  -- to tell what bounds the bad rounds of a still stretch under the policy in this file
+  bound : (policy : List ℕ) → Asked
   -- to verify by the certificates in the second file that the policy in the first meets its obligations
   verify : (policy certs : List ℕ) → Asked
   -- to play the trace in one file under the policy in the other
@@ -62,6 +64,7 @@ abbrev pub asked_by_one : List ℕ → List ℕ → Option Asked
 asked_by_one verb policy =
     if bytes_eq (codes "check") verb then Some (check policy)
     else if bytes_eq (codes "prove") verb then Some (prove policy)
+    else if bytes_eq (codes "bound") verb then Some (bound policy)
     else None
 
 -- those of a verb and two words

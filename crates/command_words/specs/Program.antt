@@ -5,8 +5,8 @@ use Rattle.std.specs.Str.{bytes_eq}
 use Rattle.clap.specs.Words.{App, Row, Rule, Shape, Text, first_of, new_rule}
 use Rattle.clap.specs.Simple.{new_shape}
 use Rattle.clap.specs.declared.builder.ArgAction.TheVariants.{Set}
-use Rattle.command_words.specs.Command.{Asked, benched_by, check, explain, made_by, migrate, name_of, play, prove}
-use Rattle.command_words.specs.Command.{replay, report, run, simulate, verify, waste}
+use Rattle.command_words.specs.Command.{Asked, benched_by, bound, check, explain, made_by, migrate, name_of, play}
+use Rattle.command_words.specs.Command.{prove, replay, report, run, simulate, verify, waste}
 
 -- a word that has to be there
 abbrev pub wanted : Text → Rule
@@ -33,6 +33,7 @@ abbrev pub commands : List Shape
 commands =
     command_of (codes "check") (codes "POLICY" ∷ [])
     ∷ command_of (codes "prove") (codes "POLICY" ∷ [])
+    ∷ command_of (codes "bound") (codes "POLICY" ∷ [])
     ∷ command_of (codes "explain") (codes "POLICY" ∷ codes "NAME" ∷ [])
     ∷ command_of (codes "verify") (codes "POLICY" ∷ codes "CERTS" ∷ [])
     ∷ command_of (codes "play") (codes "POLICY" ∷ codes "TRACE" ∷ [])
@@ -59,6 +60,7 @@ abbrev pub asked_in : Text → List Row → Option Asked
 asked_in verb rows =
     if bytes_eq verb (codes "check") then Some (check (word_in rows (codes "POLICY")))
     else if bytes_eq verb (codes "prove") then Some (prove (word_in rows (codes "POLICY")))
+    else if bytes_eq verb (codes "bound") then Some (bound (word_in rows (codes "POLICY")))
     else if bytes_eq verb (codes "explain") then
     option_map (explain (word_in rows (codes "POLICY"))) (name_of (word_in rows (codes "NAME")))
     else if bytes_eq verb (codes "verify") then

@@ -16,7 +16,7 @@ pub(crate) fn program<'a>(alloc: Global) -> Result<Command<'a>, AllocError>
     ensures { IfOk result (λ made. app_of made ≡ program) }
 {
     let program = no_commands(alloc);
-    let program = with_two(program, alloc, "check", "prove", &["POLICY"])?;
+    let program = with_three(program, alloc, "check", "prove", "bound", &["POLICY"])?;
     let program = with_command(program, alloc, "explain", &["POLICY", "NAME"])?;
     let program = with_command(program, alloc, "verify", &["POLICY", "CERTS"])?;
     let program = with_two(program, alloc, "play", "run", &["POLICY", "TRACE"])?;

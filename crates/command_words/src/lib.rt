@@ -15,5 +15,5 @@ mod words;
 pub use laws::law_word_limits;
 pub use memory::WordsMemory;
 pub use numbers::MAX_WORD_DIGITS;
-pub use request::{Request, request_of};
+pub use request::{HistoryFiles, Request, request_of};
 pub use words::MAX_WORDS;

@@ -14,75 +14,45 @@ use clap::ArgMatches;
 use obligations::{ObName, ob_name};
 use std::alloc::Global;
 
+/// The names of the files of a command that judges a history.
+#[derive(Clone, Copy)]
+pub struct HistoryFiles<'a> {
+    pub policy: &'a str,
+    pub trace: &'a str,
+    pub history: &'a str,
+}
+
 /// What the words of a call ask for.
 #[derive(Clone, Copy)]
 pub enum Request<'a> {
     /// To check the policy in this file.
-    Check {
-        policy: &'a str,
-    },
+    Check { policy: &'a str },
     /// To explain the obligation of that name of the policy in this file.
-    Explain {
-        policy: &'a str,
-        name: ObName,
-    },
+    Explain { policy: &'a str, name: ObName },
     /// To write the certificates of the policy in this file.
-    Prove {
-        policy: &'a str,
-    },
+    Prove { policy: &'a str },
+    /// To tell what bounds the bad rounds of a still stretch under the policy in this file.
+    Bound { policy: &'a str },
     /// To verify by the certificates in the second file that the policy in the first meets its obligations.
-    Verify {
-        policy: &'a str,
-        certs: &'a str,
-    },
+    Verify { policy: &'a str, certs: &'a str },
     /// To play the trace in one file under the policy in the other.
-    Play {
-        policy: &'a str,
-        trace: &'a str,
-    },
+    Play { policy: &'a str, trace: &'a str },
     /// To play it by all cores side by side, each in a thread of its own.
-    Run {
-        policy: &'a str,
-        trace: &'a str,
-    },
+    Run { policy: &'a str, trace: &'a str },
     /// To play it serially, under a policy of which only the handlers need be right.
-    Simulate {
-        policy: &'a str,
-        trace: &'a str,
-    },
+    Simulate { policy: &'a str, trace: &'a str },
     /// To report what that history wasted.
-    Waste {
-        policy: &'a str,
-        trace: &'a str,
-    },
-    /// To judge the history in the third file by the policy and the trace in the others.
-    Replay {
-        policy: &'a str,
-        trace: &'a str,
-        history: &'a str,
-    },
-    /// To report of the history in the third file under the policy and the trace in the others.
-    Report {
-        policy: &'a str,
-        trace: &'a str,
-        history: &'a str,
-    },
-    /// To write the history in the third file in the second format, under the policy and the trace in the others.
-    Migrate {
-        policy: &'a str,
-        trace: &'a str,
-        history: &'a str,
-    },
+    Waste { policy: &'a str, trace: &'a str },
+    /// To judge a history by a policy and a trace.
+    Replay(HistoryFiles<'a>),
+    /// To report of a history under a policy and a trace.
+    Report(HistoryFiles<'a>),
+    /// To write a history of the first format in the second, under a policy and a trace.
+    Migrate(HistoryFiles<'a>),
     /// To make the trace of so many threads that the seed determines.
-    Make {
-        seed: u64,
-        size: u32,
-    },
+    Make { seed: u64, size: u32 },
     /// To play that trace under the policy `fair`, and to tell what its history comes to.
-    Bench {
-        seed: u64,
-        size: u32,
-    },
+    Bench { seed: u64, size: u32 },
     /// Nothing: they are no command.
     Unknown,
 }
@@ -121,10 +91,15 @@ fn request_in<'a>(verb: &str, words: &ArgMatches<'a>) -> Request<'a>
 {
     let policy = word_in(words, "POLICY");
     let trace = word_in(words, "TRACE");
-    let history = word_in(words, "HISTORY");
+    let files = HistoryFiles {
+        policy,
+        trace,
+        history: word_in(words, "HISTORY"),
+    };
     match verb {
         "check" => Request::Check { policy },
         "prove" => Request::Prove { policy },
+        "bound" => Request::Bound { policy },
         "explain" => explanation_of(policy, word_in(words, "NAME")),
         "verify" => Request::Verify {
             policy,
@@ -134,21 +109,9 @@ fn request_in<'a>(verb: &str, words: &ArgMatches<'a>) -> Request<'a>
         "run" => Request::Run { policy, trace },
         "simulate" => Request::Simulate { policy, trace },
         "waste" => Request::Waste { policy, trace },
-        "replay" => Request::Replay {
-            policy,
-            trace,
-            history,
-        },
-        "report" => Request::Report {
-            policy,
-            trace,
-            history,
-        },
-        "migrate" => Request::Migrate {
-            policy,
-            trace,
-            history,
-        },
+        "replay" => Request::Replay(files),
+        "report" => Request::Report(files),
+        "migrate" => Request::Migrate(files),
         "make" => made_by(word_in(words, "SEED"), word_in(words, "SIZE")),
         "bench" => benched_by(word_in(words, "SEED"), word_in(words, "SIZE")),
         _ => Request::Unknown,

@@ -8,10 +8,12 @@ use Rattle.obligations.specs.declared.names.ObName.{ObName}
 use Rattle.policy_checker.specs.declared.answer.Outcome.{Outcome}
 use Rattle.policy_checker.specs.declared.answer.Outcome.TheVariants as outcome
 use Rattle.policy_checker.specs.declared.verdict.Verdict.TheVariants as verdict
-use Rattle.policy_check.specs.Checks.{IsRefusal}
+use Rattle.policy_check.specs.Checks.{IsCheckOf, IsRefusal}
 use Rattle.policy_check.specs.Lines.{check_lines, refusal_line}
 use Rattle.policy_check.specs.declared.answer.CheckAnswer.{CheckAnswer}
 use Rattle.policy_check.specs.declared.answer.CheckAnswer.TheVariants as checked
+use Rattle.policy_check.specs.declared.bounding.BoundAnswer.{BoundAnswer}
+use Rattle.policy_check.specs.declared.bounding.BoundAnswer.TheVariants as bounded
 use Rattle.policy_check.specs.declared.explaining.ExplainAnswer.TheVariants as explained
 use Rattle.policy_check.specs.declared.reading.Refusal.{Refusal}
 use Rattle.policy_check.specs.declared.reading.Refusal.TheVariants as refusal
@@ -32,12 +34,12 @@ use Rattle.trace_simulation.specs.declared.answer.PlayedWaste.TheVariants as was
 use Rattle.trace_simulation.specs.declared.answer.SimulationAnswer.{SimulationAnswer}
 use Rattle.trace_simulation.specs.declared.answer.SimulationAnswer.TheVariants as simulation
 use Rattle.trace_simulation.specs.Simulations.{IsSimulationOf, IsWasteOf}
-use Rattle.ipanema_cli.specs.Answers.{AnswersCheck, AnswersExplain, AnswersJudging, AnswersPlay, AnswersProve, AnswersVerify, IsAnswer, Judging, Playing, output_of, status_of}
-use Rattle.command_words.specs.Command.{Asked, bench, check, explain, make, migrate, play, prove, replay, report, run, simulate, verify, waste}
+use Rattle.ipanema_cli.specs.Answers.{AnswersBound, AnswersCheck, AnswersExplain, AnswersJudging, AnswersPlay, AnswersProve, AnswersVerify, IsAnswer, Judging, Playing, output_of, status_of}
+use Rattle.command_words.specs.Command.{Asked, bench, bound, check, explain, make, migrate, play, prove, replay, report, run, simulate, verify, waste}
 use Rattle.ipanema_cli.specs.Ends.{Ends, answered, unread, no_memory}
 use Rattle.ipanema_cli.specs.Causes.{HasCause, Judges, OneOf, Plays, SaysCrowded, SaysTooLong, Verifies}
 use Rattle.ipanema_cli.specs.Simulations.{AnswersSimulation, Simulating}
-use Rattle.ipanema_cli.specs.Status.{check_status, code_of, outcome_status, refusal_status, played_status, simulation_status, verify_status}
+use Rattle.ipanema_cli.specs.Status.{bound_status, check_status, code_of, outcome_status, refusal_status, played_status, simulation_status, verify_status}
 use Rattle.ipanema_cli.specs.Loads.{IsFileOf, IsOneOfThree}
 use Rattle.ipanema_cli.specs.Stops.{IsUnread}
 use Rattle.ipanema_cli.specs.Texts.{MayRead, room_of, too_long_line}
@@ -55,6 +57,18 @@ outcome_low : (told : Outcome) (n : ℕ) → n ≢ 0 → n ≢ 1 → n ≢ 3 →
 outcome_low outcome.Holds n a b c e = a (sym e)
 outcome_low outcome.Fails n a b c e = b (sym e)
 outcome_low outcome.Undecided n a b c e = c (sym e)
+
+-- an answer of `check` has none but the numbers 0 to 3 and 10, and one of `bound` neither
+check_low : (c : CheckAnswer) (n : ℕ) → n ≢ 0 → n ≢ 1 → n ≢ 2 → n ≢ 3 → n ≢ 10 → code_of (check_status c) ≡ n → ⊥
+check_low (checked.Judged (verdict.Accepted policy)) n a b c d f e = a (sym e)
+check_low (checked.Judged (verdict.Refused answers policy)) n a b c d f e = b (sym e)
+check_low (checked.Judged (verdict.Undecided answers policy)) n a b c d f e = d (sym e)
+check_low (checked.Unjudged (refusal.Faulty fault)) n a b c d f e = c (sym e)
+check_low (checked.Unjudged (refusal.Crowded name)) n a b c d f e = f (sym e)
+
+bound_low : (told : BoundAnswer) (n : ℕ) → n ≢ 0 → n ≢ 1 → n ≢ 2 → n ≢ 3 → n ≢ 10 → code_of (bound_status told) ≡ n → ⊥
+bound_low (bounded.Bounded told) n a b c d f e = outcome_low told.outcome n a b d e
+bound_low (bounded.Unbounded told) n a b c d f e = check_low told n a b c d f e
 
 -- an answer of `verify` has none but the numbers 0, 2, 10 and 11
 verify_low : (v : VerifyAnswer) (n : ℕ) → n ≢ 0 → n ≢ 2 → n ≢ 10 → n ≢ 11 → code_of (verify_status v) ≡ n → ⊥
@@ -85,6 +99,7 @@ seven (answer.Checked (checked.Unjudged (refusal.Crowded name))) e = absurd (ome
 seven (answer.Explained (explained.Explained told)) e = absurd (outcome_low told.outcome 7 (λ h. omega arith) (λ h. omega arith) (λ h. omega arith) e)
 seven (answer.Explained (explained.Unjudged (refusal.Faulty fault))) e = absurd (omega arith)
 seven (answer.Explained (explained.Unjudged (refusal.Crowded name))) e = absurd (omega arith)
+seven (answer.Bounded b) e = absurd (bound_low b 7 (λ h. omega arith) (λ h. omega arith) (λ h. omega arith) (λ h. omega arith) (λ h. omega arith) e)
 seven (answer.Proved certs) e = absurd (omega arith)
 seven (answer.Verified v) e = absurd (verify_low v 7 (λ h. omega arith) (λ h. omega arith) (λ h. omega arith) (λ h. omega arith) e)
 seven (answer.Played (play_answer.Broken fault)) e = absurd (omega arith)
@@ -113,6 +128,7 @@ eight (answer.Checked (checked.Unjudged (refusal.Crowded name))) e = absurd (ome
 eight (answer.Explained (explained.Explained told)) e = absurd (outcome_low told.outcome 8 (λ h. omega arith) (λ h. omega arith) (λ h. omega arith) e)
 eight (answer.Explained (explained.Unjudged (refusal.Faulty fault))) e = absurd (omega arith)
 eight (answer.Explained (explained.Unjudged (refusal.Crowded name))) e = absurd (omega arith)
+eight (answer.Bounded b) e = absurd (bound_low b 8 (λ h. omega arith) (λ h. omega arith) (λ h. omega arith) (λ h. omega arith) (λ h. omega arith) e)
 eight (answer.Proved certs) e = absurd (omega arith)
 eight (answer.Verified v) e = absurd (verify_low v 8 (λ h. omega arith) (λ h. omega arith) (λ h. omega arith) (λ h. omega arith) e)
 eight (answer.Played outcome) e = inl (outcome, refl)
@@ -138,6 +154,7 @@ nine (answer.Checked (checked.Unjudged (refusal.Crowded name))) e = absurd (omeg
 nine (answer.Explained (explained.Explained told)) e = absurd (outcome_low told.outcome 9 (λ h. omega arith) (λ h. omega arith) (λ h. omega arith) e)
 nine (answer.Explained (explained.Unjudged (refusal.Faulty fault))) e = absurd (omega arith)
 nine (answer.Explained (explained.Unjudged (refusal.Crowded name))) e = absurd (omega arith)
+nine (answer.Bounded b) e = absurd (bound_low b 9 (λ h. omega arith) (λ h. omega arith) (λ h. omega arith) (λ h. omega arith) (λ h. omega arith) e)
 nine (answer.Proved certs) e = absurd (omega arith)
 nine (answer.Verified v) e = absurd (verify_low v 9 (λ h. omega arith) (λ h. omega arith) (λ h. omega arith) (λ h. omega arith) e)
 nine (answer.Played (play_answer.Broken fault)) e = absurd (omega arith)
@@ -159,6 +176,7 @@ eleven (answer.Checked (checked.Unjudged (refusal.Crowded name))) e = absurd (om
 eleven (answer.Explained (explained.Explained told)) e = absurd (outcome_low told.outcome 11 (λ h. omega arith) (λ h. omega arith) (λ h. omega arith) e)
 eleven (answer.Explained (explained.Unjudged (refusal.Faulty fault))) e = absurd (omega arith)
 eleven (answer.Explained (explained.Unjudged (refusal.Crowded name))) e = absurd (omega arith)
+eleven (answer.Bounded b) e = absurd (bound_low b 11 (λ h. omega arith) (λ h. omega arith) (λ h. omega arith) (λ h. omega arith) (λ h. omega arith) e)
 eleven (answer.Proved certs) e = absurd (omega arith)
 eleven (answer.Verified v) e = (v, refl)
 eleven (answer.Played (play_answer.Broken fault)) e = absurd (omega arith)
@@ -182,6 +200,7 @@ played_for None told outcome is = absurd is
 played_for (Some (check policy)) told outcome is = absurd is
 played_for (Some (explain policy name)) told outcome is = absurd is
 played_for (Some (prove policy)) told outcome is = absurd is
+played_for (Some (bound policy)) told outcome is = absurd is
 played_for (Some (verify policy certs)) told outcome is = absurd is
 played_for (Some (play policy trace)) told outcome is = (policy, trace, inl refl)
 played_for (Some (run policy trace)) told outcome is = (policy, trace, inr (inl refl))
@@ -198,6 +217,7 @@ simulated_for None told s is = absurd is
 simulated_for (Some (check policy)) told s is = absurd is
 simulated_for (Some (explain policy name)) told s is = absurd is
 simulated_for (Some (prove policy)) told s is = absurd is
+simulated_for (Some (bound policy)) told s is = absurd is
 simulated_for (Some (verify policy certs)) told s is = absurd is
 simulated_for (Some (play policy trace)) told s is = absurd is
 simulated_for (Some (run policy trace)) told s is = absurd is
@@ -214,6 +234,7 @@ judged_for None told h is = absurd is
 judged_for (Some (check policy)) told h is = absurd is
 judged_for (Some (explain policy name)) told h is = absurd is
 judged_for (Some (prove policy)) told h is = absurd is
+judged_for (Some (bound policy)) told h is = absurd is
 judged_for (Some (verify policy certs)) told h is = absurd is
 judged_for (Some (play policy trace)) told h is = absurd is
 judged_for (Some (run policy trace)) told h is = absurd is
@@ -230,6 +251,7 @@ verified_for None told v is = absurd is
 verified_for (Some (check policy)) told v is = absurd is
 verified_for (Some (explain policy name)) told v is = absurd is
 verified_for (Some (prove policy)) told v is = absurd is
+verified_for (Some (bound policy)) told v is = absurd is
 verified_for (Some (verify policy certs)) told v is = (policy, certs, refl)
 verified_for (Some (play policy trace)) told v is = absurd is
 verified_for (Some (run policy trace)) told v is = absurd is
@@ -247,6 +269,7 @@ for_no_command None told is = refl
 for_no_command (Some (check policy)) told is = absurd is
 for_no_command (Some (explain policy name)) told is = absurd is
 for_no_command (Some (prove policy)) told is = absurd is
+for_no_command (Some (bound policy)) told is = absurd is
 for_no_command (Some (verify policy certs)) told is = absurd is
 for_no_command (Some (play policy trace)) told is = absurd is
 for_no_command (Some (run policy trace)) told is = absurd is
@@ -262,6 +285,7 @@ for_no_command (Some (bench seed size)) told is = absurd is
 no_command_code : (told : List ℕ → Told) (a : Answer) → IsAnswer None told a → code_of (status_of a) ≡ 7
 no_command_code told (answer.Checked c) is = absurd is
 no_command_code told (answer.Explained e) is = absurd is
+no_command_code told (answer.Bounded e) is = absurd is
 no_command_code told (answer.Proved certs) is = absurd is
 no_command_code told (answer.Verified v) is = absurd is
 no_command_code told (answer.Played outcome) is = absurd is
@@ -281,6 +305,7 @@ not_read which told text held read tells long =
 long_for_check : (policy : Told) (a : Answer) (held : List ℕ) → AnswersCheck policy a → policy ≡ holds held → room_of kind.Policy < length held → code_of (status_of a) ≡ 10
 long_for_check policy (answer.Checked c) held (text, read, is) tells long = absurd (not_read kind.Policy policy text held read tells long)
 long_for_check policy (answer.Explained e) held is tells long = absurd is
+long_for_check policy (answer.Bounded e) held is tells long = absurd is
 long_for_check policy (answer.Proved certs) held is tells long = absurd is
 long_for_check policy (answer.Verified v) held is tells long = absurd is
 long_for_check policy (answer.Played outcome) held is tells long = absurd is
@@ -294,6 +319,7 @@ long_for_check policy answer.BadWords held is tells long = absurd is
 long_for_explain : (policy : Told) (name : ObName) (a : Answer) (held : List ℕ) → AnswersExplain policy name a → policy ≡ holds held → room_of kind.Policy < length held → code_of (status_of a) ≡ 10
 long_for_explain policy name (answer.Checked c) held is tells long = absurd is
 long_for_explain policy name (answer.Explained e) held (text, read, is) tells long = absurd (not_read kind.Policy policy text held read tells long)
+long_for_explain policy name (answer.Bounded b) held is tells long = absurd is
 long_for_explain policy name (answer.Proved certs) held is tells long = absurd is
 long_for_explain policy name (answer.Verified v) held is tells long = absurd is
 long_for_explain policy name (answer.Played outcome) held is tells long = absurd is
@@ -304,9 +330,24 @@ long_for_explain policy name (answer.Benched told) held is tells long = absurd i
 long_for_explain policy name (answer.TooLong which) held is tells long = refl
 long_for_explain policy name answer.BadWords held is tells long = absurd is
 
+long_for_bound : (policy : Told) (a : Answer) (held : List ℕ) → AnswersBound policy a → policy ≡ holds held → room_of kind.Policy < length held → code_of (status_of a) ≡ 10
+long_for_bound policy (answer.Checked c) held is tells long = absurd is
+long_for_bound policy (answer.Explained e) held is tells long = absurd is
+long_for_bound policy (answer.Bounded b) held (text, read, is) tells long = absurd (not_read kind.Policy policy text held read tells long)
+long_for_bound policy (answer.Proved certs) held is tells long = absurd is
+long_for_bound policy (answer.Verified v) held is tells long = absurd is
+long_for_bound policy (answer.Played outcome) held is tells long = absurd is
+long_for_bound policy (answer.Simulated outcome) held is tells long = absurd is
+long_for_bound policy (answer.Judged h) held is tells long = absurd is
+long_for_bound policy (answer.Made text) held is tells long = absurd is
+long_for_bound policy (answer.Benched told) held is tells long = absurd is
+long_for_bound policy (answer.TooLong which) held is tells long = refl
+long_for_bound policy answer.BadWords held is tells long = absurd is
+
 long_for_prove : (policy : Told) (a : Answer) (held : List ℕ) → AnswersProve policy a → policy ≡ holds held → room_of kind.Policy < length held → code_of (status_of a) ≡ 10
 long_for_prove policy (answer.Checked c) held is tells long = absurd (not_read kind.Policy policy is.text held is.read tells long)
 long_for_prove policy (answer.Explained e) held is tells long = absurd is
+long_for_prove policy (answer.Bounded e) held is tells long = absurd is
 long_for_prove policy (answer.Proved certs) held is tells long = absurd (not_read kind.Policy policy is.text held is.read tells long)
 long_for_prove policy (answer.Verified v) held is tells long = absurd is
 long_for_prove policy (answer.Played outcome) held is tells long = absurd is
@@ -320,6 +361,7 @@ long_for_prove policy answer.BadWords held is tells long = absurd is
 long_policy_for_verify : (policy certs : Told) (a : Answer) (held : List ℕ) → AnswersVerify policy certs a → policy ≡ holds held → room_of kind.Policy < length held → code_of (status_of a) ≡ 10
 long_policy_for_verify policy certs (answer.Checked c) held is tells long = absurd is
 long_policy_for_verify policy certs (answer.Explained e) held is tells long = absurd is
+long_policy_for_verify policy certs (answer.Bounded e) held is tells long = absurd is
 long_policy_for_verify policy certs (answer.Proved text) held is tells long = absurd is
 long_policy_for_verify policy certs (answer.Verified v) held is tells long = absurd (not_read kind.Policy policy is.text held is.policy_read tells long)
 long_policy_for_verify policy certs (answer.Played outcome) held is tells long = absurd is
@@ -333,6 +375,7 @@ long_policy_for_verify policy certs answer.BadWords held is tells long = absurd 
 long_certs_for_verify : (policy certs : Told) (a : Answer) (held : List ℕ) → AnswersVerify policy certs a → certs ≡ holds held → room_of kind.Certificates < length held → code_of (status_of a) ≡ 10
 long_certs_for_verify policy certs (answer.Checked c) held is tells long = absurd is
 long_certs_for_verify policy certs (answer.Explained e) held is tells long = absurd is
+long_certs_for_verify policy certs (answer.Bounded e) held is tells long = absurd is
 long_certs_for_verify policy certs (answer.Proved text) held is tells long = absurd is
 long_certs_for_verify policy certs (answer.Verified v) held is tells long = absurd (not_read kind.Certificates certs is.file held is.certs_read tells long)
 long_certs_for_verify policy certs (answer.Played outcome) held is tells long = absurd is
@@ -346,6 +389,7 @@ long_certs_for_verify policy certs answer.BadWords held is tells long = absurd i
 long_for_play : (Is : Playing) (policy trace : Told) (a : Answer) (held : List ℕ) → AnswersPlay Is policy trace a → policy ≡ holds held → room_of kind.Policy < length held → code_of (status_of a) ≡ 10
 long_for_play Is policy trace (answer.Checked c) held is tells long = absurd (not_read kind.Policy policy is.text held is.policy_read tells long)
 long_for_play Is policy trace (answer.Explained e) held is tells long = absurd is
+long_for_play Is policy trace (answer.Bounded e) held is tells long = absurd is
 long_for_play Is policy trace (answer.Proved certs) held is tells long = absurd is
 long_for_play Is policy trace (answer.Verified v) held is tells long = absurd is
 long_for_play Is policy trace (answer.Played outcome) held is tells long = absurd (not_read kind.Policy policy is.text held is.policy_read tells long)
@@ -359,6 +403,7 @@ long_for_play Is policy trace answer.BadWords held is tells long = absurd is
 long_trace_for_play : (Is : Playing) (policy trace : Told) (a : Answer) (held : List ℕ) → AnswersPlay Is policy trace a → trace ≡ holds held → room_of kind.Trace < length held → code_of (status_of a) ≡ 10
 long_trace_for_play Is policy trace (answer.Checked c) held is tells long = absurd (not_read kind.Trace trace is.jobs held is.trace_read tells long)
 long_trace_for_play Is policy trace (answer.Explained e) held is tells long = absurd is
+long_trace_for_play Is policy trace (answer.Bounded e) held is tells long = absurd is
 long_trace_for_play Is policy trace (answer.Proved certs) held is tells long = absurd is
 long_trace_for_play Is policy trace (answer.Verified v) held is tells long = absurd is
 long_trace_for_play Is policy trace (answer.Played outcome) held is tells long = absurd (not_read kind.Trace trace is.jobs held is.trace_read tells long)
@@ -372,6 +417,7 @@ long_trace_for_play Is policy trace answer.BadWords held is tells long = absurd 
 long_for_simulation : (Is : Simulating) (policy trace : Told) (a : Answer) (held : List ℕ) → AnswersSimulation Is policy trace a → policy ≡ holds held → room_of kind.Policy < length held → code_of (status_of a) ≡ 10
 long_for_simulation Is policy trace (answer.Checked c) held is tells long = absurd (not_read kind.Policy policy is.text held is.policy_read tells long)
 long_for_simulation Is policy trace (answer.Explained e) held is tells long = absurd is
+long_for_simulation Is policy trace (answer.Bounded e) held is tells long = absurd is
 long_for_simulation Is policy trace (answer.Proved certs) held is tells long = absurd is
 long_for_simulation Is policy trace (answer.Verified v) held is tells long = absurd is
 long_for_simulation Is policy trace (answer.Simulated s) held is tells long = absurd (not_read kind.Policy policy is.text held is.policy_read tells long)
@@ -385,6 +431,7 @@ long_for_simulation Is policy trace answer.BadWords held is tells long = absurd 
 long_trace_for_simulation : (Is : Simulating) (policy trace : Told) (a : Answer) (held : List ℕ) → AnswersSimulation Is policy trace a → trace ≡ holds held → room_of kind.Trace < length held → code_of (status_of a) ≡ 10
 long_trace_for_simulation Is policy trace (answer.Checked c) held is tells long = absurd (not_read kind.Trace trace is.jobs held is.trace_read tells long)
 long_trace_for_simulation Is policy trace (answer.Explained e) held is tells long = absurd is
+long_trace_for_simulation Is policy trace (answer.Bounded e) held is tells long = absurd is
 long_trace_for_simulation Is policy trace (answer.Proved certs) held is tells long = absurd is
 long_trace_for_simulation Is policy trace (answer.Verified v) held is tells long = absurd is
 long_trace_for_simulation Is policy trace (answer.Simulated s) held is tells long = absurd (not_read kind.Trace trace is.jobs held is.trace_read tells long)
@@ -398,6 +445,7 @@ long_trace_for_simulation Is policy trace answer.BadWords held is tells long = a
 long_policy_of_three : (Is : Judging) (policy trace history : Told) (a : Answer) (held : List ℕ) → AnswersJudging Is policy trace history a → policy ≡ holds held → room_of kind.Policy < length held → code_of (status_of a) ≡ 10
 long_policy_of_three Is policy trace history (answer.Checked c) held is tells long = absurd (not_read kind.Policy policy is.text held is.policy_read tells long)
 long_policy_of_three Is policy trace history (answer.Explained e) held is tells long = absurd is
+long_policy_of_three Is policy trace history (answer.Bounded e) held is tells long = absurd is
 long_policy_of_three Is policy trace history (answer.Proved certs) held is tells long = absurd is
 long_policy_of_three Is policy trace history (answer.Verified v) held is tells long = absurd is
 long_policy_of_three Is policy trace history (answer.Played outcome) held is tells long = absurd is
@@ -411,6 +459,7 @@ long_policy_of_three Is policy trace history answer.BadWords held is tells long 
 long_trace_of_three : (Is : Judging) (policy trace history : Told) (a : Answer) (held : List ℕ) → AnswersJudging Is policy trace history a → trace ≡ holds held → room_of kind.Trace < length held → code_of (status_of a) ≡ 10
 long_trace_of_three Is policy trace history (answer.Checked c) held is tells long = absurd (not_read kind.Trace trace is.jobs held is.trace_read tells long)
 long_trace_of_three Is policy trace history (answer.Explained e) held is tells long = absurd is
+long_trace_of_three Is policy trace history (answer.Bounded e) held is tells long = absurd is
 long_trace_of_three Is policy trace history (answer.Proved certs) held is tells long = absurd is
 long_trace_of_three Is policy trace history (answer.Verified v) held is tells long = absurd is
 long_trace_of_three Is policy trace history (answer.Played outcome) held is tells long = absurd is
@@ -424,6 +473,7 @@ long_trace_of_three Is policy trace history answer.BadWords held is tells long =
 long_history_of_three : (Is : Judging) (policy trace history : Told) (a : Answer) (held : List ℕ) → AnswersJudging Is policy trace history a → history ≡ holds held → room_of kind.History < length held → code_of (status_of a) ≡ 10
 long_history_of_three Is policy trace history (answer.Checked c) held is tells long = absurd (not_read kind.History history is.entries held is.history_read tells long)
 long_history_of_three Is policy trace history (answer.Explained e) held is tells long = absurd is
+long_history_of_three Is policy trace history (answer.Bounded e) held is tells long = absurd is
 long_history_of_three Is policy trace history (answer.Proved certs) held is tells long = absurd is
 long_history_of_three Is policy trace history (answer.Verified v) held is tells long = absurd is
 long_history_of_three Is policy trace history (answer.Played outcome) held is tells long = absurd is
@@ -458,6 +508,10 @@ long_file (Some (prove policy)) told a kind.Policy name held is file tells long 
 long_file (Some (prove policy)) told a kind.Trace name held is file tells long = absurd file
 long_file (Some (prove policy)) told a kind.History name held is file tells long = absurd file
 long_file (Some (prove policy)) told a kind.Certificates name held is file tells long = absurd file
+long_file (Some (bound policy)) told a kind.Policy name held is file tells long = long_for_bound (told policy) a held is (sym (ap told file) ∙ tells) long
+long_file (Some (bound policy)) told a kind.Trace name held is file tells long = absurd file
+long_file (Some (bound policy)) told a kind.History name held is file tells long = absurd file
+long_file (Some (bound policy)) told a kind.Certificates name held is file tells long = absurd file
 long_file (Some (verify policy certs)) told a kind.Policy name held is file tells long = long_policy_for_verify (told policy) (told certs) a held is (sym (ap told file) ∙ tells) long
 long_file (Some (verify policy certs)) told a kind.Trace name held is file tells long = absurd file
 long_file (Some (verify policy certs)) told a kind.History name held is file tells long = absurd file
@@ -508,6 +562,14 @@ module _ (told : List ℕ → Told) (before after : Option (List ℕ)) where
   ten_of_simulation asked policy trace file Is (checked.Unjudged why) is e added =
       crowded_by asked policy is.text why file is.policy_read is.answers.0 e added
 
+  ten_of_bound : (policy text : List ℕ) (c : CheckAnswer) → MayRead kind.Policy (told policy) text → IsCheckOf text c
+      → code_of (check_status c) ≡ 10 → Adds (joined (check_lines c)) before after → SaysCrowded (Some (bound policy)) told before after
+  ten_of_bound policy text (checked.Judged (verdict.Accepted kept)) read is e added = absurd (omega arith)
+  ten_of_bound policy text (checked.Judged (verdict.Refused answers kept)) read is e added = absurd (omega arith)
+  ten_of_bound policy text (checked.Judged (verdict.Undecided answers kept)) read is e added = absurd (omega arith)
+  ten_of_bound policy text (checked.Unjudged why) read is e added =
+      crowded_by (Some (bound policy)) policy text why refl read is e added
+
   ten : (asked : Option Asked) (a : Answer) → IsAnswer asked told a → code_of (status_of a) ≡ 10 → Adds (output_of a) before after
       → SaysTooLong asked told before after ⊎ SaysCrowded asked told before after
   ten asked (answer.TooLong which) is e added = inl (which, is, one_line (too_long_line which) before after added)
@@ -523,6 +585,7 @@ module _ (told : List ℕ → Told) (before after : Option (List ℕ)) where
   ten (Some (prove policy)) (answer.Checked (checked.Judged (verdict.Undecided answers kept))) is e added = absurd (omega arith)
   ten (Some (prove policy)) (answer.Checked (checked.Unjudged why)) is e added =
       inr (crowded_by (Some (prove policy)) policy is.text why refl is.read is.answers.0 e added)
+  ten (Some (bound policy)) (answer.Checked c) is e added = absurd is
   ten (Some (verify policy certs)) (answer.Checked c) is e added = absurd is
   ten (Some (play policy trace)) (answer.Checked (checked.Judged (verdict.Accepted kept))) is e added = absurd (omega arith)
   ten (Some (play policy trace)) (answer.Checked (checked.Judged (verdict.Refused answers kept))) is e added = absurd (omega arith)
@@ -556,6 +619,7 @@ module _ (told : List ℕ → Told) (before after : Option (List ℕ)) where
   ten (Some (explain policy ob)) (answer.Explained (explained.Unjudged why)) (text, read, is) e added =
       inr (crowded_by (Some (explain policy ob)) policy text why refl read is e added)
   ten (Some (prove policy)) (answer.Explained told) is e added = absurd is
+  ten (Some (bound policy)) (answer.Explained told) is e added = absurd is
   ten (Some (verify policy certs)) (answer.Explained told) is e added = absurd is
   ten (Some (play policy trace)) (answer.Explained told) is e added = absurd is
   ten (Some (run policy trace)) (answer.Explained told) is e added = absurd is
@@ -566,6 +630,24 @@ module _ (told : List ℕ → Told) (before after : Option (List ℕ)) where
   ten (Some (migrate policy trace history)) (answer.Explained told) is e added = absurd is
   ten (Some (make seed size)) (answer.Explained told) is e added = absurd is
   ten (Some (bench seed size)) (answer.Explained told) is e added = absurd is
+  ten None (answer.Bounded told) is e added = absurd is
+  ten (Some (check policy)) (answer.Bounded told) is e added = absurd is
+  ten (Some (explain policy ob)) (answer.Bounded told) is e added = absurd is
+  ten (Some (prove policy)) (answer.Bounded told) is e added = absurd is
+  ten (Some (bound policy)) (answer.Bounded (bounded.Bounded told)) is e added =
+      absurd (outcome_low told.outcome 10 (λ h. omega arith) (λ h. omega arith) (λ h. omega arith) e)
+  ten (Some (bound policy)) (answer.Bounded (bounded.Unbounded c)) (text, read, is) e added =
+      inr (ten_of_bound policy text c read is.0 e added)
+  ten (Some (verify policy certs)) (answer.Bounded told) is e added = absurd is
+  ten (Some (play policy trace)) (answer.Bounded told) is e added = absurd is
+  ten (Some (run policy trace)) (answer.Bounded told) is e added = absurd is
+  ten (Some (simulate policy trace)) (answer.Bounded told) is e added = absurd is
+  ten (Some (waste policy trace)) (answer.Bounded told) is e added = absurd is
+  ten (Some (replay policy trace history)) (answer.Bounded told) is e added = absurd is
+  ten (Some (report policy trace history)) (answer.Bounded told) is e added = absurd is
+  ten (Some (migrate policy trace history)) (answer.Bounded told) is e added = absurd is
+  ten (Some (make seed size)) (answer.Bounded told) is e added = absurd is
+  ten (Some (bench seed size)) (answer.Bounded told) is e added = absurd is
   ten asked (answer.Proved certs) is e added = absurd (omega arith)
   ten asked (answer.Verified (verified.Verified told_it)) is e added = absurd (omega arith)
   ten asked (answer.Verified (verified.BadLine line)) is e added = absurd (omega arith)
@@ -574,6 +656,7 @@ module _ (told : List ℕ → Told) (before after : Option (List ℕ)) where
   ten (Some (check policy)) (answer.Verified (verified.Unjudged why)) is e added = absurd is
   ten (Some (explain policy ob)) (answer.Verified (verified.Unjudged why)) is e added = absurd is
   ten (Some (prove policy)) (answer.Verified (verified.Unjudged why)) is e added = absurd is
+  ten (Some (bound policy)) (answer.Verified (verified.Unjudged why)) is e added = absurd is
   ten (Some (play policy trace)) (answer.Verified (verified.Unjudged why)) is e added = absurd is
   ten (Some (run policy trace)) (answer.Verified (verified.Unjudged why)) is e added = absurd is
   ten (Some (simulate policy trace)) (answer.Verified (verified.Unjudged why)) is e added = absurd is

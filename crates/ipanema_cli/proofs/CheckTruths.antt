@@ -4,6 +4,9 @@ use Rattle.sched_io.specs.Puts.{joined}
 use Rattle.sched_io.specs.Shown.{Shown}
 use Rattle.sched_io.specs.Told.{Told}
 use Rattle.sched_io.specs.Written.{Adds}
+use Rattle.policy_eval.specs.LastWaiting.{LeavesLastToIdle}
+use Rattle.policy_eval.specs.Obligations.{MeetsObligations}
+use Rattle.policy_eval.specs.Ranges.{greatest_weight, least_weight}
 use Rattle.policy_reader.specs.Lines.{fault_line}
 use Rattle.policy_tree.specs.Meaning.{Meaning, meaning_of}
 use Rattle.policy_checker.specs.Verdicts.{policy_of}
@@ -16,13 +19,15 @@ use Rattle.policy_check.specs.declared.answer.CheckAnswer.{CheckAnswer}
 use Rattle.policy_check.specs.declared.answer.CheckAnswer.TheVariants as checked
 use Rattle.policy_check.specs.declared.reading.Refusal.{Refusal}
 use Rattle.policy_check.specs.declared.reading.Refusal.TheVariants as refusal
+use Rattle.round_laws.proofs.EqualWeights.{equal_weights}
 use Rattle.round_laws.proofs.MainTheorem.{main_theorem}
+use Rattle.round_laws.proofs.WastePaid.{waste_is_paid_law}
 use Rattle.ipanema_cli.specs.Answers.{AnswersCheck}
 use Rattle.ipanema_cli.specs.Causes.{OneOf}
 use Rattle.ipanema_cli.specs.Ends.{Writes}
 use Rattle.ipanema_cli.specs.Status.{check_status, code_of, refusal_status, verdict_status}
 use Rattle.ipanema_cli.specs.Texts.{MayBeLong, MayRead}
-use Rattle.ipanema_cli.specs.CheckTruths.{AcceptedPolicy, AnswersFor, ChecksTruly, Decides, Holds, Refuses, TellsFault}
+use Rattle.ipanema_cli.specs.CheckTruths.{AcceptedPolicy, AnswersFor, ChecksTruly, Decides, Holds, PaysForWaste, Refuses, TellsFault}
 use Rattle.ipanema_cli.specs.declared.answers.Answer.{Answer}
 use Rattle.ipanema_cli.specs.declared.answers.Answer.TheVariants as answer
 use Rattle.ipanema_cli.specs.declared.texts.TextKind.{TextKind}
@@ -111,13 +116,21 @@ verdict_not_2 (verdict.Accepted kept) code own e = omega arith
 verdict_not_2 (verdict.Refused answers kept) code own e = omega arith
 verdict_not_2 (verdict.Undecided answers kept) code own e = omega arith
 
+-- where only idle cores take the last waiting thread, waste is paid for
+pub pays_for_waste : (p : Meaning) → MeetsObligations p → LeavesLastToIdle p → PaysForWaste p
+pays_for_waste p met leaves plan history fits legal = waste_is_paid_law p plan history fits met leaves legal
+
+-- and so it is where all threads weigh the same
+pub pays_if_equal : (p : Meaning) → MeetsObligations p → least_weight p.load ≡ greatest_weight p.load → PaysForWaste p
+pays_if_equal p met same = pays_for_waste p met (equal_weights p met same)
+
 -- what an accepted policy has
 accepted_policy : (policy : Told) (text : List ℕ) (v : Verdict) (code : ℕ) → MayRead kind.Policy policy text → IsJudged text (meaning_of (policy_of v)) v
     → code ≡ code_of (verdict_status v) → code ≡ 0 → (p : Meaning) × AcceptedPolicy policy p
 accepted_policy policy text (verdict.Accepted kept) code read is own zero =
     let p = meaning_of kept in
     let met = meets p (resolved policy text p read is.spells) is.is.certified in
-    (p, record { spelled = (text, read, is.spells); certified = is.is.certified; meets = met; wastes_no_core = main_theorem p met })
+    (p, record { spelled = (text, read, is.spells); certified = is.is.certified; meets = met; wastes_no_core = main_theorem p met; pays = pays_if_equal p met })
 accepted_policy policy text (verdict.Refused answers kept) code read is own zero = absurd (omega arith)
 accepted_policy policy text (verdict.Undecided answers kept) code read is own zero = absurd (omega arith)
 
@@ -172,6 +185,7 @@ checks policy before after code (answer.Checked c) (text, read, is) writes = eli
   | inl e ↦ read_check policy text c before.written after.written code read is e (whole _ _ _ _ writes (λ five. (no_stop (answer.Checked c)).1 (sym e ∙ five)))
 ]
 checks policy before after code (answer.Explained told) is writes = absurd is
+checks policy before after code (answer.Bounded told) is writes = absurd is
 checks policy before after code (answer.Proved certs) is writes = absurd is
 checks policy before after code (answer.Verified v) is writes = absurd is
 checks policy before after code (answer.Judged outcome) is writes = absurd is

@@ -411,6 +411,7 @@ judges Is Says worth policy trace history before after code (answer.Checked c) t
   | inl e ↦ unaccepted Is Says policy trace history c before.written after.written code texts e (whole _ _ _ _ writes (λ five. (no_stop (answer.Checked c)).1 (sym e ∙ five)))
 ]
 judges Is Says worth policy trace history before after code (answer.Explained told) is writes = absurd is
+judges Is Says worth policy trace history before after code (answer.Bounded told) is writes = absurd is
 judges Is Says worth policy trace history before after code (answer.Proved certs) is writes = absurd is
 judges Is Says worth policy trace history before after code (answer.Verified v) is writes = absurd is
 judges Is Says worth policy trace history before after code (answer.Played outcome) is writes = absurd is

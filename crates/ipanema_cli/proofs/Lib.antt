@@ -1,4 +1,5 @@
 pub mod BenchTruths
+pub mod BoundTruths
 pub mod CauseLemmas
 pub mod CheckTruths
 mod Concluding

@@ -26,7 +26,7 @@ use Rattle.ipanema_cli.specs.ProveTruths.{ProvesTruly}
 use Rattle.ipanema_cli.specs.declared.answers.Answer.{Answer}
 use Rattle.ipanema_cli.specs.declared.answers.Answer.TheVariants as answer
 use Rattle.ipanema_cli.specs.declared.texts.TextKind.TheVariants as kind
-use Rattle.ipanema_cli.proofs.CheckTruths.{Stopped, at_5, long_decides, long_refuses, refusal_not_0, stopped_decides, stopped_not, stopped_refuses, tells_fault, verdict_answers}
+use Rattle.ipanema_cli.proofs.CheckTruths.{Stopped, at_5, long_decides, long_refuses, pays_if_equal, refusal_not_0, stopped_decides, stopped_not, stopped_refuses, tells_fault, verdict_answers}
 use Rattle.ipanema_cli.proofs.PolicyFacts.{judged_refuses, never_left, read_decides, read_refuses, resolved, same_policy}
 use Rattle.ipanema_cli.proofs.TraceTruths.{low_or_stopped, no_line}
 use Rattle.ipanema_cli.proofs.WritesLemmas.{code_among, no_stop, whole}
@@ -60,7 +60,7 @@ proof_written policy text certs p before after code read accepted proving own ad
     record {
       proved = λ h. record {
         p = p;
-        accepted = record { spelled = (text, read, accepted.spells); certified = accepted.certified; meets = met; wastes_no_core = main_theorem p met };
+        accepted = record { spelled = (text, read, accepted.spells); certified = accepted.certified; meets = met; wastes_no_core = main_theorem p met; pays = pays_if_equal p met };
         few = accepted.few;
         certs = certs;
         proves = proving;
@@ -123,6 +123,7 @@ proves policy before after code (answer.Checked c) is writes = elim (code_among 
   | inl e ↦ unaccepted policy c is.text before.written after.written code is.read is.answers.0 is.answers.1 e (whole _ _ _ _ writes (λ five. (no_stop (answer.Checked c)).1 (sym e ∙ five)))
 ]
 proves policy before after code (answer.Explained told) is writes = absurd is
+proves policy before after code (answer.Bounded told) is writes = absurd is
 proves policy before after code (answer.Proved certs) is writes = elim (code_among _ _ _ _ writes) [
   | inr e ↦ stopped_prove policy before.written after.written code (at_5 e)
   | inl e ↦ proof_written policy is.text certs.items is.answers.0 before.written after.written code is.read is.answers.1 is.answers.2 e

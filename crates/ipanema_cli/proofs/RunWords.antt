@@ -5,24 +5,25 @@ use Rattle.std.specs.Str.{bytes_eq}
 use Rattle.std.proofs.lemmas.Slice.Eq.{bytes_eq-Decides}
 use Rattle.std.specs.Borrow.{Bor}
 use Rattle.command_words.specs.Asks.{asked}
-use Rattle.command_words.specs.Command.{Asked, asked_by, asked_by_two, asked_plainly, bench, benched_by, check, explain, is_plain, made_by, make, migrate, name_of, play, prove, replay, report, run, simulate, sized_by, verify, waste}
+use Rattle.command_words.specs.Command.{Asked, asked_by, asked_by_two, asked_plainly, bench, benched_by, bound, check, explain, is_plain, made_by, make, migrate, name_of, play, prove, replay, report, run, simulate, sized_by, verify, waste}
 use Rattle.command_words.specs.Numbers.{seed_in, size_in}
 use Rattle.obligations.specs.declared.names.ObName.{ObName}
 use Rattle.command_words.specs.declared.request.Request.{Request}
-use Rattle.command_words.specs.declared.request.Request.TheVariants.{Bench, Check, Explain, Make, Migrate, Play, Prove, Replay, Report, Run, Simulate, Unknown, Verify, Waste}
+use Rattle.command_words.specs.declared.request.Request.TheVariants.{Bench, Bound, Check, Explain, Make, Migrate, Play, Prove, Replay, Report, Run, Simulate, Unknown, Verify, Waste}
 
 pub no_run : (request : Request) → ((policy trace : Bor (List ℕ)) → request ≡ Run policy trace → ⊥) → (r : Request) → request ≡ r → (policy trace : List ℕ) → asked r ≡ Some (run policy trace) → ⊥
 no_run request never (Check p) same policy trace is = cc
 no_run request never (Explain p name) same policy trace is = cc
 no_run request never (Prove p) same policy trace is = cc
+no_run request never (Bound p) same policy trace is = cc
 no_run request never (Verify p c) same policy trace is = cc
 no_run request never (Play p t) same policy trace is = cc
 no_run request never (Run p t) same policy trace is = never p t same
 no_run request never (Simulate p t) same policy trace is = cc
 no_run request never (Waste p t) same policy trace is = cc
-no_run request never (Replay p t h) same policy trace is = cc
-no_run request never (Report p t h) same policy trace is = cc
-no_run request never (Migrate p t h) same policy trace is = cc
+no_run request never (Replay files) same policy trace is = cc
+no_run request never (Report files) same policy trace is = cc
+no_run request never (Migrate files) same policy trace is = cc
 no_run request never (Make seed size) same policy trace is = cc
 no_run request never (Bench seed size) same policy trace is = cc
 no_run request never Unknown same policy trace is = cc
@@ -88,10 +89,11 @@ two verb first second policy trace other = explained (bytes_eq (codes "explain")
     explained true e = no_explained first (name_of second) policy trace e
     explained false e = verified (bytes_eq (codes "verify") verb) e
 
-one : (a b : Bool) (file policy trace : List ℕ) → (if a then Some (check file) else if b then Some (prove file) else None) ≡ Some (run policy trace) → ⊥
-one true b file policy trace e = cc
-one false true file policy trace e = cc
-one false false file policy trace e = cc
+one : (a b c : Bool) (file policy trace : List ℕ) → (if a then Some (check file) else if b then Some (prove file) else if c then Some (bound file) else None) ≡ Some (run policy trace) → ⊥
+one true b c file policy trace e = cc
+one false true c file policy trace e = cc
+one false false true file policy trace e = cc
+one false false false file policy trace e = cc
 
 three : (a b c : Bool) (p t h policy trace : List ℕ) → (if a then Some (replay p t h) else if b then Some (report p t h) else if c then Some (migrate p t h) else None) ≡ Some (run policy trace) → ⊥
 three true b c p t h policy trace e = cc
@@ -102,7 +104,7 @@ three false false false p t h policy trace e = cc
 plainly : (words : List (List ℕ)) → (slice_get words 0 ≢ Some (codes "run")) → (policy trace : List ℕ) → asked_plainly words ≡ Some (run policy trace) → ⊥
 plainly [] other policy trace e = cc
 plainly (verb ∷ []) other policy trace e = cc
-plainly (verb ∷ first ∷ []) other policy trace e = one (bytes_eq (codes "check") verb) (bytes_eq (codes "prove") verb) first policy trace e
+plainly (verb ∷ first ∷ []) other policy trace e = one (bytes_eq (codes "check") verb) (bytes_eq (codes "prove") verb) (bytes_eq (codes "bound") verb) first policy trace e
 plainly (verb ∷ first ∷ second ∷ []) other policy trace e = two verb first second policy trace (λ same. other (ap Some same)) e
 plainly (verb ∷ first ∷ second ∷ third ∷ []) other policy trace e = three (bytes_eq (codes "replay") verb) (bytes_eq (codes "report") verb) (bytes_eq (codes "migrate") verb) first second third policy trace e
 plainly (verb ∷ first ∷ second ∷ third ∷ more ∷ words) other policy trace e = cc

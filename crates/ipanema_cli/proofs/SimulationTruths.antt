@@ -282,6 +282,7 @@ module _ (Says : Meaning → Plan → List Entry → List ℕ → Type 0) where
     | inl e ↦ unplayed policy trace c texts.text before.written after.written code texts.policy_read texts.answers.0 texts.answers.1 e (whole _ _ _ _ writes (λ five. (no_stop (answer.Checked c)).1 (sym e ∙ five)))
   ]
   simulates_truly Is comes policy trace before after code (answer.Explained told) is writes = absurd is
+  simulates_truly Is comes policy trace before after code (answer.Bounded told) is writes = absurd is
   simulates_truly Is comes policy trace before after code (answer.Proved certs) is writes = absurd is
   simulates_truly Is comes policy trace before after code (answer.Verified v) is writes = absurd is
   simulates_truly Is comes policy trace before after code (answer.Played outcome) is writes = absurd is

@@ -287,6 +287,7 @@ module _ (Ends Stops : Meaning → Plan → List Entry → Type 0) (Must : Told 
       | inl e ↦ unaccepted policy trace c texts.text before.written after.written code texts.policy_read texts.answers.0 texts.answers.1 e (whole _ _ _ _ writes (λ five. (no_stop (answer.Checked c)).1 (sym e ∙ five)))
     ]
     traces_truly policy trace before after code (answer.Explained told) is writes = absurd is
+    traces_truly policy trace before after code (answer.Bounded told) is writes = absurd is
     traces_truly policy trace before after code (answer.Proved certs) is writes = absurd is
     traces_truly policy trace before after code (answer.Verified v) is writes = absurd is
     traces_truly policy trace before after code (answer.Simulated outcome) is writes = absurd is

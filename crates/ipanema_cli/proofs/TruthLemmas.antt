@@ -2,7 +2,7 @@
 use Rattle.std.proofs.Common.{◌≡◌, ◌≢◌, ℕ, List, Option, Result, Ok, Err, IfErr, IfOk, Some, None, arith, refl}
 use Rattle.sched_io.specs.Shown.{Shown}
 use Rattle.sched_io.specs.Told.{Told}
-use Rattle.command_words.specs.Command.{Asked, bench, check, explain, make, migrate, play, prove, replay, report, run, simulate, verify, waste}
+use Rattle.command_words.specs.Command.{Asked, bench, bound, check, explain, make, migrate, play, prove, replay, report, run, simulate, verify, waste}
 use Rattle.ipanema_cli.specs.Answers.{IsGatedAnswer}
 use Rattle.ipanema_cli.specs.Ends.{Concludes, Writes}
 use Rattle.ipanema_cli.specs.Stops.{IsStop, IsUnread}
@@ -14,6 +14,7 @@ use Rattle.ipanema_cli.specs.declared.answers.Answer.TheVariants as answer
 use Rattle.ipanema_cli.specs.declared.stop.Stop.{Stop}
 use Rattle.ipanema_cli.specs.declared.stop.Stop.TheVariants as stop
 use Rattle.ipanema_cli.proofs.BenchTruths.{benches, stopped_bench}
+use Rattle.ipanema_cli.proofs.BoundTruths.{bounds, stopped_bound}
 use Rattle.ipanema_cli.proofs.CheckTruths.{Stopped, at_4, at_6, checks, stopped_check}
 use Rattle.ipanema_cli.proofs.ExplainTruths.{explains, stopped_explain}
 use Rattle.ipanema_cli.proofs.GatedAnswers.{gated_length}
@@ -32,6 +33,7 @@ passed_by_any Passed None told before after code other is = is
 passed_by_any Passed (Some (check policy)) told before after code other is = is
 passed_by_any Passed (Some (explain policy name)) told before after code other is = is
 passed_by_any Passed (Some (prove policy)) told before after code other is = is
+passed_by_any Passed (Some (bound policy)) told before after code other is = is
 passed_by_any Passed (Some (verify policy certs)) told before after code other is = is
 passed_by_any Passed (Some (play policy trace)) told before after code other is = is
 passed_by_any Passed (Some (run policy trace)) told before after code other is = absurd (other policy trace refl)
@@ -51,6 +53,7 @@ module _ (Passed : ℕ → ℕ → Type 0) where
   stopped (Some (check policy)) told read_fault before after code stop cause = stopped_check (told policy) before after code stop
   stopped (Some (explain policy name)) told read_fault before after code stop cause = stopped_explain (told policy) name before after code stop
   stopped (Some (prove policy)) told read_fault before after code stop cause = stopped_prove (told policy) before after code stop
+  stopped (Some (bound policy)) told read_fault before after code stop cause = stopped_bound (told policy) before after code stop
   stopped (Some (verify policy certs)) told read_fault before after code stop cause = stopped_verify (told policy) (told certs) before after code stop
   stopped (Some (play policy trace)) told read_fault before after code stop cause = stopped_play (told policy) (told trace) before after code stop
   stopped (Some (run policy trace)) told read_fault before after code stop cause = stopped_run Passed (told policy) (told trace) before after code stop
@@ -69,6 +72,7 @@ module _ (Passed : ℕ → ℕ → Type 0) where
   answers (Some (check policy)) told before after code a is writes = checks (told policy) before after code a is writes
   answers (Some (explain policy name)) told before after code a is writes = explains (told policy) name before after code a is writes
   answers (Some (prove policy)) told before after code a is writes = proves (told policy) before after code a is writes
+  answers (Some (bound policy)) told before after code a is writes = bounds (told policy) before after code a is writes
   answers (Some (verify policy certs)) told before after code a is writes = verifies (told policy) (told certs) before after code a is writes
   answers (Some (play policy trace)) told before after code a is writes = plays_truly (told policy) (told trace) before after code a is writes
   answers (Some (run policy trace)) told before after code a is writes = runs_truly Passed (told policy) (told trace) before after code a is writes

@@ -216,6 +216,7 @@ pub verifies : (policy certs : Told) (before after : Shown) (code : ℕ) (a : An
     → Writes a before after code → VerifiesTruly policy certs before.written after.written code
 verifies policy certs before after code (answer.Checked c) is writes = absurd is
 verifies policy certs before after code (answer.Explained told) is writes = absurd is
+verifies policy certs before after code (answer.Bounded told) is writes = absurd is
 verifies policy certs before after code (answer.Proved text) is writes = absurd is
 verifies policy certs before after code (answer.Verified v) is writes = elim (code_among _ _ _ _ writes) [
   | inr e ↦ stopped_verify policy certs before.written after.written code (at_5 e)

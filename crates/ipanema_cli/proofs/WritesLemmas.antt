@@ -9,6 +9,8 @@ use Rattle.policy_checker.specs.declared.answer.Outcome.TheVariants as outcome
 use Rattle.policy_checker.specs.declared.verdict.Verdict.TheVariants as verdict
 use Rattle.policy_check.specs.declared.answer.CheckAnswer.{CheckAnswer}
 use Rattle.policy_check.specs.declared.answer.CheckAnswer.TheVariants as checked
+use Rattle.policy_check.specs.declared.bounding.BoundAnswer.{BoundAnswer}
+use Rattle.policy_check.specs.declared.bounding.BoundAnswer.TheVariants as bounded
 use Rattle.policy_check.specs.declared.explaining.ExplainAnswer.{ExplainAnswer}
 use Rattle.policy_check.specs.declared.explaining.ExplainAnswer.TheVariants as explained
 use Rattle.policy_check.specs.declared.reading.Refusal.{Refusal}
@@ -29,7 +31,7 @@ use Rattle.history_replay.specs.declared.answer.HistoryAnswer.TheVariants as jud
 use Rattle.history_replay.specs.declared.refusal.HistoryRefusal.TheVariants as no_history
 use Rattle.command_words.specs.Command.{Asked}
 use Rattle.ipanema_cli.specs.Ends.{Ends, Writes, answered, written, cut_off}
-use Rattle.ipanema_cli.specs.Status.{check_status, code_of, explain_status, history_status, outcome_status, refusal_status, played_status, simulation_status, verify_status}
+use Rattle.ipanema_cli.specs.Status.{bound_status, check_status, code_of, explain_status, history_status, outcome_status, refusal_status, played_status, simulation_status, verify_status}
 use Rattle.ipanema_cli.specs.declared.answers.Answer.{Answer}
 use Rattle.ipanema_cli.specs.declared.answers.Answer.TheVariants as answer
 
@@ -64,6 +66,10 @@ explain_code : (e : ExplainAnswer) → AnswerCode (code_of (explain_status e))
 explain_code (explained.Explained told) = outcome_code told.outcome
 explain_code (explained.Unjudged why) = refusal_code why
 
+bound_code : (b : BoundAnswer) → AnswerCode (code_of (bound_status b))
+bound_code (bounded.Bounded told) = outcome_code told.outcome
+bound_code (bounded.Unbounded c) = check_code c
+
 verify_code : (v : VerifyAnswer) → AnswerCode (code_of (verify_status v))
 verify_code (verify.Verified verified) = is_0 refl
 verify_code (verify.BadLine line) = is_2 refl
@@ -97,6 +103,7 @@ history_code (judged.Refused (no_history.Short count)) = is_9 refl
 pub answer_code : (a : Answer) → AnswerCode (code_of (status_of a))
 answer_code (answer.Checked c) = check_code c
 answer_code (answer.Explained e) = explain_code e
+answer_code (answer.Bounded b) = bound_code b
 answer_code (answer.Proved certs) = is_0 refl
 answer_code (answer.Verified v) = verify_code v
 answer_code (answer.Played p) = play_code p

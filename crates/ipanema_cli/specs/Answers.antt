@@ -12,6 +12,7 @@ use Rattle.policy_checker.specs.Verdicts.{IsVerdict, policy_of}
 use Rattle.policy_checker.specs.declared.verdict.Verdict.TheVariants as verdict
 use Rattle.policy_check.specs.declared.answer.CheckAnswer.{CheckAnswer}
 use Rattle.policy_check.specs.declared.answer.CheckAnswer.TheVariants as checked
+use Rattle.policy_check.specs.Bounds.{IsBoundOf, bound_lines}
 use Rattle.policy_check.specs.Checks.{IsCheckOf, IsExplainOf}
 use Rattle.policy_check.specs.Lines.{check_lines, explain_lines}
 use Rattle.policy_check.specs.TextLines.{lines_in}
@@ -35,10 +36,11 @@ use Rattle.history_replay.specs.Lines as histories
 use Rattle.fair_policy.specs.Fair.{fair_meaning}
 use Rattle.bench_play.specs.Bench.{IsBench}
 use Rattle.bench_play.specs.Lines.{bench_lines}
-use Rattle.command_words.specs.Command.{Asked, bench, check, explain, make, migrate, play, prove, replay, report, run}
-use Rattle.command_words.specs.Command.{simulate, verify, waste}
+use Rattle.command_words.specs.Command.{Asked, bench, bound, check, explain, make, migrate, play, prove, replay}
+use Rattle.command_words.specs.Command.{report, run, simulate, verify, waste}
 use Rattle.ipanema_cli.specs.Simulations.{AnswersSimulation}
-use Rattle.ipanema_cli.specs.Status.{check_status, explain_status, history_status, simulation_status, verify_status}
+use Rattle.ipanema_cli.specs.Status.{bound_status, check_status, explain_status, history_status, simulation_status}
+use Rattle.ipanema_cli.specs.Status.{verify_status}
 use Rattle.ipanema_cli.specs.Texts.{MayBeLong, MayRead, too_long_line}
 use Rattle.ipanema_cli.specs.declared.answers.Answer.{Answer}
 use Rattle.ipanema_cli.specs.declared.answers.Answer.TheVariants as answer
@@ -53,6 +55,7 @@ use Rattle.ipanema_cli.specs.declared.texts.TextKind.TheVariants as kind
 abbrev pub lines_of : Answer → List (List ℕ)
 lines_of (answer.Checked c) = check_lines c
 lines_of (answer.Explained e) = explain_lines e
+lines_of (answer.Bounded b) = bound_lines b
 lines_of (answer.Proved certs) = lines_in certs.items
 lines_of (answer.Verified v) = verify_line v ∷ []
 lines_of (answer.Played outcome) = plays.lines_of outcome
@@ -77,6 +80,7 @@ play_status (play_answer.Played (cores.Full closed)) = status.HistoryFull
 abbrev pub status_of : Answer → Status
 status_of (answer.Checked c) = check_status c
 status_of (answer.Explained e) = explain_status e
+status_of (answer.Bounded b) = bound_status b
 status_of (answer.Proved certs) = status.Done
 status_of (answer.Verified v) = verify_status v
 status_of (answer.Played outcome) = play_status outcome
@@ -91,6 +95,7 @@ status_of answer.BadWords = status.BadWords
 abbrev pub CanBePut : Answer → Type 0
 CanBePut (answer.Checked c) = Unit {0}
 CanBePut (answer.Explained e) = Unit {0}
+CanBePut (answer.Bounded b) = Unit {0}
 CanBePut (answer.Proved certs) = Unit {0}
 CanBePut (answer.Verified v) = Unit {0}
 CanBePut (answer.Played outcome) = plays.IsShown outcome
@@ -118,6 +123,7 @@ accepts (checked.Unjudged why) = false
 abbrev pub AnswersWords : Answer → Type 0
 AnswersWords (answer.Checked c) = ⊥
 AnswersWords (answer.Explained e) = ⊥
+AnswersWords (answer.Bounded b) = ⊥
 AnswersWords (answer.Proved certs) = ⊥
 AnswersWords (answer.Verified v) = ⊥
 AnswersWords (answer.Played outcome) = ⊥
@@ -133,6 +139,7 @@ abbrev pub AnswersCheck : Told → Answer → Type 0
 AnswersCheck policy (answer.Checked c) = (text : List ℕ) × MayRead kind.Policy policy text
     × IsCheckOf text c
 AnswersCheck policy (answer.Explained e) = ⊥
+AnswersCheck policy (answer.Bounded b) = ⊥
 AnswersCheck policy (answer.Proved certs) = ⊥
 AnswersCheck policy (answer.Verified v) = ⊥
 AnswersCheck policy (answer.Played outcome) = ⊥
@@ -151,6 +158,7 @@ abbrev pub AnswersExplain : Told → ObName → Answer → Type 0
 AnswersExplain policy name (answer.Checked c) = ⊥
 AnswersExplain policy name (answer.Explained e) = (text : List ℕ) × MayRead kind.Policy policy text
     × IsExplainOf text name e
+AnswersExplain policy name (answer.Bounded b) = ⊥
 AnswersExplain policy name (answer.Proved certs) = ⊥
 AnswersExplain policy name (answer.Verified v) = ⊥
 AnswersExplain policy name (answer.Played outcome) = ⊥
@@ -164,10 +172,29 @@ AnswersExplain policy name (answer.TooLong kind.History) = ⊥
 AnswersExplain policy name (answer.TooLong kind.Certificates) = ⊥
 AnswersExplain policy name answer.BadWords = ⊥
 
+-- the answer of `bound` to a file of which this is told
+abbrev pub AnswersBound : Told → Answer → Type 0
+AnswersBound policy (answer.Checked c) = ⊥
+AnswersBound policy (answer.Explained e) = ⊥
+AnswersBound policy (answer.Bounded b) = (text : List ℕ) × MayRead kind.Policy policy text × IsBoundOf text b
+AnswersBound policy (answer.Proved certs) = ⊥
+AnswersBound policy (answer.Verified v) = ⊥
+AnswersBound policy (answer.Played outcome) = ⊥
+AnswersBound policy (answer.Simulated outcome) = ⊥
+AnswersBound policy (answer.Judged outcome) = ⊥
+AnswersBound policy (answer.Made text) = ⊥
+AnswersBound policy (answer.Benched told) = ⊥
+AnswersBound policy (answer.TooLong kind.Policy) = MayBeLong kind.Policy policy
+AnswersBound policy (answer.TooLong kind.Trace) = ⊥
+AnswersBound policy (answer.TooLong kind.History) = ⊥
+AnswersBound policy (answer.TooLong kind.Certificates) = ⊥
+AnswersBound policy answer.BadWords = ⊥
+
 -- the answer of `prove` to a policy's text: where the policy isn't accepted, that of `check`
 abbrev pub IsProvingOfText : List ℕ → Answer → Type 0
 IsProvingOfText policy (answer.Checked c) = IsCheckOf policy c × IsFalse (accepts c)
 IsProvingOfText policy (answer.Explained e) = ⊥
+IsProvingOfText policy (answer.Bounded b) = ⊥
 IsProvingOfText policy (answer.Proved certs) = (p : Meaning) × IsAccepted policy p × Proves p certs.items
 IsProvingOfText policy (answer.Verified v) = ⊥
 IsProvingOfText policy (answer.Played outcome) = ⊥
@@ -188,6 +215,7 @@ pub record ProvesText (policy : Told) (a : Answer) : Type 0 where
 abbrev pub AnswersProve : Told → Answer → Type 0
 AnswersProve policy (answer.Checked c) = ProvesText policy (answer.Checked c)
 AnswersProve policy (answer.Explained e) = ⊥
+AnswersProve policy (answer.Bounded b) = ⊥
 AnswersProve policy (answer.Proved certs) = ProvesText policy (answer.Proved certs)
 AnswersProve policy (answer.Verified v) = ⊥
 AnswersProve policy (answer.Played outcome) = ⊥
@@ -213,6 +241,7 @@ pub record VerifiesTexts (policy certs : Told) (v : VerifyAnswer) : Type 0 where
 abbrev pub AnswersVerify : (policy certs : Told) → Answer → Type 0
 AnswersVerify policy certs (answer.Checked c) = ⊥
 AnswersVerify policy certs (answer.Explained e) = ⊥
+AnswersVerify policy certs (answer.Bounded b) = ⊥
 AnswersVerify policy certs (answer.Proved text) = ⊥
 AnswersVerify policy certs (answer.Verified v) = VerifiesTexts policy certs v
 AnswersVerify policy certs (answer.Played outcome) = ⊥
@@ -236,6 +265,7 @@ module _ (Is : Playing) where
   abbrev pub IsPlayOfTexts : (policy trace : List ℕ) → Answer → Type 0
   IsPlayOfTexts policy trace (answer.Checked c) = IsCheckOf policy c × IsFalse (accepts c)
   IsPlayOfTexts policy trace (answer.Explained e) = ⊥
+  IsPlayOfTexts policy trace (answer.Bounded b) = ⊥
   IsPlayOfTexts policy trace (answer.Proved certs) = ⊥
   IsPlayOfTexts policy trace (answer.Verified v) = ⊥
   IsPlayOfTexts policy trace (answer.Played outcome) = (p : Meaning) × IsAccepted policy p × Is p trace outcome
@@ -258,6 +288,7 @@ module _ (Is : Playing) where
   abbrev pub AnswersPlay : (policy trace : Told) → Answer → Type 0
   AnswersPlay policy trace (answer.Checked c) = PlaysTexts policy trace (answer.Checked c)
   AnswersPlay policy trace (answer.Explained e) = ⊥
+  AnswersPlay policy trace (answer.Bounded b) = ⊥
   AnswersPlay policy trace (answer.Proved certs) = ⊥
   AnswersPlay policy trace (answer.Verified v) = ⊥
   AnswersPlay policy trace (answer.Played outcome) = PlaysTexts policy trace (answer.Played outcome)
@@ -296,6 +327,7 @@ module _ (Is : Judging) where
   abbrev pub IsJudgingOfTexts : (policy trace history : List ℕ) → Answer → Type 0
   IsJudgingOfTexts policy trace history (answer.Checked c) = IsCheckOf policy c × IsFalse (accepts c)
   IsJudgingOfTexts policy trace history (answer.Explained e) = ⊥
+  IsJudgingOfTexts policy trace history (answer.Bounded b) = ⊥
   IsJudgingOfTexts policy trace history (answer.Proved certs) = ⊥
   IsJudgingOfTexts policy trace history (answer.Verified v) = ⊥
   IsJudgingOfTexts policy trace history (answer.Played outcome) = ⊥
@@ -321,6 +353,7 @@ module _ (Is : Judging) where
   abbrev pub AnswersJudging : (policy trace history : Told) → Answer → Type 0
   AnswersJudging policy trace history (answer.Checked c) = JudgesTexts policy trace history (answer.Checked c)
   AnswersJudging policy trace history (answer.Explained e) = ⊥
+  AnswersJudging policy trace history (answer.Bounded b) = ⊥
   AnswersJudging policy trace history (answer.Proved certs) = ⊥
   AnswersJudging policy trace history (answer.Verified v) = ⊥
   AnswersJudging policy trace history (answer.Played outcome) = ⊥
@@ -335,6 +368,7 @@ module _ (Is : Judging) where
 abbrev pub AnswersMake : (seed size : ℕ) → Answer → Type 0
 AnswersMake seed size (answer.Checked c) = ⊥
 AnswersMake seed size (answer.Explained e) = ⊥
+AnswersMake seed size (answer.Bounded b) = ⊥
 AnswersMake seed size (answer.Proved certs) = ⊥
 AnswersMake seed size (answer.Verified v) = ⊥
 AnswersMake seed size (answer.Played outcome) = ⊥
@@ -356,6 +390,7 @@ IsFairVerdict (checked.Unjudged why) = ⊥
 abbrev pub AnswersBench : (seed size : ℕ) → Answer → Type 0
 AnswersBench seed size (answer.Checked c) = IsFairVerdict c
 AnswersBench seed size (answer.Explained e) = ⊥
+AnswersBench seed size (answer.Bounded b) = ⊥
 AnswersBench seed size (answer.Proved certs) = ⊥
 AnswersBench seed size (answer.Verified v) = ⊥
 AnswersBench seed size (answer.Played outcome) = ⊥
@@ -372,6 +407,7 @@ IsAnswer None told a = AnswersWords a
 IsAnswer (Some (check policy)) told a = AnswersCheck (told policy) a
 IsAnswer (Some (explain policy name)) told a = AnswersExplain (told policy) name a
 IsAnswer (Some (prove policy)) told a = AnswersProve (told policy) a
+IsAnswer (Some (bound policy)) told a = AnswersBound (told policy) a
 IsAnswer (Some (verify policy certs)) told a = AnswersVerify (told policy) (told certs) a
 IsAnswer (Some (play policy trace)) told a = AnswersPlay plays.IsPlayOf (told policy) (told trace) a
 IsAnswer (Some (run policy trace)) told a = AnswersPlay IsRunOf (told policy) (told trace) a

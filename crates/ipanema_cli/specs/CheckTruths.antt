@@ -5,6 +5,7 @@ use Rattle.sched_io.specs.Told.{Told, holds}
 use Rattle.sched_io.specs.Written.{Adds}
 use Rattle.sched_base.specs.declared.limits.TheConstants.{CHECK_BUDGET}
 use Rattle.policy_eval.specs.Obligations.{MeetsObligations}
+use Rattle.policy_eval.specs.Ranges.{greatest_weight, least_weight}
 use Rattle.policy_tree.specs.Meaning.{Meaning, meaning_of}
 use Rattle.policy_reader.specs.declared.fault.TextFault.{TextFault}
 use Rattle.policy_reader.specs.Faults.{HasFault}
@@ -23,6 +24,11 @@ use Rattle.policy_checker.specs.declared.answer.Answered.{Answered}
 use Rattle.policy_checker.specs.declared.verdict.Verdict.{Verdict}
 use Rattle.policy_checker.specs.declared.verdict.Verdict.TheVariants as verdict
 use Rattle.policy_check.specs.Lines.{verdict_lines}
+use Rattle.round_model.specs.declared.entry.Entry.{Entry}
+use Rattle.round_model.specs.declared.plan.Plan.{Plan}
+use Rattle.round_model.specs.Fits.{Fits}
+use Rattle.round_model.specs.Legal.{Legal}
+use Rattle.round_laws.specs.IdleBound.{PaysByIdleCores}
 use Rattle.round_laws.specs.MainTheorem.{WastesNoCore}
 use Rattle.ipanema_cli.specs.Causes.{OneOf}
 use Rattle.ipanema_cli.specs.Status.{code_of, verdict_status}
@@ -82,6 +88,12 @@ pub record TellsFault (policy : Told) (before after : Option (List ℕ)) : Type 
   pub has : HasFault text fault
   pub written : Adds (fault_line fault) before after
 
+-- In every legal history of every plan that fits the policy, wasted rounds are paid for by the idle cores that they
+-- fill.
+abbrev pub PaysForWaste : Meaning → Type 0
+PaysForWaste p = (plan : Plan) (history : List Entry) → Fits p plan → Legal p plan history →
+    PaysByIdleCores p plan history
+
 -- What a policy has that is accepted.
 pub record AcceptedPolicy (policy : Told) (p : Meaning) : Type 0 where
   pub spelled : MaySpell policy p
@@ -92,6 +104,8 @@ pub record AcceptedPolicy (policy : Told) (p : Meaning) : Type 0 where
   -- and so, in every legal history of every plan that fits it, each thread stands in one place, each failed steal is
   -- explained, and still rounds conserve work
   pub wastes_no_core : WastesNoCore p
+  -- and where all threads weigh the same, wasted rounds fill idle cores
+  pub pays : least_weight p.load ≡ greatest_weight p.load → PaysForWaste p
 
 -- When each status of `check` must come, if the outside lets it be.
 pub record Decides (policy : Told) (code : ℕ) : Type 0 where

@@ -1,5 +1,6 @@
 pub mod Answers
 pub mod BenchTruths
+pub mod BoundTruths
 pub mod Causes
 pub mod CheckTruths
 pub mod Ends

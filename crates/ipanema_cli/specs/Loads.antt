@@ -2,8 +2,8 @@
 use Rattle.std.specs.Prelude.{◌≡◌, ℕ, ◌<◌, List, [], ◌∷◌, Option, Some, None, take}
 use Rattle.sched_io.specs.Loads.{AreRequested, LoadRequest, load_request}
 use Rattle.sched_io.specs.Told.{Told}
-use Rattle.command_words.specs.Command.{Asked, bench, check, explain, make, migrate, play, prove, replay, report, run}
-use Rattle.command_words.specs.Command.{simulate, verify, waste}
+use Rattle.command_words.specs.Command.{Asked, bench, bound, check, explain, make, migrate, play, prove, replay}
+use Rattle.command_words.specs.Command.{report, run, simulate, verify, waste}
 use Rattle.ipanema_cli.specs.Texts.{MayRead, room_of}
 use Rattle.ipanema_cli.specs.declared.texts.TextKind.{TextKind}
 use Rattle.ipanema_cli.specs.declared.texts.TextKind.TheVariants as kind
@@ -30,6 +30,10 @@ IsFileOf (Some (prove policy)) kind.Policy name = name ≡ policy
 IsFileOf (Some (prove policy)) kind.Trace name = ⊥
 IsFileOf (Some (prove policy)) kind.History name = ⊥
 IsFileOf (Some (prove policy)) kind.Certificates name = ⊥
+IsFileOf (Some (bound policy)) kind.Policy name = name ≡ policy
+IsFileOf (Some (bound policy)) kind.Trace name = ⊥
+IsFileOf (Some (bound policy)) kind.History name = ⊥
+IsFileOf (Some (bound policy)) kind.Certificates name = ⊥
 IsFileOf (Some (verify policy certs)) kind.Policy name = name ≡ policy
 IsFileOf (Some (verify policy certs)) kind.Trace name = ⊥
 IsFileOf (Some (verify policy certs)) kind.History name = ⊥
@@ -76,6 +80,7 @@ files_of None = []
 files_of (Some (check policy)) = load_request policy (room_of kind.Policy) ∷ []
 files_of (Some (explain policy name)) = load_request policy (room_of kind.Policy) ∷ []
 files_of (Some (prove policy)) = load_request policy (room_of kind.Policy) ∷ []
+files_of (Some (bound policy)) = load_request policy (room_of kind.Policy) ∷ []
 files_of (Some (verify policy certs)) = certified_files policy certs
 files_of (Some (play policy trace)) = two_files policy trace
 files_of (Some (run policy trace)) = two_files policy trace
@@ -118,6 +123,7 @@ MayGoOn None told count = Unit {0}
 MayGoOn (Some (check policy)) told count = Unit {0}
 MayGoOn (Some (explain policy name)) told count = Unit {0}
 MayGoOn (Some (prove policy)) told count = Unit {0}
+MayGoOn (Some (bound policy)) told count = Unit {0}
 MayGoOn (Some (verify policy certs)) told count = GoesOnOfTwo (told policy) count
 MayGoOn (Some (replay policy trace history)) told count =
     GoesOnOfThree (told policy) (told trace) (told history) count

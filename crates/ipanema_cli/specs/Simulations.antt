@@ -53,6 +53,7 @@ module _ (Is : Simulating) where
   abbrev pub IsSimulationOfTexts : (policy trace : List ℕ) → Answer → Type 0
   IsSimulationOfTexts policy trace (answer.Checked c) = IsCheckOf policy c × IsFalse (lets_play c)
   IsSimulationOfTexts policy trace (answer.Explained e) = ⊥
+  IsSimulationOfTexts policy trace (answer.Bounded b) = ⊥
   IsSimulationOfTexts policy trace (answer.Proved certs) = ⊥
   IsSimulationOfTexts policy trace (answer.Verified v) = ⊥
   IsSimulationOfTexts policy trace (answer.Played outcome) = ⊥
@@ -75,6 +76,7 @@ module _ (Is : Simulating) where
   abbrev pub AnswersSimulation : (policy trace : Told) → Answer → Type 0
   AnswersSimulation policy trace (answer.Checked c) = SimulatesTexts policy trace (answer.Checked c)
   AnswersSimulation policy trace (answer.Explained e) = ⊥
+  AnswersSimulation policy trace (answer.Bounded b) = ⊥
   AnswersSimulation policy trace (answer.Proved certs) = ⊥
   AnswersSimulation policy trace (answer.Verified v) = ⊥
   AnswersSimulation policy trace (answer.Played outcome) = ⊥

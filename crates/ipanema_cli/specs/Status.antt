@@ -6,6 +6,8 @@ use Rattle.policy_checker.specs.declared.verdict.Verdict.{Verdict}
 use Rattle.policy_checker.specs.declared.verdict.Verdict.TheVariants as verdict
 use Rattle.policy_check.specs.declared.answer.CheckAnswer.{CheckAnswer}
 use Rattle.policy_check.specs.declared.answer.CheckAnswer.TheVariants as check
+use Rattle.policy_check.specs.declared.bounding.BoundAnswer.{BoundAnswer}
+use Rattle.policy_check.specs.declared.bounding.BoundAnswer.TheVariants as bound
 use Rattle.policy_check.specs.declared.explaining.ExplainAnswer.{ExplainAnswer}
 use Rattle.policy_check.specs.declared.explaining.ExplainAnswer.TheVariants as explain
 use Rattle.policy_check.specs.declared.reading.Refusal.{Refusal}
@@ -64,6 +66,11 @@ check_status (check.Unjudged why) = refusal_status why
 abbrev pub explain_status : ExplainAnswer → Status
 explain_status (explain.Explained told) = outcome_status told.outcome
 explain_status (explain.Unjudged why) = refusal_status why
+
+-- the status of an answer of `bound`
+abbrev pub bound_status : BoundAnswer → Status
+bound_status (bound.Bounded told) = outcome_status told.outcome
+bound_status (bound.Unbounded checked) = check_status checked
 
 -- the status of an answer of `verify`
 abbrev pub verify_status : VerifyAnswer → Status

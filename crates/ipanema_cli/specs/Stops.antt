@@ -2,8 +2,8 @@
 use Rattle.std.specs.Prelude.{◌≡◌, ◌⊎◌, ℕ, List, Option, Some, None}
 use Rattle.sched_io.specs.Told.{Told, missing}
 use Rattle.ipanema_cli.specs.Answers.{IsAnswer, IsTooLongOfThree}
-use Rattle.command_words.specs.Command.{Asked, bench, check, explain, make, migrate, play, prove, replay, report, run}
-use Rattle.command_words.specs.Command.{simulate, verify, waste}
+use Rattle.command_words.specs.Command.{Asked, bench, bound, check, explain, make, migrate, play, prove, replay}
+use Rattle.command_words.specs.Command.{report, run, simulate, verify, waste}
 use Rattle.ipanema_cli.specs.Simulations.{IsTooLongOfTwo}
 use Rattle.ipanema_cli.specs.Texts.{MayBeLong, MayRead}
 use Rattle.ipanema_cli.specs.declared.answers.Answer.TheVariants as answer
@@ -38,6 +38,7 @@ IsUnread None told fault = ⊥
 IsUnread (Some (check policy)) told fault = fault ⊎ (told policy ≡ missing)
 IsUnread (Some (explain policy name)) told fault = fault ⊎ (told policy ≡ missing)
 IsUnread (Some (prove policy)) told fault = fault ⊎ (told policy ≡ missing)
+IsUnread (Some (bound policy)) told fault = fault ⊎ (told policy ≡ missing)
 IsUnread (Some (verify policy certs)) told fault = IsUnreadOfTwo (told policy) (told certs) fault
 IsUnread (Some (play policy trace)) told fault = IsUnreadOfTwo (told policy) (told trace) fault
 IsUnread (Some (run policy trace)) told fault = IsUnreadOfTwo (told policy) (told trace) fault

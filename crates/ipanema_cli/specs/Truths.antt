@@ -1,8 +1,9 @@
 -- What each command says is true.
 use Rattle.std.specs.Prelude.{ℕ, List, Option, Some, None}
 use Rattle.sched_io.specs.Told.{Told}
-use Rattle.command_words.specs.Command.{Asked, bench, check, explain, make, migrate, play, prove, replay, report, run}
-use Rattle.command_words.specs.Command.{simulate, verify, waste}
+use Rattle.command_words.specs.Command.{Asked, bench, bound, check, explain, make, migrate, play, prove, replay}
+use Rattle.command_words.specs.Command.{report, run, simulate, verify, waste}
+use Rattle.ipanema_cli.specs.BoundTruths.{BoundsTruly}
 use Rattle.ipanema_cli.specs.CheckTruths.{ChecksTruly}
 use Rattle.ipanema_cli.specs.ExplainTruths.{ExplainsTruly}
 use Rattle.ipanema_cli.specs.ProveTruths.{ProvesTruly}
@@ -25,6 +26,7 @@ IsTruthful Passed (Some (check policy)) told before after code = ChecksTruly (to
 IsTruthful Passed (Some (explain policy name)) told before after code =
     ExplainsTruly (told policy) name before after code
 IsTruthful Passed (Some (prove policy)) told before after code = ProvesTruly (told policy) before after code
+IsTruthful Passed (Some (bound policy)) told before after code = BoundsTruly (told policy) before after code
 IsTruthful Passed (Some (verify policy certs)) told before after code =
     VerifiesTruly (told policy) (told certs) before after code
 IsTruthful Passed (Some (play policy trace)) told before after code =

@@ -14,8 +14,10 @@ ghost use Rattle.history_replay.specs.Lines.{IsShown as IsShownHistory};
 ghost use Rattle.trace_simulation.specs.Simulations.{IsShown};
 ghost use Rattle.ipanema_cli.specs.declared.stop.Stop.TheVariants as stop;
 
+use crate::accepted::accepted_in;
 use crate::status::{
-    Status, check_status, explain_status, history_status, simulation_status, verify_status,
+    Status, bound_status, check_status, explain_status, history_status, simulation_status,
+    verify_status,
 };
 use crate::stop::Stop;
 use crate::texts::{TextKind, Texts};
@@ -23,7 +25,7 @@ use bench_play::{BenchTotals, play_bench, print_bench};
 use cert_file::write_certs;
 use fair_policy::fair_policy;
 use history_replay::{HistoryAnswer, migrate_texts, replay_texts, report_texts};
-use policy_check::{CheckAnswer, ExplainAnswer, VerifyAnswer, check_text, put_text};
+use policy_check::{BoundAnswer, CheckAnswer, ExplainAnswer, VerifyAnswer, check_text, put_text};
 use policy_checker::{AcceptedPolicy, CheckFault, PlayablePolicy, Verdict, check_policy, playable};
 use sched_base::CHECK_BUDGET;
 use sched_io::{Gate, PutFault, Sink, put_all};
@@ -43,6 +45,8 @@ pub enum Answer {
     Checked(CheckAnswer),
     /// What `explain` answers of an obligation of the policy.
     Explained(ExplainAnswer),
+    /// What `bound` answers of the bad rounds under the policy.
+    Bounded(BoundAnswer),
     /// The text of the certificates of a policy that is accepted.
     Proved(Vec<u8>),
     /// What `verify` answers to a policy and certificates.
@@ -90,11 +94,9 @@ pub fn prove_text(alloc: Global, policy: &[u8]) -> Result<Answer, Stop>
     ensures shown { IfOk result CanBePut }
     ensures memory { IfErr result (λ why. why ≡ stop.Memory) }
 {
-    match check_text(alloc, policy)? {
-        CheckAnswer::Judged(Verdict::Accepted(accepted)) => {
-            Ok(Answer::Proved(write_certs(alloc, &accepted)?))
-        }
-        refusal => Ok(Answer::Checked(refusal)),
+    match accepted_in(check_text(alloc, policy)?) {
+        Ok(accepted) => Ok(Answer::Proved(write_certs(alloc, &accepted)?)),
+        Err(refusal) => Ok(Answer::Checked(refusal)),
     }
 }
 
@@ -106,11 +108,9 @@ pub fn play_texts(alloc: Global, policy: &[u8], trace: &[u8]) -> Result<Answer, 
     ensures shown { IfOk result CanBePut }
     ensures memory { IfErr result (λ why. why ≡ stop.Memory) }
 {
-    match check_text(alloc, policy)? {
-        CheckAnswer::Judged(Verdict::Accepted(accepted)) => {
-            Ok(Answer::Played(play_text(alloc, &accepted, trace)?))
-        }
-        refusal => Ok(Answer::Checked(refusal)),
+    match accepted_in(check_text(alloc, policy)?) {
+        Ok(accepted) => Ok(Answer::Played(play_text(alloc, &accepted, trace)?)),
+        Err(refusal) => Ok(Answer::Checked(refusal)),
     }
 }
 
@@ -129,11 +129,9 @@ pub fn run_texts<R: Threads + Wait + Sync, G: Gate + Sync>(
     ensures shown { IfOk result CanBePut }
     ensures memory { IfErr result (λ why. why ≡ stop.Memory) }
 {
-    match check_text(alloc, policy)? {
-        CheckAnswer::Judged(Verdict::Accepted(accepted)) => {
-            Ok(Answer::Played(run_text(rt, alloc, &accepted, trace, gate)?))
-        }
-        refusal => Ok(Answer::Checked(refusal)),
+    match accepted_in(check_text(alloc, policy)?) {
+        Ok(accepted) => Ok(Answer::Played(run_text(rt, alloc, &accepted, trace, gate)?)),
+        Err(refusal) => Ok(Answer::Checked(refusal)),
     }
 }
 
@@ -186,11 +184,9 @@ pub fn judge(alloc: Global, command: HistoryCommand, texts: &Texts) -> Result<An
     ensures shown { IfOk result CanBePut }
     ensures memory { IfErr result (λ why. why ≡ stop.Memory) }
 {
-    match check_text(alloc, texts.policy.as_slice())? {
-        CheckAnswer::Judged(Verdict::Accepted(kept)) => {
-            Ok(Answer::Judged(judged_under(alloc, &kept, command, texts)?))
-        }
-        refusal => Ok(Answer::Checked(refusal)),
+    match accepted_in(check_text(alloc, texts.policy.as_slice())?) {
+        Ok(kept) => Ok(Answer::Judged(judged_under(alloc, &kept, command, texts)?)),
+        Err(refusal) => Ok(Answer::Checked(refusal)),
     }
 }
 
@@ -257,6 +253,7 @@ impl Answer {
         match self {
             Answer::Checked(answer) => check_status(answer),
             Answer::Explained(answer) => explain_status(answer),
+            Answer::Bounded(answer) => bound_status(answer),
             Answer::Proved(_) => Status::Done,
             Answer::Verified(answer) => verify_status(answer),
             Answer::Played(PlayAnswer::Broken(_)) => Status::BadText,
@@ -279,6 +276,7 @@ impl Answer {
         match self {
             Answer::Checked(answer) => answer.put(out),
             Answer::Explained(answer) => answer.put(out),
+            Answer::Bounded(answer) => answer.put(out),
             Answer::Proved(certs) => put_text(out, certs.as_slice()),
             Answer::Verified(answer) => answer.put(out),
             Answer::Played(answer) => answer.put(out),

@@ -3,11 +3,11 @@
 ghost use Rattle.std.specs.Prelude.{◌≡◌, ◌≢◌, ◌⊎◌, ℕ, List, Some, IfErr, IfOk, IsErrOf, IsTrue, OnOk};
 ghost use Rattle.sched_io.specs.Faults.{Rose};
 ghost use Rattle.sched_io.specs.Loads.{AreRequested};
-ghost use Rattle.ipanema_cli.specs.Answers.{AnswersCheck, AnswersExplain, AnswersJudging, AnswersPlay, AnswersProve};
-ghost use Rattle.ipanema_cli.specs.Answers.{AnswersVerify, CanBePut, IsAnswer, judging_of};
+ghost use Rattle.ipanema_cli.specs.Answers.{AnswersBound, AnswersCheck, AnswersExplain, AnswersJudging, AnswersPlay};
+ghost use Rattle.ipanema_cli.specs.Answers.{AnswersProve, AnswersVerify, CanBePut, IsAnswer, judging_of};
 ghost use Rattle.command_words.specs.Asks.{asked};
 ghost use Rattle.command_words.specs.Numbers.{is_size};
-ghost use Rattle.command_words.specs.Command.{bench as asks_bench, check, explain, make as asks_make, play};
+ghost use Rattle.command_words.specs.Command.{bench as asks_bench, bound, check, explain, make as asks_make, play};
 ghost use Rattle.command_words.specs.Command.{prove as asks_prove, run, verify as asks_verify};
 ghost use Rattle.ipanema_cli.specs.Simulations.{AnswersSimulation, simulating_of};
 ghost use Rattle.ipanema_cli.specs.Loads.{FirstAreLoaded, LoadsOfThree, LoadsOfTwo, files_of, three_files, two_files};
@@ -21,9 +21,9 @@ use crate::answers::{
 };
 use crate::stop::Stop;
 use crate::texts::{TextKind, load, load_three};
-use command_words::Request;
+use command_words::{HistoryFiles, Request};
 use obligations::ObName;
-use policy_check::{check_text, explain_text, verify_text};
+use policy_check::{bound_text, check_text, explain_text, verify_text};
 use sched_io::{Files, Gate};
 use std::alloc::Global;
 use std::sync::Wait;
@@ -48,6 +48,7 @@ pub fn answer_of<F: Files>(alloc: Global, request: Request, files: &mut F) -> Re
         Request::Check { policy } => check(alloc, policy, files),
         Request::Explain { policy, name } => explain(alloc, policy, name, files),
         Request::Prove { policy } => prove_policy(alloc, policy, files),
+        Request::Bound { policy } => bound(alloc, policy, files),
         Request::Verify { policy, certs } => verify(alloc, policy, certs, files),
         Request::Play { policy, trace } => play(alloc, policy, trace, files),
         // That takes more than one thread.
@@ -58,28 +59,9 @@ pub fn answer_of<F: Files>(alloc: Global, request: Request, files: &mut F) -> Re
         Request::Waste { policy, trace } => {
             simulate_files(alloc, SimulationCommand::Waste, policy, trace, files)
         }
-        Request::Replay {
-            policy,
-            trace,
-            history,
-        } => judge_files(alloc, HistoryCommand::Replay, policy, trace, history, files),
-        Request::Report {
-            policy,
-            trace,
-            history,
-        } => judge_files(alloc, HistoryCommand::Report, policy, trace, history, files),
-        Request::Migrate {
-            policy,
-            trace,
-            history,
-        } => judge_files(
-            alloc,
-            HistoryCommand::Migrate,
-            policy,
-            trace,
-            history,
-            files,
-        ),
+        Request::Replay(named) => judge_files(alloc, HistoryCommand::Replay, named, files),
+        Request::Report(named) => judge_files(alloc, HistoryCommand::Report, named, files),
+        Request::Migrate(named) => judge_files(alloc, HistoryCommand::Migrate, named, files),
         Request::Make { seed, size } => make(alloc, seed, size),
         Request::Bench { seed, size } => bench(alloc, seed, size),
         Request::Unknown => Ok(Answer::BadWords),
@@ -117,6 +99,20 @@ fn explain<F: Files>(
 {
     let policy_text = load(alloc, files, policy, TextKind::Policy)?;
     Ok(Answer::Explained(explain_text(alloc, policy_text.as_slice(), name)?))
+}
+
+/// The answer of `bound` to the policy in that file.
+fn bound<F: Files>(alloc: Global, policy: &str, files: &mut F) -> Result<Answer, Stop>
+    ensures answer { IfOk result (AnswersBound (F.told files.old policy.now)) }
+    ensures shown { IfOk result CanBePut }
+    ensures stop { IfErr result (IsStop (Some (bound policy.now)) (F.told files.old)
+        (Rose (F.faults files.old) (F.faults files.new))) }
+    ensures loads { AreRequested (files_of (Some (bound policy.now)))
+        (F.requested files.old) (F.requested files.new) }
+    ensures calm { IsErrOf result Stop.Unread ⊎ (F.faults files.new ≡ F.faults files.old) }
+{
+    let policy_text = load(alloc, files, policy, TextKind::Policy)?;
+    Ok(Answer::Bounded(bound_text(alloc, policy_text.as_slice())?))
 }
 
 /// The answer of `prove` to the policy in that file.
@@ -231,26 +227,26 @@ fn simulate_files<F: Files>(
     )
 }
 
-/// The answer of a command that judges the history in the third file, by the policy and the trace in the others.
+/// The answer of a command that judges a history, by the texts in these files.
 fn judge_files<F: Files>(
     alloc: Global,
     command: HistoryCommand,
-    policy: &str,
-    trace: &str,
-    history: &str,
+    named: HistoryFiles<'_>,
     files: &mut F,
 ) -> Result<Answer, Stop>
-    ensures answer { IfOk result (AnswersJudging (judging_of command) (F.told files.old policy.now)
-        (F.told files.old trace.now) (F.told files.old history.now)) }
+    ensures answer { IfOk result (AnswersJudging (judging_of command) (F.told files.old named.entry.policy.now)
+        (F.told files.old named.entry.trace.now) (F.told files.old named.entry.history.now)) }
     ensures shown { IfOk result CanBePut }
-    ensures stop { IfErr result (IsStopOfThree (F.told files.old policy.now) (F.told files.old trace.now)
-        (F.told files.old history.now) (Rose (F.faults files.old) (F.faults files.new))) }
-    ensures loads { LoadsOfThree policy.now trace.now history.now (F.told files.old)
-        (F.requested files.old) (F.requested files.new) }
-    ensures loaded { OnOk result (AreRequested (three_files policy.now trace.now history.now)
+    ensures stop { IfErr result (IsStopOfThree (F.told files.old named.entry.policy.now)
+        (F.told files.old named.entry.trace.now) (F.told files.old named.entry.history.now)
+        (Rose (F.faults files.old) (F.faults files.new))) }
+    ensures loads { LoadsOfThree named.entry.policy.now named.entry.trace.now named.entry.history.now
+        (F.told files.old) (F.requested files.old) (F.requested files.new) }
+    ensures loaded { OnOk result (AreRequested
+        (three_files named.entry.policy.now named.entry.trace.now named.entry.history.now)
         (F.requested files.old) (F.requested files.new)) }
     ensures calm { IsErrOf result Stop.Unread ⊎ (F.faults files.new ≡ F.faults files.old) }
 {
-    let texts = load_three(alloc, files, policy, trace, history)?;
+    let texts = load_three(alloc, files, named.policy, named.trace, named.history)?;
     judge(alloc, command, &texts)
 }

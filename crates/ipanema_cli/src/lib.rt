@@ -1,6 +1,7 @@
 //! What each command of the program answers, over files and a sink that are handed in.
 #![tactic(auto)]
 
+mod accepted;
 mod answers;
 mod commands;
 mod ending;

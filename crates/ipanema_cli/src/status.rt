@@ -1,12 +1,12 @@
 //! How the program ends.
 
 ghost use Rattle.std.specs.Prelude.{◌≡◌};
-ghost use Rattle.ipanema_cli.specs.Status.{check_status, code_of, explain_status, history_refusal_status};
-ghost use Rattle.ipanema_cli.specs.Status.{history_status, outcome_status, played_status, refusal_status};
-ghost use Rattle.ipanema_cli.specs.Status.{simulation_status, verdict_status, verify_status};
+ghost use Rattle.ipanema_cli.specs.Status.{bound_status, check_status, code_of, explain_status};
+ghost use Rattle.ipanema_cli.specs.Status.{history_refusal_status, history_status, outcome_status, played_status};
+ghost use Rattle.ipanema_cli.specs.Status.{refusal_status, simulation_status, verdict_status, verify_status};
 
 use history_replay::{HistoryAnswer, HistoryRefusal};
-use policy_check::{CheckAnswer, ExplainAnswer, Refusal, VerifyAnswer};
+use policy_check::{BoundAnswer, CheckAnswer, ExplainAnswer, Refusal, VerifyAnswer};
 use policy_checker::{Outcome, Verdict};
 use round_model::Played;
 use trace_simulation::{PlayedWaste, SimulationAnswer};
@@ -79,6 +79,16 @@ pub fn explain_status(answer: &ExplainAnswer) -> Status
     match answer {
         ExplainAnswer::Explained(told) => outcome_status(told.outcome),
         ExplainAnswer::Unjudged(refusal) => refusal_status(refusal),
+    }
+}
+
+/// The status of an answer of `bound`.
+pub fn bound_status(answer: &BoundAnswer) -> Status
+    ensures { result ≡ bound_status answer.now }
+{
+    match answer {
+        BoundAnswer::Bounded(told) => outcome_status(told.outcome),
+        BoundAnswer::Unbounded(checked) => check_status(checked),
     }
 }
 

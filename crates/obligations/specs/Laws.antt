@@ -48,7 +48,8 @@ SayTheStatements p all =
 -- Both statements on the last waiting thread hold of the policy exactly where none of their systems has a solution.
 abbrev pub SayTheLast : Meaning → LastWaiting → Type 0
 SayTheLast p last =
-    (FilterLeavesLast p ↔ HaveNoSolution last.filter.systems) × (BatchLeavesLast p p.batch ↔ HaveNoSolution last.batch.systems)
+    (FilterLeavesLast p ↔ HaveNoSolution last.filter.systems)
+    × (BatchLeavesLast p p.batch ↔ HaveNoSolution last.batch.systems)
 
 -- each system of the list is one of differences
 abbrev pub AreOfDifferences : List LinearSystem → Type 0

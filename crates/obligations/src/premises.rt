@@ -5,8 +5,9 @@ ghost use Rattle.policy_tree.specs.declared.trees.Cmp.TheVariants as cmp;
 ghost use Rattle.policy_tree.specs.declared.variables.TheConstants.{OTHER_NR};
 ghost use Rattle.policy_tree.specs.Trees.{both, cond_tree, expr_tree, plus, test, times, variable};
 ghost use Rattle.policy_eval.specs.Ranges.{greatest_weight, least_weight};
-ghost use Rattle.obligations.specs.Refutations.{busier_beside_two, busy_beside_two, cores_fit, gap_is_small, has_thread};
-ghost use Rattle.obligations.specs.Refutations.{idle_and_overloaded, load_fits, victim_has_one, victim_has_thread, whole};
+ghost use Rattle.obligations.specs.Refutations.{busier_beside_two, busy_beside_two, cores_fit, gap_is_small};
+ghost use Rattle.obligations.specs.Refutations.{has_thread, idle_and_overloaded, load_fits, victim_has_one};
+ghost use Rattle.obligations.specs.Refutations.{victim_has_thread, whole};
 
 use policy_tree::variables::{OTHER_LOAD, OTHER_NR, SELF_LOAD, SELF_NR, WEIGHT};
 use policy_tree::{Cmp, Cond, Expr, Load};

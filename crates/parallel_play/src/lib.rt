@@ -15,3 +15,6 @@ mod turns;
 
 pub use crate::fault::RunFault;
 pub use crate::rounds::run_rounds;
+pub use crate::stage::Stage;
+pub use crate::sums::Tally;
+pub use crate::turns::{split_off, take_back};

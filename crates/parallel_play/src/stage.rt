@@ -10,10 +10,10 @@ use round_model::Plan;
 /// The round that is played: at which table, under the policy and the plan of that table, and its number.
 #[derive(Clone, Copy)]
 pub struct Stage<'a> {
-    pub(crate) table: &'a Table,
-    pub(crate) policy: &'a Policy,
-    pub(crate) plan: &'a Plan,
-    pub(crate) round: u32,
+    pub table: &'a Table,
+    pub policy: &'a Policy,
+    pub plan: &'a Plan,
+    pub round: u32,
     ghost under: { policy.now ≡ policy_of table.now },
     ghost of: { plan.now ≡ plan_of table.now },
 }

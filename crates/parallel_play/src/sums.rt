@@ -11,7 +11,7 @@ pub(crate) const IDS: usize = MAX_THREADS as usize + 1;
 #[derive(Clone, Copy)]
 pub struct Tally {
     /// The number of entries, which stops at the greatest number that there is.
-    pub(crate) entries: u32,
+    pub entries: u32,
     /// Of each number, whether that thread has ended.
     pub(crate) ended: [bool; IDS],
     ghost small: { entries < 2 ^ 32 },

@@ -12,7 +12,7 @@ use round_model::Plan;
 
 impl Tally {
     /// Nothing is counted yet.
-    pub(crate) fn new() -> Tally
+    pub fn new() -> Tally
         ensures { IsEmpty result }
     {
         Tally {
@@ -22,7 +22,7 @@ impl Tally {
     }
 
     /// Counts the beginning of a round.
-    pub(crate) fn count_round(&mut self)
+    pub fn count_round(&mut self)
         ensures entries { self.new.entries ≡ min (self.old.entries + 1) u32.MAX }
         ensures ended { self.new.ended ≡ self.old.ended }
     {
@@ -30,7 +30,7 @@ impl Tally {
     }
 
     /// Counts a turn.
-    pub(crate) fn count_turn(&mut self, turned: Turned)
+    pub fn count_turn(&mut self, turned: Turned)
         ensures { CountsTurn turned self.old self.new }
     {
         self.entries = self.entries.saturating_add(turned.entries);
@@ -43,7 +43,7 @@ impl Tally {
     }
 
     /// Whether a next round is due behind so many.
-    pub(crate) fn is_due(&self, plan: &Plan, begun: u32) -> bool
+    pub fn is_due(&self, plan: &Plan, begun: u32) -> bool
         requires { All (λ (t : Planned). t.id ≤ MAX_THREADS) plan.now.threads }
         ensures { result ≡ due_by plan.now begun self.now }
     {

@@ -41,7 +41,7 @@ fn take_turn<R: Wait, G: Gate + Sync>(
 }
 
 /// A seat for the core, and the opening seat without it.
-fn split_off(stage: &Stage<'_>, mut seat: Seat, core: CoreId) -> (Seat, Seat)
+pub fn split_off(stage: &Stage<'_>, mut seat: Seat, core: CoreId) -> (Seat, Seat)
     requires seat { IsOf (table_in stage.now) seat }
     requires core { core < (plan_of (table_in stage.now)).cores }
     requires idle { IdleFrom core (view_of seat) }
@@ -54,7 +54,7 @@ fn split_off(stage: &Stage<'_>, mut seat: Seat, core: CoreId) -> (Seat, Seat)
 }
 
 /// The opening seat once that of a core is back, and what is then counted.
-fn take_back(
+pub fn take_back(
     stage: &Stage<'_>,
     mut seat: Seat,
     own: Seat,

@@ -1,3 +1,4 @@
+pub mod Bounds
 pub mod Checks
 pub mod Lines
 pub mod Points

@@ -1,5 +1,5 @@
 -- Which answer of `verify` a policy and certificates get, and how it is written.
-use Rattle.std.specs.Prelude.{ℕ, List, [], ◌∷◌, ◌++◌, codes, decimal}
+use Rattle.std.specs.Prelude.{ℕ, List, ◌++◌, codes, decimal}
 use Rattle.policy_tree.specs.Meaning.{Meaning}
 use Rattle.policy_reader.specs.Spelled.{SpellsPolicy}
 use Rattle.obligations.specs.Names.{ob_text}

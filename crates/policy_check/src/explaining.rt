@@ -73,7 +73,7 @@ fn explained(
             failing_line(
                 alloc,
                 policy,
-                name,
+                name.text(),
                 one.vars.as_slice(),
                 point.vals.as_slice(),
             )?

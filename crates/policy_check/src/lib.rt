@@ -2,6 +2,7 @@
 #![tactic(auto)]
 
 mod answer;
+mod bounding;
 mod explaining;
 mod lines;
 mod points;
@@ -10,6 +11,7 @@ mod text_lines;
 mod verifying;
 
 pub use answer::{CheckAnswer, check_text};
+pub use bounding::{BoundAnswer, Bounding, bound_text};
 pub use explaining::{ExplainAnswer, Explanation, explain_text};
 pub use reading::{CheckMemory, Refusal};
 pub use text_lines::put_text;

@@ -113,7 +113,7 @@ pub(crate) fn line_of(name: ObName, outcome: Outcome) -> Line
 }
 
 /// The word of an answer.
-fn outcome_word(outcome: Outcome) -> &'static [u8]
+pub(crate) fn outcome_word(outcome: Outcome) -> &'static [u8]
     ensures word { result.now ≡ outcome_word outcome }
     ensures short { length result.now ≤ WORD_ROOM }
 {

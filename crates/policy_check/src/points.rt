@@ -2,12 +2,10 @@
 
 ghost use Rattle.std.specs.Prelude.{◌≡◌, ◌≤◌, ◌++◌, IfOk, OnOk, codes, length};
 ghost use Rattle.policy_tree.specs.Meaning.{meaning_of};
-ghost use Rattle.obligations.specs.Names.{ob_text};
 ghost use Rattle.policy_tree.specs.declared.variables.TheConstants.{SELF_ATTRIBUTES};
 ghost use Rattle.policy_check.specs.Points.{attribute_name, attribute_text, value_text, values_text, variable_text};
 
 use itoa::Buffer;
-use obligations::ObName;
 use policy_tree::variables::{
     FRESH, OTHER_ATTRIBUTES, OTHER_LOAD, OTHER_NR, SELF_ATTRIBUTES, SELF_LOAD, SELF_NR,
     THREAD_ATTRIBUTES, WEIGHT,
@@ -15,20 +13,20 @@ use policy_tree::variables::{
 use policy_tree::{Attr, Policy};
 use std::alloc::{AllocError, Global};
 
-/// The line of an obligation that fails at the point at which these variables have these values.
+/// The line of a statement of that name, which fails at the point at which these variables have these values.
 pub(crate) fn failing_line(
     alloc: Global,
     policy: &Policy,
-    name: ObName,
+    name: &str,
     vars: &[u32],
     vals: &[i64],
 ) -> Result<Vec<u8>, AllocError>
     requires { length vals.now ≡ length vars.now }
-    ensures { IfOk result (λ line. line.items ≡ ob_text name ++
+    ensures { IfOk result (λ line. line.items ≡ name.now ++
         (codes " fails" ++ (values_text (meaning_of policy.now) vars.now vals.now ++ codes "\n"))) }
 {
     let mut line = Vec::new(alloc);
-    line.extend_from_slice(name.text().as_bytes())?;
+    line.extend_from_slice(name.as_bytes())?;
     line.extend_from_slice(b" fails")?;
     add_values(&mut line, policy, vars, vals)?;
     line.extend_from_slice(b"\n")?;

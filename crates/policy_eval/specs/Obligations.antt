@@ -56,8 +56,8 @@ abbrev pub FilterLeavesLast : Meaning → Type 0
 FilterLeavesLast p = (own victim : CoreValues) → CoreFits p own → CoreFits p victim
     → Holds (pair_values own victim) p.filter → victim.nr ≤ 2 → own.nr ≡ 0
 
--- a batch goes on to the last waiting thread of its victim only where the thief has one thread at most, which is the one
--- that it has taken. Without a batch there is no such move
+-- a batch goes on to the last waiting thread of its victim only where the thief has one thread at most, which is the
+-- one that it has taken. Without a batch there is no such move
 abbrev pub BatchLeavesLast : Meaning → Option BatchTree → Type 0
 BatchLeavesLast p None = Unit {0}
 BatchLeavesLast p (Some batch) = (own victim : CoreValues) (weight : ℕ) (attrs : List ℤ) → CoreFits p own

@@ -6,8 +6,12 @@ pub mod Choosing
 pub mod CompleteRounds
 pub mod Conserved
 pub mod CountedPlaces
+pub mod EqualWeights
 pub mod FailedSteals
+pub mod Fills
 pub mod IdleAttempts
+pub mod IdleCounts
+pub mod IdleSteps
 pub mod KeptLoads
 pub mod MainTheorem
 pub mod MoveRows
@@ -16,6 +20,7 @@ pub mod OnePlace
 pub mod Paid
 pub mod Positions
 pub mod RoundNumbers
+pub mod RowCounts
 pub mod SeenChanges
 pub mod StealsKeepBalance
 pub mod StealsNarrow
@@ -24,4 +29,6 @@ pub mod Stretches
 pub mod SummedPlaces
 pub mod Thefts
 pub mod ThreadChanges
+pub mod WaitingCounts
+pub mod WastePaid
 pub mod WorkedPlaces

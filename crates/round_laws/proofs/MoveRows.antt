@@ -60,7 +60,7 @@ module _ (by from : ℕ) (apart : by ≢ from) (m : Cores) where
   AreAfter ids thief victim w = AreWith by from m (received_all (taken_from ids victim.queue).found thief) (handed_all ids victim) w
 
   -- such are those after a steal
-  steal_after : (p : Meaning) (plan : Plan) (round : ℕ) (threads reads : List ℕ) → AreAfter threads (m by) (m from) (moved p plan round (entry.Steal by from threads reads) m)
+  pub steal_after : (p : Meaning) (plan : Plan) (round : ℕ) (threads reads : List ℕ) → AreAfter threads (m by) (m from) (moved p plan round (entry.Steal by from threads reads) m)
   steal_after p plan round threads reads =
       let both = with_both (received_all (taken_from threads (m from).queue).found (m by)) (handed_all threads (m from)) in
       let alike = moved_steal p plan round m by from threads reads apart in

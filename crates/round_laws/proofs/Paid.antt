@@ -21,7 +21,7 @@ pub record PaidFrom (p : Meaning) (plan : Plan) (h : List Entry) (start upper st
   pub within : round_at h position ≤ upper
   pub paid : 2 * steals + spread_at p plan h position ≤ spread_at p plan h start
 
-increasing_rest : (n : ℕ) (rest : List ℕ) → IsStrictlyIncreasing (n ∷ rest) → IsStrictlyIncreasing rest
+pub increasing_rest : (n : ℕ) (rest : List ℕ) → IsStrictlyIncreasing (n ∷ rest) → IsStrictlyIncreasing rest
 increasing_rest n rest increasing k inside =
     let less = increasing (suc k) (omega arith) in
     let next : suc k + 1 ≡ suc (k + 1) = omega arith in

@@ -29,7 +29,7 @@ pub data Step (p : Meaning) (plan : Plan) (h : List Entry) (k : ℕ) : Type 0 wh
 
 module _ (p : Meaning) (plan : Plan) (h : List Entry) (fits : Fits p plan) (meets : MeetsObligations p) (legal : Legal p plan h) (first last opening : ℕ) (still : IsStill h first last) (begins : BeginsAt h first opening) where
   -- from the first Round on, up to the Round behind the stretch, no entry disturbs
-  undisturbed : (k : ℕ) (e : Entry) → get_elem? h k ≡ some e → opening ≤ k → round_at h k ≤ last → IsFalse (disturbs e)
+  pub undisturbed : (k : ℕ) (e : Entry) → get_elem? h k ≡ some e → opening ≤ k → round_at h k ≤ last → IsFalse (disturbs e)
   undisturbed k e is behind within = by_order (eq-or-lt_of_le behind)
     where
       by_order : (opening ≡ k) ⊎ (opening < k) → IsFalse (disturbs e)

@@ -1,13 +1,14 @@
 -- A move takes a thread of an overloaded core to another one, whose load stays below what the victim had. It needs that both
 -- hold numbers in range, that no number stands twice in the victim's queue, and that the thread narrows the gap.
-use Rattle.std.proofs.Common.{◌≡◌, ◌≢◌, ℕ, zero, suc, ◌+◌, ◌*◌, ◌<◌, ◌≤◌, is_some, IsTrue, Some, ap, sym, refl, ◌∙◌, List, arith}
+use Rattle.std.proofs.Common.{◌≡◌, ◌≢◌, ℕ, zero, suc, ◌+◌, ◌*◌, ◌<◌, ◌≤◌, ◌⊎◌, inl, inr, is_some, IsTrue, Some, ap, sym, refl, ◌∙◌, List, arith}
+use Rattle.std.proofs.lemmas.Bool.{cases_lt}
 use Rattle.sched_base.specs.declared.limits.TheConstants.{MAX_THREADS}
 use Rattle.sched_base.specs.declared.task.Task.{Task}
 use Rattle.policy_tree.specs.declared.typed.Put.TheVariants as put
 use Rattle.policy_tree.specs.Meaning.{BatchTree, Meaning}
 use Rattle.policy_eval.specs.declared.env.CoreValues.{CoreValues}
 use Rattle.policy_eval.specs.Fitting.{CoreFits, IsTask}
-use Rattle.policy_eval.specs.Obligations.{MeetsHandlerObligations, MoveNarrowsGap, NarrowsGapBy}
+use Rattle.policy_eval.specs.Obligations.{BatchLeavesLast, FilterLeavesLast, MeetsHandlerObligations, MoveNarrowsGap, NarrowsGapBy}
 use Rattle.policy_eval.specs.Ranges.{greatest_weight, least_weight}
 use Rattle.policy_eval.specs.Sights.{no_attributes, pair_values}
 use Rattle.policy_eval.specs.Values.{Holds as Passes}
@@ -157,6 +158,29 @@ module _ (p : Meaning) (thief victim : ModelCore) (ready : AreReady p thief vict
           narrows thief_values victim_values t.weight t.attrs
           (values_fit p plan fits by own thief thief_bounds) (values_fit p plan fits from there victim victim_bounds) its_fits.weight its_fits.attrs goes
           (omega (arith, fewer)) others_weigh
+
+      -- the first thread of a steal by a core with threads isn't the last one that waits, where the filter leaves that
+      pub first_leaves : FilterLeavesLast p → Passes (pair_values thief_values victim_values) p.filter → 1 ≤ thread_count thief → 2 ≤ thread_count left
+      first_leaves leaves passes busy = by_size (cases_lt 2 (thread_count victim))
+        where
+          by_size : (2 < thread_count victim) ⊎ (thread_count victim ≤ 2) → 2 ≤ thread_count left
+          by_size (inl more) = omega (arith, fewer)
+          by_size (inr few) =
+              let none = leaves thief_values victim_values (values_fit p plan fits by own thief thief_bounds) (values_fit p plan fits from there victim victim_bounds) passes few in
+              absurd (omega arith)
+
+      -- nor is a further one, where the batch leaves that: the thief has one thread more by then
+      pub further_leaves : (batch : BatchTree) → BatchLeavesLast p (Some batch) → IsTrue (goes_on p plan by from batch thief victim t) → 2 ≤ thread_count thief → 2 ≤ thread_count left
+      further_leaves batch leaves goes busy = by_size (cases_lt 2 (thread_count victim))
+        where
+          by_size : (2 < thread_count victim) ⊎ (thread_count victim ≤ 2) → 2 ≤ thread_count left
+          by_size (inl more) = omega (arith, fewer)
+          by_size (inr few) =
+              let one =
+              leaves thief_values victim_values t.weight t.attrs
+              (values_fit p plan fits by own thief thief_bounds) (values_fit p plan fits from there victim victim_bounds) its_fits.weight its_fits.attrs goes
+              (omega (arith, fewer)) few in
+              absurd (omega arith)
 
       -- what its move makes of the cores
       pub is_move : by ≢ from → Narrows → (m k w : Cores) → AreWith by from m thief victim k → AreWith by from m (received t thief) left w

@@ -2,12 +2,15 @@
 //!
 //! Work conservation, after some number of rounds no core idle while another is overloaded, is that of Lepers et al.,
 //! "Provable Multicore Schedulers with Ipanema: Application to Work Conservation" (EuroSys 2020) and "Towards Proving
-//! Optimistic Multicore Schedulers" (HotOS 2017). The number of rounds, half the first spread of the loads, and that it
-//! is claimed of rounds in which nobody enters, wakes, blocks or ends, are this project's own.
+//! Optimistic Multicore Schedulers" (HotOS 2017). This project's own are the numbers of rounds: half the first spread
+//! of the loads, or the cores that were idle at first. So it is that they are claimed of rounds in which nobody enters,
+//! wakes, blocks or ends.
 
+ghost use Rattle.policy_eval.specs.LastWaiting.{EqualWeightsLaw};
 ghost use Rattle.round_model.specs.FailsExplained.{FailedStealsLaw};
 ghost use Rattle.round_model.specs.OnePlace.{OnePlaceLaw};
 ghost use Rattle.round_model.specs.StillRounds.{StillRoundsLaw};
+ghost use Rattle.round_laws.specs.IdleBound.{WasteIsPaidLaw};
 ghost use Rattle.round_laws.specs.MainTheorem.{MainTheorem};
 
 /// Each live thread stands at exactly one core, each blocked one in exactly one blocked list, every other nowhere; and
@@ -33,4 +36,17 @@ pub fn law_still_rounds()
 /// interleaving of the cores' turns within a round.
 pub fn law_main_theorem()
     ensures { MainTheorem }
+{}
+
+/// Where a policy lets only idle cores take the last waiting thread of another, each bad and still round fills an idle
+/// core. Of any rounds, still or not, the bad ones are at most the cores that were idle as the first began, and the
+/// entries since that block or end a thread. In a still stretch that is 63 rounds at most, since plans have 1 to 64
+/// cores, however heavy and however many the threads.
+pub fn law_waste_is_paid()
+    ensures { WasteIsPaidLaw }
+{}
+
+/// Where all threads weigh the same, a policy that meets its obligations is one of those.
+pub fn law_equal_weights()
+    ensures { EqualWeightsLaw }
 {}

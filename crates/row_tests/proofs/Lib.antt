@@ -1,2 +1,6 @@
+pub mod BoundMet
+pub mod LeavingResolved
 pub mod Reported
+pub mod Stirred
+pub mod TakenLast
 pub mod Wasted

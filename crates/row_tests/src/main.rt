@@ -4,6 +4,7 @@
 
 mod batches;
 mod bodies;
+pub mod bounds;
 mod histories;
 mod reports;
 pub mod rows;

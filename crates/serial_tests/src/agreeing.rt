@@ -1,17 +1,24 @@
-//! Seeded plans under a policy whose steals move up to eight threads.
+//! Seeded plans under a policy whose steals move up to eight threads, each played in four ways.
 
 ghost use Rattle.std.specs.Prelude.{◌≡◌, IfSome};
 ghost use Rattle.policy_tree.specs.Meaning.{meaning_of};
+ghost use Rattle.policy_eval.specs.Obligations.{MeetsHandlerObligations};
+ghost use Rattle.round_model.specs.Fits.{Fits};
 ghost use Rattle.model_tests.specs.Policies.{in_batches};
 
+use crate::agreement::Agreement;
+use crate::at_table::{by_hand, in_threads};
 use crate::dice::rolled;
+use crate::judging::{agrees, comes_whole, has_batches, is_whole};
 use crate::plans::plan;
-use crate::playing::agreed;
+use crate::playing::{by_cores, by_lists};
 use model_tests::builders::batched_policy;
 use policy_checker::{AcceptedPolicy, Verdict, check_policy};
-use round_model::{Entry, History};
+use round_model::Plan;
 use sched_base::CHECK_BUDGET;
 use std::alloc::Global;
+use std::sync::Wait;
+use std::thread::Threads;
 
 /// So many plans are played.
 const PLANS: u32 = 500;
@@ -32,46 +39,57 @@ pub(crate) fn accepted(alloc: Global) -> Option<AcceptedPolicy>
     }
 }
 
-/// How many steals of several threads the histories of all plans have. `None` where the two plays of one differ, or
-/// memory is wanting.
-pub(crate) fn batches_of_all(alloc: Global, policy: &AcceptedPolicy) -> Option<u32>
+/// What all plans come to.
+pub(crate) fn of_all<R: Threads + Wait + Sync>(
+    rt: &R,
+    alloc: Global,
+    policy: &AcceptedPolicy,
+) -> Agreement
     requires { meaning_of policy.now ≡ in_batches 8 }
 {
     let mut dice = SEED;
-    let mut sum = 0_u32;
+    let mut all = Agreement::of_none();
     for _ in 0..PLANS {
         dice = rolled(dice);
-        sum = sum.saturating_add(batches_of_one(alloc, policy, dice)?);
+        all = all.and(of_one(rt, alloc, policy, dice));
     }
-    Some(sum)
+    all
 }
 
-/// The same of the plan of these dice.
-fn batches_of_one(alloc: Global, policy: &AcceptedPolicy, dice: u64) -> Option<u32>
+/// What the plan of these dice comes to.
+fn of_one<R: Threads + Wait + Sync>(
+    rt: &R,
+    alloc: Global,
+    policy: &AcceptedPolicy,
+    dice: u64,
+) -> Agreement
     requires { meaning_of policy.now ≡ in_batches 8 }
 {
-    let Ok(plan) = plan(alloc, dice) else {
-        return None;
-    };
-    let history = agreed(alloc, policy, &plan)?;
-    Some(batches_in(&history))
-}
-
-/// How many steals of several threads the history has.
-fn batches_in(history: &History) -> u32 {
-    let mut count = 0_u32;
-    for entry in history.as_slice() {
-        if moves_several(entry) {
-            count = count.saturating_add(1);
-        }
+    match plan(alloc, dice) {
+        Ok(plan) => of_plan(rt, alloc, policy, &plan),
+        Err(_) => Agreement::failed(),
     }
-    count
 }
 
-/// Whether the entry is a steal of several threads.
-fn moves_several(entry: &Entry) -> bool {
-    match entry {
-        Entry::Steal { threads, .. } => threads.len() > 1,
-        _ => false,
+/// What the plan comes to in each way of playing it.
+fn of_plan<R: Threads + Wait + Sync>(
+    rt: &R,
+    alloc: Global,
+    policy: &AcceptedPolicy,
+    plan: &Plan,
+) -> Agreement
+    requires fits { Fits (meaning_of policy.now) plan.now }
+    requires handlers { MeetsHandlerObligations (meaning_of policy.now) }
+{
+    let under = policy.policy();
+    let Some(plain) = by_lists(alloc, under, plan) else {
+        return Agreement::failed();
+    };
+    let whole = is_whole(alloc, under, plan, &plain);
+    Agreement {
+        by_cores: whole && agrees(alloc, under, plan, by_cores(alloc, policy, plan), &plain),
+        by_hand: whole && agrees(alloc, under, plan, by_hand(rt, alloc, under, plan), &plain),
+        in_threads: comes_whole(alloc, under, plan, in_threads(rt, alloc, policy, plan)),
+        in_batches: has_batches(&plain),
     }
 }

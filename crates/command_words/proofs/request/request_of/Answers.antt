@@ -1,5 +1,5 @@
 -- Words that are too many, or not all plain, ask for nothing.
-use Rattle.std.proofs.Common.{◌≡◌, ◌<◌, ℕ, Bool, true, false, List, [], ◌∷◌, None, if◌then◌else◌, length, refl, sym, ◌∙◌, ap, arith, rules}
+use Rattle.std.proofs.Common.{◌≡◌, ◌<◌, ℕ, Bool, true, false, List, [], ◌∷◌, None, if◌then◌else◌, length, refl, sym, arith, rules}
 use Rattle.std.specs.List.{list_all}
 use Rattle.std.proofs.lemmas.List.{length-map}
 use Rattle.command_words.specs.Command.{asked_by, asked_plainly, is_plain, words_of}

@@ -1,4 +1,4 @@
--- What `check`, `explain` and `prove` load is the one file of their command.
+-- What `check`, `explain`, `prove` and `bound` load is the one file of their command.
 use Rattle.std.proofs.Common.{ap, subst, sym}
 use Rattle.command_words.specs.Asks.{asked}
 use Rattle.ipanema_cli.specs.Loads.{FirstAreLoaded}
@@ -27,3 +27,8 @@ pub returns-in-Prove-clause-loads : goal.returns-in-Prove-clause-loads
 returns-in-Prove-clause-loads g c =
     subst (λ request. FirstAreLoaded (asked request) (g.F.Files.told c.args.files.now) (g.F.Files.requested c.args.files.now) (g.F.Files.requested c.prove_policy.new.files))
     (sym c.in-Prove.is) (record { count = 1; loaded = c.prove_policy.ensures.loads; goes_on = tt })
+
+pub returns-in-Bound-clause-loads : goal.returns-in-Bound-clause-loads
+returns-in-Bound-clause-loads g c =
+    subst (λ request. FirstAreLoaded (asked request) (g.F.Files.told c.args.files.now) (g.F.Files.requested c.args.files.now) (g.F.Files.requested c.bound.new.files))
+    (sym c.in-Bound.is) (record { count = 1; loaded = c.bound.ensures.loads; goes_on = tt })

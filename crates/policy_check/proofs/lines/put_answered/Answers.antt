@@ -1,5 +1,5 @@
 -- Line after line.
-use Rattle.std.proofs.Common.{Bool, [], ◌∷◌, cond, ◌≡◌, ap, ap₂, ◌∙◌, arith}
+use Rattle.std.proofs.Common.{Bool, [], ◌∷◌, cond, ap, ◌∙◌, arith}
 use Rattle.std.proofs.lemmas.Result.{err_from_is_err_and}
 use Rattle.policy_tree.specs.Meaning.{meaning_of}
 use Rattle.policy_checker.specs.declared.answer.Answered.{Answered}

@@ -2,7 +2,7 @@
 use Rattle.std.proofs.Common.{[], refl}
 use Rattle.std.proofs.lemmas.Result.{err_from_is_err_and}
 use Rattle.sched_io.proofs.PutsLemmas.{puts_none}
-use Rattle.policy_check.proofs.FirstLines.{gets_shorter, put_next, put_stops, put_whole}
+use Rattle.policy_check.proofs.FirstLines.{gets_shorter, put_next, put_stops}
 use Rattle.policy_check.proofs.text_lines.put_text.Goals as goal
 
 pub loop-left-init : goal.loop-left-init

@@ -1,0 +1,97 @@
+//! What a turn asks, step by step.
+
+ghost use Rattle.std.specs.Prelude.{◌≡◌, ◌↔◌, ◌*◌, ◌<◌, ◌++◌, ◌∷◌, [], length, Some};
+ghost use Rattle.sched_base.specs.declared.limits.TheConstants.{MAX_ENTRIES};
+ghost use Rattle.core_table.specs.declared.views.View.{View};
+ghost use Rattle.select_phase.specs.declared.looks.Look.{Look as Seen};
+ghost use Rattle.turn_steps.specs.declared.asking.Ask.TheVariants as ask;
+ghost use Rattle.turn_steps.specs.declared.asking.Told.{Told as Answer};
+ghost use Rattle.turn_steps.specs.States.{IsTurnOf, first_state, state_of};
+ghost use Rattle.turn_steps.specs.Answers.{Answers, Awaits, told_so_far, with_told};
+ghost use Rattle.turn_steps.specs.Views.{Counts, IsAsTold};
+ghost use Rattle.turn_steps.specs.Asks.{AsksAsModel};
+ghost use Rattle.turn_steps.specs.Reaches.{IsOver, look_in};
+
+use crate::asking::{Ask, Told};
+use crate::entering::{count_entering, entering_behind};
+use crate::reached::Reached;
+use crate::turning::Turning;
+use round_model::Plan;
+use sched_base::{CoreId, ThreadId};
+
+impl Turning {
+    /// The turn of that core in that round of the plan, which was told nothing yet.
+    pub fn new(plan: &Plan, core: CoreId, round: u32) -> Turning
+        ensures { state_of result ≡ first_state plan.now core round }
+    {
+        Turning {
+            core,
+            round,
+            entering: count_entering(plan, core, round),
+            arrived: 0,
+            woke: 0,
+            reached: Reached::Threads,
+        }
+    }
+
+    /// The core whose turn it is.
+    pub fn core(&self) -> CoreId
+        ensures { result ≡ (state_of self.now).core }
+    {
+        self.core
+    }
+
+    /// The number of the round.
+    pub fn round(&self) -> u32
+        ensures { result ≡ (state_of self.now).round }
+    {
+        self.round
+    }
+
+    /// What the turn asks next, by what it was told. The plan is the one with which it began.
+    pub fn asks(&self, plan: &Plan) -> Ask
+        requires plan { IsTurnOf plan.now (state_of self.now) }
+        ensures model { AsksAsModel plan.now (state_of self.now) result }
+        ensures awaits { (told : Answer) → Answers result told ↔ Awaits (state_of self.now) told }
+        ensures over { result ≡ ask.Over → IsOver (state_of self.now).reached }
+        ensures look { (look : Seen) → result ≡ ask.Act look →
+            look_in (state_of self.now).reached ≡ Some look }
+    {
+        match self.reached {
+            Reached::Threads => match entering_behind(plan, self.core, self.round, self.arrived) {
+                Some(thread) => Ask::Arrive(thread),
+                None => Ask::Wake,
+            },
+            Reached::NothingDue => Ask::Work,
+            Reached::Worked(_) => Ask::Look,
+            Reached::Looked(_, look) => Ask::Act(look),
+            Reached::Acted(..) => Ask::Over,
+        }
+    }
+
+    /// Tells the turn what came of that which it asked.
+    pub fn told(&mut self, told: Told)
+        requires awaited { Awaits (state_of self.old) told }
+        requires few { length (told_so_far (state_of self.old)) < 2 * MAX_ENTRIES }
+        ensures told { told_so_far (state_of self.new)
+            ≡ told_so_far (state_of self.old) ++ told ∷ [] }
+        ensures state { state_of self.new ≡ with_told told (state_of self.old) }
+    {
+        match told {
+            Told::Arrived => self.arrived += 1,
+            Told::Woke => self.woke += 1,
+            Told::NothingDue => self.reached = Reached::NothingDue,
+            Told::Worked(did) => self.reached = Reached::Worked(did),
+            Told::Looked(look) => self.reached = self.reached.with_look(look),
+            Told::Acted => self.reached = self.reached.with_attempt(),
+        }
+    }
+
+    /// How many entries the turn was told of, and the thread that ended in its unit, if one did.
+    pub fn turned(&self) -> (u32, Option<ThreadId>)
+        ensures { (v : View) → IsAsTold (state_of self.now) v → Counts result v }
+    {
+        let behind = self.reached.entries();
+        (self.arrived + self.woke + behind, self.reached.ended())
+    }
+}
