@@ -1,7 +1,7 @@
 # What the front adds to the program's answers, on standard error alone: its status and its output stay as they are. To be read by a
 # script of bash that has set `front`, the folder of this file. Sentences on a fault need python3; without it they are left out.
 
-commands=(check explain prove bound verify play run simulate waste replay report migrate make bench)
+commands=(check explain prove bound emit verify play run crew simulate waste replay report migrate make bench)
 obligations=(B1 B2 B3 B4 {H1,H2}.{enqueue,tick,yield,block})
 
 say() {
@@ -15,9 +15,11 @@ usage_of() {
     explain) say '  ipanema explain POLICY NAME             does that obligation hold? if not, numbers at which it fails' ;;
     prove) say '  ipanema prove POLICY                    write the certificates of an accepted policy, which anyone can verify' ;;
     bound) say '  ipanema bound POLICY                    what bounds the rounds that the policy may waste?' ;;
+    emit) say '  ipanema emit POLICY                     write the rules of an accepted policy as a header in C' ;;
     verify) say '  ipanema verify POLICY CERTS             do these certificates prove the policy? no solver is asked' ;;
     play) say '  ipanema play POLICY TRACE               play the trace, core after core, and write the history' ;;
     run) say '  ipanema run POLICY TRACE                play it with all cores side by side' ;;
+    crew) say '  ipanema crew POLICY TRACE WORKERS       play it with so many workers, 1 to 64, each with some of the cores' ;;
     simulate) say '  ipanema simulate POLICY TRACE           play it core after core, also where the policy may waste cores' ;;
     waste) say '  ipanema waste POLICY TRACE              what did that history waste, and why did its steals fail?' ;;
     replay) say '  ipanema replay POLICY TRACE HISTORY     is that history whole?' ;;
@@ -70,8 +72,8 @@ say_near() {
 # How many words a command takes behind it.
 words_of() {
   case "$1" in
-    check | prove | bound) echo 1 ;;
-    replay | report | migrate) echo 3 ;;
+    check | prove | bound | emit) echo 1 ;;
+    crew | replay | report | migrate) echo 3 ;;
     *) echo 2 ;;
   esac
 }
@@ -106,6 +108,8 @@ say_words() {
     find_near "$2" "${obligations[@]}"
     say_near "$2" obligation
     say "ipanema: the obligations are ${obligations[*]}"
+  elif [ "$command" = crew ]; then
+    say 'ipanema: WORKERS is digits alone, at most twenty, and from 1 to 64'
   elif [ "$command" = make ] || [ "$command" = bench ]; then
     if are_numbers "$@"; then say 'ipanema: SEED is below 2^64, and SIZE from 1 to 1023'; else say 'ipanema: SEED and SIZE are digits alone, at most twenty'; fi
   fi
@@ -116,7 +120,8 @@ say_words() {
 # The words of a command that are files.
 files_of() {
   case "$1" in
-    check | explain | prove | bound) files=("$2") ;;
+    check | explain | prove | bound | emit) files=("$2") ;;
+    crew) files=("$2" "$3") ;;
     *) files=("${@:2}") ;;
   esac
 }
@@ -143,6 +148,7 @@ say_not_accepted() {
   [ "$1" -eq 1 ] || verdict='undecided'
   case "$2" in
     prove) what='proved' ;;
+    emit) what='written' ;;
     replay | report | migrate) what='judged' ;;
   esac
   say "ipanema: the policy is $verdict, so nothing was $what; \`ipanema explain ${3@Q} NAME\` says more of a line above"
@@ -181,7 +187,7 @@ answer() {
       4,*) say_file "$@" ;;
       2,* | 10,*) say_fault "$status" "$program" "$@" ;;
       [13],simulate | [13],waste) say_not_playable "$@" ;;
-      [13],prove | [13],play | [13],run | [13],replay | [13],report | [13],migrate) say_not_accepted "$status" "$@" ;;
+      [13],prove | [13],emit | [13],play | [13],run | [13],crew | [13],replay | [13],report | [13],migrate) say_not_accepted "$status" "$@" ;;
     esac
   } >/dev/null
   exit "$status"

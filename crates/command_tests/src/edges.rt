@@ -84,8 +84,8 @@ pub(crate) fn steady_sink<R: Threads + Wait + Sync>(
     rt: &R,
     alloc: Global,
 ) -> Result<bool, AllocError> {
-    let words = one_steal::words(alloc, "play")?;
-    let mut files = one_steal::files(alloc)?;
+    let words = one_steal::words(alloc, &["play", "p", "t"])?;
+    let mut files = one_steal::files(alloc, one_steal::TRACE)?;
     let mut out = SteadySink::with_room(alloc, 4_096).map_err(|_error: IoMemory| AllocError)?;
     let status = ipanema(rt, alloc, &words, &mut files, &mut out, &OpenGate);
     Ok(status == 0 && out.bytes() == one_steal::HISTORY.as_bytes())

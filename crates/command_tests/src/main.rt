@@ -17,7 +17,7 @@ mod shelf;
 mod spelling;
 
 use crate::edges::{loads_and_pieces_are_kept, readers_and_writers, steady_sink};
-use crate::meeting::two_cores_meet;
+use crate::meeting::{two_cores_meet, two_workers_meet};
 use crate::playing::play_tables;
 use std::io;
 
@@ -25,6 +25,7 @@ fn main(rt: HostRuntime) -> io::Result<()> {
     let alloc = rt.alloc();
     play_tables(&rt, alloc)?;
     told(&rt, "two cores meet", two_cores_meet(&rt, alloc)?)?;
+    told(&rt, "two workers meet", two_workers_meet(&rt, alloc)?)?;
     told(
         &rt,
         "loads and pieces are kept",

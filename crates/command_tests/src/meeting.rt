@@ -15,7 +15,7 @@ use std::thread::Threads;
 /// How often a core looks for the other one.
 const LOOKS: u32 = 2_000_000_000;
 
-/// A gate at which two cores wait for each other.
+/// A place at which two cores wait for each other.
 #[derive(Drop)]
 struct Meeting {
     /// Of each core, whether it came.
@@ -49,18 +49,49 @@ impl Meeting {
         }
         false
     }
-}
 
-impl Gate for Meeting {
-    ghost admits = { λ _ _ _. true };
-
-    ghost passed = { λ _ _ _. Unit {0} };
-
-    fn pass<R: Wait>(&self, rt: &R, core: u32, _round: u32) {
+    /// The core comes, and waits for the other one.
+    fn meet<R: Wait>(&self, rt: &R, core: u32) {
         let (own, other) = if core == 0 { (0, 1) } else { (1, 0) };
         let _first = self.came[own].set(rt, true);
         if self.sees(other) {
             let _first = self.met[own].set(rt, true);
+        }
+    }
+}
+
+/// A gate at which two cores wait for each other, in the first round and in the others.
+#[derive(Drop)]
+struct Meetings {
+    first: Meeting,
+    later: Meeting,
+}
+
+impl Meetings {
+    /// Nobody came yet.
+    fn new() -> Meetings {
+        Meetings {
+            first: Meeting::new(),
+            later: Meeting::new(),
+        }
+    }
+
+    /// Whether both cores saw each other in the first round, and in another where there is one.
+    fn have_met(&self, rounds: usize) -> bool {
+        self.first.have_met() && (rounds < 2 || self.later.have_met())
+    }
+}
+
+impl Gate for Meetings {
+    ghost admits = { λ _ _ _. true };
+
+    ghost passed = { λ _ _ _. Unit {0} };
+
+    fn pass<R: Wait>(&self, rt: &R, core: u32, round: u32) {
+        if round <= 1 {
+            self.first.meet(rt, core);
+        } else {
+            self.later.meet(rt, core);
         }
     }
 }
@@ -75,11 +106,13 @@ fn see_past(reads: &Reads, works: (Option<usize>, Option<usize>)) -> bool {
     }
 }
 
-/// Whether each attempt stands behind the units of both cores, and saw both as they were behind them.
+/// Whether each attempt stands behind the units of both cores in its round, and saw both as they were behind them.
 fn attempts_see_both(history: &[Entry]) -> bool {
     let mut works = (None, None);
     for (at, entry) in history.iter().enumerate() {
-        if entry.is_work() && entry.acting_core() == Some(0) {
+        if entry.is_round() {
+            works = (None, None);
+        } else if entry.is_work() && entry.acting_core() == Some(0) {
             works.0 = Some(at);
         } else if entry.is_work() {
             works.1 = Some(at);
@@ -96,9 +129,36 @@ pub(crate) fn two_cores_meet<R: Threads + Wait + Sync>(
     rt: &R,
     alloc: Global,
 ) -> Result<bool, AllocError> {
-    let gate = Meeting::new();
-    let words = one_steal::words(alloc, "run")?;
-    let files = one_steal::files(alloc)?;
+    meet(rt, alloc, &["run", "p", "t"], one_steal::TRACE, 1, 7)
+}
+
+/// Whether `crew` with two workers does so in both of two rounds, each of 20 times.
+pub(crate) fn two_workers_meet<R: Threads + Wait + Sync>(
+    rt: &R,
+    alloc: Global,
+) -> Result<bool, AllocError> {
+    for _ in 0..20 {
+        let words = ["crew", "p", "t", "2"];
+        if !meet(rt, alloc, &words, one_steal::TWO_ROUNDS, 2, 12)? {
+            return Ok(false);
+        }
+    }
+    Ok(true)
+}
+
+/// Whether the command on this trace gives a history of so many entries, in which both cores looked behind both units
+/// in each of so many rounds.
+fn meet<R: Threads + Wait + Sync>(
+    rt: &R,
+    alloc: Global,
+    words: &[&str],
+    trace: &str,
+    rounds: usize,
+    entries: u32,
+) -> Result<bool, AllocError> {
+    let gate = Meetings::new();
+    let words = one_steal::words(alloc, words)?;
+    let files = one_steal::files(alloc, trace)?;
     let sink = sink(alloc, None, Vec::new(alloc))?;
     let answer = call_past(rt, alloc, &words, files, sink, &gate)?;
     let Ok(history) = read_history(alloc, answer.bytes.as_slice(), 2) else {
@@ -106,8 +166,8 @@ pub(crate) fn two_cores_meet<R: Threads + Wait + Sync>(
     };
     Ok(
         answer.status == 0
-            && gate.have_met()
-            && history.len() == 7
+            && gate.have_met(rounds)
+            && history.len() == entries
             && attempts_see_both(history.as_slice()),
     )
 }

@@ -20,16 +20,18 @@ use std::thread::Threads;
 use std::{fs, io};
 
 /// The tables, in the order in which they are played.
-const TABLES: [&str; 15] = [
+const TABLES: [&str; 17] = [
     "statuses.cases",
     "words.cases",
     "check.cases",
     "bound.cases",
     "certs.cases",
+    "emit.cases",
     "play.cases",
     "faults.cases",
     "simulate.cases",
     "run.cases",
+    "crew.cases",
     "histories.cases",
     "batches.cases",
     "migrate.cases",
@@ -159,7 +161,7 @@ fn is_whole<R: Threads + Wait + Sync>(
     case: &Case,
     answer: &Answer,
 ) -> Result<bool, Misread> {
-    let (Some(entries), [_command, policy, trace]) = (case.options.whole, case.words.as_slice())
+    let (Some(entries), [_command, policy, trace, ..]) = (case.options.whole, case.words.as_slice())
     else {
         return Ok(case.options.whole.is_none());
     };

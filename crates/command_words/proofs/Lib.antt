@@ -1,3 +1,4 @@
+pub mod Adding
 pub mod NamesFound
 pub mod Sizes
 pub mod Walks

@@ -60,6 +60,13 @@ bound (one a) = simp a.plain
 bound (two a b) = simp (a.plain, b.plain)
 bound (three a b c) = simp (a.plain, b.plain, c.plain)
 
+emit : (behind : Behind) → AgreesAt (codes "emit" ∷ texts behind)
+unfolding clap_on_literals
+emit none = refl
+emit (one a) = simp a.plain
+emit (two a b) = simp (a.plain, b.plain)
+emit (three a b c) = simp (a.plain, b.plain, c.plain)
+
 explain : (behind : Behind) → AgreesAt (codes "explain" ∷ texts behind)
 unfolding clap_on_literals
 explain none = refl
@@ -102,6 +109,13 @@ waste (one a) = simp a.plain
 waste (two a b) = simp (a.plain, b.plain)
 waste (three a b c) = simp (a.plain, b.plain, c.plain)
 
+crew : (behind : Behind) → AgreesAt (codes "crew" ∷ texts behind)
+unfolding clap_on_literals
+crew none = refl
+crew (one a) = simp a.plain
+crew (two a b) = simp (a.plain, b.plain)
+crew (three a b c) = simp (a.plain, b.plain, c.plain)
+
 replay : (behind : Behind) → AgreesAt (codes "replay" ∷ texts behind)
 unfolding clap_on_literals
 replay none = refl
@@ -142,12 +156,14 @@ other : (v : Word) (behind : Behind)
     → bytes_eq (codes "check") (text v) ≡ false
     → bytes_eq (codes "prove") (text v) ≡ false
     → bytes_eq (codes "bound") (text v) ≡ false
+    → bytes_eq (codes "emit") (text v) ≡ false
     → bytes_eq (codes "explain") (text v) ≡ false
     → bytes_eq (codes "verify") (text v) ≡ false
     → bytes_eq (codes "play") (text v) ≡ false
     → bytes_eq (codes "run") (text v) ≡ false
     → bytes_eq (codes "simulate") (text v) ≡ false
     → bytes_eq (codes "waste") (text v) ≡ false
+    → bytes_eq (codes "crew") (text v) ≡ false
     → bytes_eq (codes "replay") (text v) ≡ false
     → bytes_eq (codes "report") (text v) ≡ false
     → bytes_eq (codes "migrate") (text v) ≡ false
@@ -155,10 +171,10 @@ other : (v : Word) (behind : Behind)
     → bytes_eq (codes "bench") (text v) ≡ false
     → AgreesAt (text v ∷ texts behind)
 unfolding clap_on_literals
-other v none a b c d e f g h i j k l m n = simp (v.plain, a, b, c, d, e, f, g, h, i, j, k, l, m, n)
-other v (one w) a b c d e f g h i j k l m n = simp (v.plain, w.plain, a, b, c, d, e, f, g, h, i, j, k, l, m, n)
-other v (two w x) a b c d e f g h i j k l m n = simp (v.plain, w.plain, x.plain, a, b, c, d, e, f, g, h, i, j, k, l, m, n)
-other v (three w x y) a b c d e f g h i j k l m n = simp (v.plain, w.plain, x.plain, y.plain, a, b, c, d, e, f, g, h, i, j, k, l, m, n)
+other v none a b c d e f g h i j k l m n o p = simp (v.plain, a, b, c, d, e, f, g, h, i, j, k, l, m, n, o, p)
+other v (one w) a b c d e f g h i j k l m n o p = simp (v.plain, w.plain, a, b, c, d, e, f, g, h, i, j, k, l, m, n, o, p)
+other v (two w x) a b c d e f g h i j k l m n o p = simp (v.plain, w.plain, x.plain, a, b, c, d, e, f, g, h, i, j, k, l, m, n, o, p)
+other v (three w x y) a b c d e f g h i j k l m n o p = simp (v.plain, w.plain, x.plain, y.plain, a, b, c, d, e, f, g, h, i, j, k, l, m, n, o, p)
 
 -- the verb is this one, or it isn't
 at_verb : (verb word : Text) (P : Text → Type 0) → P verb → (bytes_eq verb word ≡ false → P word) → P word
@@ -174,18 +190,20 @@ with_verb v behind =
     at_verb (codes "check") (text v) P (check behind) (λ a.
     at_verb (codes "prove") (text v) P (prove behind) (λ b.
     at_verb (codes "bound") (text v) P (bound behind) (λ c.
-    at_verb (codes "explain") (text v) P (explain behind) (λ d.
-    at_verb (codes "verify") (text v) P (verify behind) (λ e.
-    at_verb (codes "play") (text v) P (play behind) (λ f.
-    at_verb (codes "run") (text v) P (run behind) (λ g.
-    at_verb (codes "simulate") (text v) P (simulate behind) (λ h.
-    at_verb (codes "waste") (text v) P (waste behind) (λ i.
-    at_verb (codes "replay") (text v) P (replay behind) (λ j.
-    at_verb (codes "report") (text v) P (report behind) (λ k.
-    at_verb (codes "migrate") (text v) P (migrate behind) (λ l.
-    at_verb (codes "make") (text v) P (make behind) (λ m.
-    at_verb (codes "bench") (text v) P (bench behind) (λ n.
-    other v behind a b c d e f g h i j k l m n))))))))))))))
+    at_verb (codes "emit") (text v) P (emit behind) (λ d.
+    at_verb (codes "explain") (text v) P (explain behind) (λ e.
+    at_verb (codes "verify") (text v) P (verify behind) (λ f.
+    at_verb (codes "play") (text v) P (play behind) (λ g.
+    at_verb (codes "run") (text v) P (run behind) (λ h.
+    at_verb (codes "simulate") (text v) P (simulate behind) (λ i.
+    at_verb (codes "waste") (text v) P (waste behind) (λ j.
+    at_verb (codes "crew") (text v) P (crew behind) (λ k.
+    at_verb (codes "replay") (text v) P (replay behind) (λ l.
+    at_verb (codes "report") (text v) P (report behind) (λ m.
+    at_verb (codes "migrate") (text v) P (migrate behind) (λ n.
+    at_verb (codes "make") (text v) P (make behind) (λ o.
+    at_verb (codes "bench") (text v) P (bench behind) (λ p.
+    other v behind a b c d e f g h i j k l m n o p))))))))))))))))
 
 no_words : AgreesAt []
 unfolding clap_on_literals

@@ -5,7 +5,7 @@ use Rattle.std.specs.List.{find, list_all}
 use Rattle.std.specs.Str.{bytes_eq}
 use Rattle.obligations.specs.declared.names.ObName.{ObName}
 use Rattle.obligations.specs.Names.{ob_names, ob_text}
-use Rattle.command_words.specs.Numbers.{seed_in, size_in}
+use Rattle.command_words.specs.Numbers.{seed_in, size_in, workers_in}
 
 -- a command with its words
 pub data Asked : Type 0 where
@@ -17,12 +17,16 @@ pub data Asked : Type 0 where
   prove : (policy : List ℕ) → Asked
   -- to tell what bounds the bad rounds of a still stretch under the policy in this file
   bound : (policy : List ℕ) → Asked
+  -- to write the rules of the policy in this file as a header in C
+  emit : (policy : List ℕ) → Asked
   -- to verify by the certificates in the second file that the policy in the first meets its obligations
   verify : (policy certs : List ℕ) → Asked
   -- to play the trace in one file under the policy in the other
   play : (policy trace : List ℕ) → Asked
   -- to play it by all cores side by side
   run : (policy trace : List ℕ) → Asked
+  -- to play it by a crew of so many workers
+  crew : (policy trace : List ℕ) (workers : ℕ) → Asked
   -- to play it serially under a policy of which only the handlers need be right
   simulate : (policy trace : List ℕ) → Asked
   -- to report what that history wasted
@@ -59,12 +63,17 @@ made_by seed size = sized_by make seed size
 abbrev pub benched_by : List ℕ → List ℕ → Option Asked
 benched_by seed size = sized_by bench seed size
 
+-- the crew that plays this trace under this policy, of so many workers as the third word is
+abbrev pub crewed_by : List ℕ → List ℕ → List ℕ → Option Asked
+crewed_by policy trace workers = option_map (crew policy trace) (workers_in workers)
+
 -- the commands of a verb and one word behind it
 abbrev pub asked_by_one : List ℕ → List ℕ → Option Asked
 asked_by_one verb policy =
     if bytes_eq (codes "check") verb then Some (check policy)
     else if bytes_eq (codes "prove") verb then Some (prove policy)
     else if bytes_eq (codes "bound") verb then Some (bound policy)
+    else if bytes_eq (codes "emit") verb then Some (emit policy)
     else None
 
 -- those of a verb and two words
@@ -82,10 +91,11 @@ asked_by_two verb first second =
 
 -- and those of a verb and three
 abbrev pub asked_by_three : List ℕ → List ℕ → List ℕ → List ℕ → Option Asked
-asked_by_three verb policy trace history =
-    if bytes_eq (codes "replay") verb then Some (replay policy trace history)
-    else if bytes_eq (codes "report") verb then Some (report policy trace history)
-    else if bytes_eq (codes "migrate") verb then Some (migrate policy trace history)
+asked_by_three verb policy trace third =
+    if bytes_eq (codes "crew") verb then crewed_by policy trace third
+    else if bytes_eq (codes "replay") verb then Some (replay policy trace third)
+    else if bytes_eq (codes "report") verb then Some (report policy trace third)
+    else if bytes_eq (codes "migrate") verb then Some (migrate policy trace third)
     else None
 
 -- the command that plain words are
@@ -104,3 +114,23 @@ asked_by words = if list_all is_plain words then asked_plainly words else None
 -- the bytes of each word
 abbrev pub words_of : {A : Type 0} → List (String A) → List (List ℕ)
 words_of words = map string_bytes words
+
+-- what is asked plays no cores side by side
+abbrev pub IsSerial : Option Asked → Type 0
+IsSerial None = Unit {0}
+IsSerial (Some (check policy)) = Unit {0}
+IsSerial (Some (explain policy name)) = Unit {0}
+IsSerial (Some (prove policy)) = Unit {0}
+IsSerial (Some (bound policy)) = Unit {0}
+IsSerial (Some (emit policy)) = Unit {0}
+IsSerial (Some (verify policy certs)) = Unit {0}
+IsSerial (Some (play policy trace)) = Unit {0}
+IsSerial (Some (run policy trace)) = ⊥
+IsSerial (Some (crew policy trace workers)) = ⊥
+IsSerial (Some (simulate policy trace)) = Unit {0}
+IsSerial (Some (waste policy trace)) = Unit {0}
+IsSerial (Some (replay policy trace history)) = Unit {0}
+IsSerial (Some (report policy trace history)) = Unit {0}
+IsSerial (Some (migrate policy trace history)) = Unit {0}
+IsSerial (Some (make seed size)) = Unit {0}
+IsSerial (Some (bench seed size)) = Unit {0}

@@ -3,7 +3,7 @@ use Rattle.std.specs.Prelude.{◌≡◌, ℕ, ◌^◌, Bool, ◌&&◌, List, len
 use Rattle.std.specs.Prelude.{option_and_then, if◌then◌else◌}
 use Rattle.std.specs.Char.{is_ascii_digit}
 use Rattle.std.specs.List.{list_all}
-use Rattle.sched_base.specs.declared.limits.TheConstants.{MAX_THREADS}
+use Rattle.sched_base.specs.declared.limits.TheConstants.{MAX_THREADS, MAX_WORKERS}
 use Rattle.text_forms.specs.Numbers.{number_of}
 use Rattle.command_words.specs.declared.numbers.TheConstants.{MAX_WORD_DIGITS}
 use Rattle.command_words.specs.declared.words.TheConstants.{MAX_WORDS}
@@ -28,3 +28,11 @@ is_size size = nat_le 1 size && nat_le size MAX_THREADS
 -- the number of threads that a word is
 abbrev pub size_in : List ℕ → Option ℕ
 size_in word = option_and_then (λ size. if is_size size then Some size else None) (seed_in word)
+
+-- a crew may have so many workers
+abbrev pub is_crew : ℕ → Bool
+is_crew workers = nat_le 1 workers && nat_le workers MAX_WORKERS
+
+-- the number of workers that a word is
+abbrev pub workers_in : List ℕ → Option ℕ
+workers_in word = option_and_then (λ workers. if is_crew workers then Some workers else None) (seed_in word)

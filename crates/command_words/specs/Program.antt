@@ -1,12 +1,13 @@
 -- How `clap` is told of the commands, and what is read from what it finds. No contract of a public call speaks of this.
-use Rattle.std.specs.Prelude.{List, [], ◌∷◌, Option, Some, None, codes, if◌then◌else◌, map, option_and_then, option_map}
+use Rattle.std.specs.Prelude.{List, [], ◌∷◌, ◌++◌, Option, Some, None, codes, if◌then◌else◌, map}
+use Rattle.std.specs.Prelude.{option_and_then, option_map}
 use Rattle.std.specs.Prelude.{true, false, unwrap_or}
 use Rattle.std.specs.Str.{bytes_eq}
-use Rattle.clap.specs.Words.{App, Row, Rule, Shape, Text, first_of, new_rule}
+use Rattle.clap.specs.Words.{App, Row, Rule, Shape, Text, first_of, new_rule, with_subcommand}
 use Rattle.clap.specs.Simple.{new_shape}
 use Rattle.clap.specs.declared.builder.ArgAction.TheVariants.{Set}
-use Rattle.command_words.specs.Command.{Asked, benched_by, bound, check, explain, made_by, migrate, name_of, play}
-use Rattle.command_words.specs.Command.{prove, replay, report, run, simulate, verify, waste}
+use Rattle.command_words.specs.Command.{Asked, benched_by, bound, check, crewed_by, emit, explain, made_by}
+use Rattle.command_words.specs.Command.{migrate, name_of, play, prove, replay, report, run, simulate, verify, waste}
 
 -- a word that has to be there
 abbrev pub wanted : Text → Rule
@@ -29,27 +30,48 @@ no_commands = record {
   subs = [];
 }
 
-abbrev pub commands : List Shape
-commands =
+-- the commands on a policy
+abbrev pub policy_commands : List Shape
+policy_commands =
     command_of (codes "check") (codes "POLICY" ∷ [])
     ∷ command_of (codes "prove") (codes "POLICY" ∷ [])
     ∷ command_of (codes "bound") (codes "POLICY" ∷ [])
+    ∷ command_of (codes "emit") (codes "POLICY" ∷ [])
     ∷ command_of (codes "explain") (codes "POLICY" ∷ codes "NAME" ∷ [])
     ∷ command_of (codes "verify") (codes "POLICY" ∷ codes "CERTS" ∷ [])
-    ∷ command_of (codes "play") (codes "POLICY" ∷ codes "TRACE" ∷ [])
+    ∷ []
+
+-- those on a policy and a trace
+abbrev pub trace_commands : List Shape
+trace_commands =
+    command_of (codes "play") (codes "POLICY" ∷ codes "TRACE" ∷ [])
     ∷ command_of (codes "run") (codes "POLICY" ∷ codes "TRACE" ∷ [])
     ∷ command_of (codes "simulate") (codes "POLICY" ∷ codes "TRACE" ∷ [])
     ∷ command_of (codes "waste") (codes "POLICY" ∷ codes "TRACE" ∷ [])
+    ∷ command_of (codes "crew") (codes "POLICY" ∷ codes "TRACE" ∷ codes "WORKERS" ∷ [])
     ∷ command_of (codes "replay") (codes "POLICY" ∷ codes "TRACE" ∷ codes "HISTORY" ∷ [])
     ∷ command_of (codes "report") (codes "POLICY" ∷ codes "TRACE" ∷ codes "HISTORY" ∷ [])
     ∷ command_of (codes "migrate") (codes "POLICY" ∷ codes "TRACE" ∷ codes "HISTORY" ∷ [])
-    ∷ command_of (codes "make") (codes "SEED" ∷ codes "SIZE" ∷ [])
+    ∷ []
+
+-- those on a seed and a size
+abbrev pub seed_commands : List Shape
+seed_commands =
+    command_of (codes "make") (codes "SEED" ∷ codes "SIZE" ∷ [])
     ∷ command_of (codes "bench") (codes "SEED" ∷ codes "SIZE" ∷ [])
     ∷ []
 
+-- the program with these commands behind those that it has
+abbrev pub with_all : List Shape → App → App
+with_all [] app = app
+with_all (shape ∷ shapes) app = with_all shapes (with_subcommand app shape)
+
 -- the program with its commands
 abbrev pub program : App
-program = record { top = record no_commands.top { is_leaf = false }; subs = commands }
+program = record {
+  top = record no_commands.top { is_leaf = false };
+  subs = policy_commands ++ (trace_commands ++ seed_commands);
+}
 
 -- the word that was found for a name, and an empty one where there is none
 abbrev pub word_in : List Row → Text → Text
@@ -61,6 +83,7 @@ asked_in verb rows =
     if bytes_eq verb (codes "check") then Some (check (word_in rows (codes "POLICY")))
     else if bytes_eq verb (codes "prove") then Some (prove (word_in rows (codes "POLICY")))
     else if bytes_eq verb (codes "bound") then Some (bound (word_in rows (codes "POLICY")))
+    else if bytes_eq verb (codes "emit") then Some (emit (word_in rows (codes "POLICY")))
     else if bytes_eq verb (codes "explain") then
     option_map (explain (word_in rows (codes "POLICY"))) (name_of (word_in rows (codes "NAME")))
     else if bytes_eq verb (codes "verify") then
@@ -71,6 +94,8 @@ asked_in verb rows =
     Some (simulate (word_in rows (codes "POLICY")) (word_in rows (codes "TRACE")))
     else if bytes_eq verb (codes "waste")
     then Some (waste (word_in rows (codes "POLICY")) (word_in rows (codes "TRACE")))
+    else if bytes_eq verb (codes "crew") then
+    crewed_by (word_in rows (codes "POLICY")) (word_in rows (codes "TRACE")) (word_in rows (codes "WORKERS"))
     else if bytes_eq verb (codes "replay") then
     Some (replay (word_in rows (codes "POLICY")) (word_in rows (codes "TRACE")) (word_in rows (codes "HISTORY")))
     else if bytes_eq verb (codes "report") then

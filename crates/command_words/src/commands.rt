@@ -6,7 +6,8 @@
 ghost use Rattle.std.specs.Prelude.{◌≡◌, [], IfOk, false, map};
 ghost use Rattle.clap.specs.Words.{app_of, rule_of, with_subcommand};
 ghost use Rattle.clap.specs.declared.builder.command.Command.TheViews.{out-Command as fields_of};
-ghost use Rattle.command_words.specs.Program.{command_of, no_commands, program, wanted};
+ghost use Rattle.command_words.specs.Program.{command_of, no_commands, policy_commands, program};
+ghost use Rattle.command_words.specs.Program.{trace_commands, wanted, with_all};
 
 use clap::{Arg, ArgAction, Command};
 use std::alloc::{AllocError, Global};
@@ -15,21 +16,36 @@ use std::alloc::{AllocError, Global};
 pub(crate) fn program<'a>(alloc: Global) -> Result<Command<'a>, AllocError>
     ensures { IfOk result (λ made. app_of made ≡ program) }
 {
-    let program = no_commands(alloc);
+    let program = with_policies(no_commands(alloc), alloc)?;
+    let program = with_traces(program, alloc)?;
+    with_two(program, alloc, "make", "bench", &["SEED", "SIZE"])
+}
+
+/// The program with the commands on a policy.
+fn with_policies<'a>(program: Command<'a>, alloc: Global) -> Result<Command<'a>, AllocError>
+    ensures { IfOk result (λ made. app_of made ≡ with_all policy_commands (app_of program.entry)) }
+{
     let program = with_three(program, alloc, "check", "prove", "bound", &["POLICY"])?;
+    let program = with_command(program, alloc, "emit", &["POLICY"])?;
     let program = with_command(program, alloc, "explain", &["POLICY", "NAME"])?;
-    let program = with_command(program, alloc, "verify", &["POLICY", "CERTS"])?;
+    with_command(program, alloc, "verify", &["POLICY", "CERTS"])
+}
+
+/// The program with the commands on a policy and a trace.
+fn with_traces<'a>(program: Command<'a>, alloc: Global) -> Result<Command<'a>, AllocError>
+    ensures { IfOk result (λ made. app_of made ≡ with_all trace_commands (app_of program.entry)) }
+{
     let program = with_two(program, alloc, "play", "run", &["POLICY", "TRACE"])?;
     let program = with_two(program, alloc, "simulate", "waste", &["POLICY", "TRACE"])?;
-    let program = with_three(
+    let program = with_command(program, alloc, "crew", &["POLICY", "TRACE", "WORKERS"])?;
+    with_three(
         program,
         alloc,
         "replay",
         "report",
         "migrate",
         &["POLICY", "TRACE", "HISTORY"],
-    )?;
-    with_two(program, alloc, "make", "bench", &["SEED", "SIZE"])
+    )
 }
 
 /// The program with no command so far.

@@ -3,9 +3,9 @@
 ghost use Rattle.std.specs.Prelude.{◌≡◌};
 ghost use Rattle.std.specs.Char.{is_ascii_digit};
 ghost use Rattle.std.specs.List.{list_all};
-ghost use Rattle.command_words.specs.Numbers.{is_decimal, seed_in, size_in};
+ghost use Rattle.command_words.specs.Numbers.{is_decimal, seed_in, size_in, workers_in};
 
-use sched_base::MAX_THREADS;
+use sched_base::{MAX_THREADS, MAX_WORKERS};
 
 /// The most digits of a number among the words, leading zeros counted.
 pub const MAX_WORD_DIGITS: usize = 20;
@@ -30,6 +30,18 @@ pub(crate) fn size_in(word: &str) -> Option<u32>
     let size = seed_in(word)?;
     if size >= 1 && size <= u64::from(MAX_THREADS) {
         Some(size as u32)
+    } else {
+        None
+    }
+}
+
+/// The number of workers that the word is, where a crew may have so many.
+pub(crate) fn workers_in(word: &str) -> Option<u32>
+    ensures { result ≡ workers_in word.now }
+{
+    let workers = seed_in(word)?;
+    if workers >= 1 && workers <= MAX_WORKERS as u64 {
+        Some(workers as u32)
     } else {
         None
     }

@@ -4,11 +4,12 @@ ghost use Rattle.std.specs.Prelude.{◌≡◌, ◌<◌, IfOk, IsOk, false, lengt
 ghost use Rattle.std.specs.List.{list_all};
 ghost use Rattle.clap.specs.Words.{found_of, rows_of, subcommand_rows_of};
 ghost use Rattle.command_words.specs.Asks.{asked};
-ghost use Rattle.command_words.specs.Command.{asked_by, benched_by, explain, is_plain, made_by, name_of, words_of};
+ghost use Rattle.command_words.specs.Command.{asked_by, benched_by, crewed_by, explain, is_plain, made_by};
+ghost use Rattle.command_words.specs.Command.{name_of, words_of};
 ghost use Rattle.command_words.specs.Program.{asked_from, asked_in};
 
 use crate::memory::WordsMemory;
-use crate::numbers::{seed_in, size_in};
+use crate::numbers::{seed_in, size_in, workers_in};
 use crate::words::{MAX_WORDS, are_plain, found_in, word_in};
 use clap::ArgMatches;
 use obligations::{ObName, ob_name};
@@ -26,23 +27,57 @@ pub struct HistoryFiles<'a> {
 #[derive(Clone, Copy)]
 pub enum Request<'a> {
     /// To check the policy in this file.
-    Check { policy: &'a str },
+    Check {
+        policy: &'a str,
+    },
     /// To explain the obligation of that name of the policy in this file.
-    Explain { policy: &'a str, name: ObName },
+    Explain {
+        policy: &'a str,
+        name: ObName,
+    },
     /// To write the certificates of the policy in this file.
-    Prove { policy: &'a str },
+    Prove {
+        policy: &'a str,
+    },
     /// To tell what bounds the bad rounds of a still stretch under the policy in this file.
-    Bound { policy: &'a str },
+    Bound {
+        policy: &'a str,
+    },
+    /// To write the rules of the policy in this file as a header in C.
+    Emit {
+        policy: &'a str,
+    },
     /// To verify by the certificates in the second file that the policy in the first meets its obligations.
-    Verify { policy: &'a str, certs: &'a str },
+    Verify {
+        policy: &'a str,
+        certs: &'a str,
+    },
     /// To play the trace in one file under the policy in the other.
-    Play { policy: &'a str, trace: &'a str },
+    Play {
+        policy: &'a str,
+        trace: &'a str,
+    },
     /// To play it by all cores side by side, each in a thread of its own.
-    Run { policy: &'a str, trace: &'a str },
+    Run {
+        policy: &'a str,
+        trace: &'a str,
+    },
+    /// To play it by a crew of so many workers, from 1 to `MAX_WORKERS`.
+    Crew {
+        policy: &'a str,
+        trace: &'a str,
+        workers: u32,
+    },
     /// To play it serially, under a policy of which only the handlers need be right.
-    Simulate { policy: &'a str, trace: &'a str },
+    Simulate {
+        policy: &'a str,
+        trace: &'a str,
+    },
     /// To report what that history wasted.
-    Waste { policy: &'a str, trace: &'a str },
+    Waste {
+        policy: &'a str,
+        trace: &'a str,
+    },
     /// To judge a history by a policy and a trace.
     Replay(HistoryFiles<'a>),
     /// To report of a history under a policy and a trace.
@@ -50,9 +85,15 @@ pub enum Request<'a> {
     /// To write a history of the first format in the second, under a policy and a trace.
     Migrate(HistoryFiles<'a>),
     /// To make the trace of so many threads that the seed determines.
-    Make { seed: u64, size: u32 },
+    Make {
+        seed: u64,
+        size: u32,
+    },
     /// To play that trace under the policy `fair`, and to tell what its history comes to.
-    Bench { seed: u64, size: u32 },
+    Bench {
+        seed: u64,
+        size: u32,
+    },
     /// Nothing: they are no command.
     Unknown,
 }
@@ -100,6 +141,7 @@ fn request_in<'a>(verb: &str, words: &ArgMatches<'a>) -> Request<'a>
         "check" => Request::Check { policy },
         "prove" => Request::Prove { policy },
         "bound" => Request::Bound { policy },
+        "emit" => Request::Emit { policy },
         "explain" => explanation_of(policy, word_in(words, "NAME")),
         "verify" => Request::Verify {
             policy,
@@ -109,6 +151,7 @@ fn request_in<'a>(verb: &str, words: &ArgMatches<'a>) -> Request<'a>
         "run" => Request::Run { policy, trace },
         "simulate" => Request::Simulate { policy, trace },
         "waste" => Request::Waste { policy, trace },
+        "crew" => crewed_by(policy, trace, word_in(words, "WORKERS")),
         "replay" => Request::Replay(files),
         "report" => Request::Report(files),
         "migrate" => Request::Migrate(files),
@@ -124,6 +167,20 @@ fn explanation_of<'a>(policy: &'a str, name: &str) -> Request<'a>
 {
     match ob_name(name) {
         Some(name) => Request::Explain { policy, name },
+        None => Request::Unknown,
+    }
+}
+
+/// What the word `crew`, this policy, this trace and a number of workers ask for.
+fn crewed_by<'a>(policy: &'a str, trace: &'a str, workers: &str) -> Request<'a>
+    ensures { asked result ≡ crewed_by policy.now trace.now workers.now }
+{
+    match workers_in(workers) {
+        Some(workers) => Request::Crew {
+            policy,
+            trace,
+            workers,
+        },
         None => Request::Unknown,
     }
 }

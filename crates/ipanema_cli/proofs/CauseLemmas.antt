@@ -19,6 +19,7 @@ use Rattle.policy_check.specs.declared.reading.Refusal.{Refusal}
 use Rattle.policy_check.specs.declared.reading.Refusal.TheVariants as refusal
 use Rattle.policy_check.specs.declared.verifying.VerifyAnswer.{VerifyAnswer}
 use Rattle.policy_check.specs.declared.verifying.VerifyAnswer.TheVariants as verified
+use Rattle.cert_file.specs.Wrong.{Proves}
 use Rattle.trace_play.specs.declared.answer.PlayAnswer.{PlayAnswer}
 use Rattle.trace_play.specs.declared.answer.PlayAnswer.TheVariants as play_answer
 use Rattle.trace_play.specs.declared.cores.PlayedCores.TheVariants as cores
@@ -34,8 +35,8 @@ use Rattle.trace_simulation.specs.declared.answer.PlayedWaste.TheVariants as was
 use Rattle.trace_simulation.specs.declared.answer.SimulationAnswer.{SimulationAnswer}
 use Rattle.trace_simulation.specs.declared.answer.SimulationAnswer.TheVariants as simulation
 use Rattle.trace_simulation.specs.Simulations.{IsSimulationOf, IsWasteOf}
-use Rattle.ipanema_cli.specs.Answers.{AnswersBound, AnswersCheck, AnswersExplain, AnswersJudging, AnswersPlay, AnswersProve, AnswersVerify, IsAnswer, Judging, Playing, output_of, status_of}
-use Rattle.command_words.specs.Command.{Asked, bench, bound, check, explain, make, migrate, play, prove, replay, report, run, simulate, verify, waste}
+use Rattle.ipanema_cli.specs.Answers.{AnswersBound, AnswersCheck, AnswersExplain, AnswersExport, AnswersJudging, AnswersPlay, AnswersVerify, Exporting, IsAnswer, IsHeader, Judging, Playing, output_of, status_of}
+use Rattle.command_words.specs.Command.{Asked, bench, bound, check, crew, emit, explain, make, migrate, play, prove, replay, report, run, simulate, verify, waste}
 use Rattle.ipanema_cli.specs.Ends.{Ends, answered, unread, no_memory}
 use Rattle.ipanema_cli.specs.Causes.{HasCause, Judges, OneOf, Plays, SaysCrowded, SaysTooLong, Verifies}
 use Rattle.ipanema_cli.specs.Simulations.{AnswersSimulation, Simulating}
@@ -100,7 +101,7 @@ seven (answer.Explained (explained.Explained told)) e = absurd (outcome_low told
 seven (answer.Explained (explained.Unjudged (refusal.Faulty fault))) e = absurd (omega arith)
 seven (answer.Explained (explained.Unjudged (refusal.Crowded name))) e = absurd (omega arith)
 seven (answer.Bounded b) e = absurd (bound_low b 7 (λ h. omega arith) (λ h. omega arith) (λ h. omega arith) (λ h. omega arith) (λ h. omega arith) e)
-seven (answer.Proved certs) e = absurd (omega arith)
+seven (answer.Exported text) e = absurd (omega arith)
 seven (answer.Verified v) e = absurd (verify_low v 7 (λ h. omega arith) (λ h. omega arith) (λ h. omega arith) (λ h. omega arith) e)
 seven (answer.Played (play_answer.Broken fault)) e = absurd (omega arith)
 seven (answer.Played (play_answer.Played (cores.Whole closed))) e = absurd (omega arith)
@@ -129,7 +130,7 @@ eight (answer.Explained (explained.Explained told)) e = absurd (outcome_low told
 eight (answer.Explained (explained.Unjudged (refusal.Faulty fault))) e = absurd (omega arith)
 eight (answer.Explained (explained.Unjudged (refusal.Crowded name))) e = absurd (omega arith)
 eight (answer.Bounded b) e = absurd (bound_low b 8 (λ h. omega arith) (λ h. omega arith) (λ h. omega arith) (λ h. omega arith) (λ h. omega arith) e)
-eight (answer.Proved certs) e = absurd (omega arith)
+eight (answer.Exported text) e = absurd (omega arith)
 eight (answer.Verified v) e = absurd (verify_low v 8 (λ h. omega arith) (λ h. omega arith) (λ h. omega arith) (λ h. omega arith) e)
 eight (answer.Played outcome) e = inl (outcome, refl)
 eight (answer.Simulated s) e = inr (s, refl)
@@ -155,7 +156,7 @@ nine (answer.Explained (explained.Explained told)) e = absurd (outcome_low told.
 nine (answer.Explained (explained.Unjudged (refusal.Faulty fault))) e = absurd (omega arith)
 nine (answer.Explained (explained.Unjudged (refusal.Crowded name))) e = absurd (omega arith)
 nine (answer.Bounded b) e = absurd (bound_low b 9 (λ h. omega arith) (λ h. omega arith) (λ h. omega arith) (λ h. omega arith) (λ h. omega arith) e)
-nine (answer.Proved certs) e = absurd (omega arith)
+nine (answer.Exported text) e = absurd (omega arith)
 nine (answer.Verified v) e = absurd (verify_low v 9 (λ h. omega arith) (λ h. omega arith) (λ h. omega arith) (λ h. omega arith) e)
 nine (answer.Played (play_answer.Broken fault)) e = absurd (omega arith)
 nine (answer.Played (play_answer.Played (cores.Whole closed))) e = absurd (omega arith)
@@ -177,7 +178,7 @@ eleven (answer.Explained (explained.Explained told)) e = absurd (outcome_low tol
 eleven (answer.Explained (explained.Unjudged (refusal.Faulty fault))) e = absurd (omega arith)
 eleven (answer.Explained (explained.Unjudged (refusal.Crowded name))) e = absurd (omega arith)
 eleven (answer.Bounded b) e = absurd (bound_low b 11 (λ h. omega arith) (λ h. omega arith) (λ h. omega arith) (λ h. omega arith) (λ h. omega arith) e)
-eleven (answer.Proved certs) e = absurd (omega arith)
+eleven (answer.Exported text) e = absurd (omega arith)
 eleven (answer.Verified v) e = (v, refl)
 eleven (answer.Played (play_answer.Broken fault)) e = absurd (omega arith)
 eleven (answer.Played (play_answer.Played (cores.Whole closed))) e = absurd (omega arith)
@@ -200,10 +201,12 @@ played_for None told outcome is = absurd is
 played_for (Some (check policy)) told outcome is = absurd is
 played_for (Some (explain policy name)) told outcome is = absurd is
 played_for (Some (prove policy)) told outcome is = absurd is
+played_for (Some (emit policy)) told outcome is = absurd is
 played_for (Some (bound policy)) told outcome is = absurd is
 played_for (Some (verify policy certs)) told outcome is = absurd is
 played_for (Some (play policy trace)) told outcome is = (policy, trace, inl refl)
 played_for (Some (run policy trace)) told outcome is = (policy, trace, inr (inl refl))
+played_for (Some (crew policy trace workers)) told outcome is = (policy, trace, inr (inr (inr (inr (workers, refl)))))
 played_for (Some (simulate policy trace)) told outcome is = absurd is
 played_for (Some (waste policy trace)) told outcome is = absurd is
 played_for (Some (replay policy trace history)) told outcome is = absurd is
@@ -217,12 +220,14 @@ simulated_for None told s is = absurd is
 simulated_for (Some (check policy)) told s is = absurd is
 simulated_for (Some (explain policy name)) told s is = absurd is
 simulated_for (Some (prove policy)) told s is = absurd is
+simulated_for (Some (emit policy)) told s is = absurd is
 simulated_for (Some (bound policy)) told s is = absurd is
 simulated_for (Some (verify policy certs)) told s is = absurd is
 simulated_for (Some (play policy trace)) told s is = absurd is
 simulated_for (Some (run policy trace)) told s is = absurd is
+simulated_for (Some (crew policy trace workers)) told s is = absurd is
 simulated_for (Some (simulate policy trace)) told s is = (policy, trace, inr (inr (inl refl)))
-simulated_for (Some (waste policy trace)) told s is = (policy, trace, inr (inr (inr refl)))
+simulated_for (Some (waste policy trace)) told s is = (policy, trace, inr (inr (inr (inl refl))))
 simulated_for (Some (replay policy trace history)) told s is = absurd is
 simulated_for (Some (report policy trace history)) told s is = absurd is
 simulated_for (Some (migrate policy trace history)) told s is = absurd is
@@ -234,10 +239,12 @@ judged_for None told h is = absurd is
 judged_for (Some (check policy)) told h is = absurd is
 judged_for (Some (explain policy name)) told h is = absurd is
 judged_for (Some (prove policy)) told h is = absurd is
+judged_for (Some (emit policy)) told h is = absurd is
 judged_for (Some (bound policy)) told h is = absurd is
 judged_for (Some (verify policy certs)) told h is = absurd is
 judged_for (Some (play policy trace)) told h is = absurd is
 judged_for (Some (run policy trace)) told h is = absurd is
+judged_for (Some (crew policy trace workers)) told h is = absurd is
 judged_for (Some (simulate policy trace)) told h is = absurd is
 judged_for (Some (waste policy trace)) told h is = absurd is
 judged_for (Some (replay policy trace history)) told h is = (policy, trace, history, inl refl)
@@ -251,10 +258,12 @@ verified_for None told v is = absurd is
 verified_for (Some (check policy)) told v is = absurd is
 verified_for (Some (explain policy name)) told v is = absurd is
 verified_for (Some (prove policy)) told v is = absurd is
+verified_for (Some (emit policy)) told v is = absurd is
 verified_for (Some (bound policy)) told v is = absurd is
 verified_for (Some (verify policy certs)) told v is = (policy, certs, refl)
 verified_for (Some (play policy trace)) told v is = absurd is
 verified_for (Some (run policy trace)) told v is = absurd is
+verified_for (Some (crew policy trace workers)) told v is = absurd is
 verified_for (Some (simulate policy trace)) told v is = absurd is
 verified_for (Some (waste policy trace)) told v is = absurd is
 verified_for (Some (replay policy trace history)) told v is = absurd is
@@ -269,10 +278,12 @@ for_no_command None told is = refl
 for_no_command (Some (check policy)) told is = absurd is
 for_no_command (Some (explain policy name)) told is = absurd is
 for_no_command (Some (prove policy)) told is = absurd is
+for_no_command (Some (emit policy)) told is = absurd is
 for_no_command (Some (bound policy)) told is = absurd is
 for_no_command (Some (verify policy certs)) told is = absurd is
 for_no_command (Some (play policy trace)) told is = absurd is
 for_no_command (Some (run policy trace)) told is = absurd is
+for_no_command (Some (crew policy trace workers)) told is = absurd is
 for_no_command (Some (simulate policy trace)) told is = absurd is
 for_no_command (Some (waste policy trace)) told is = absurd is
 for_no_command (Some (replay policy trace history)) told is = absurd is
@@ -286,7 +297,7 @@ no_command_code : (told : List ℕ → Told) (a : Answer) → IsAnswer None told
 no_command_code told (answer.Checked c) is = absurd is
 no_command_code told (answer.Explained e) is = absurd is
 no_command_code told (answer.Bounded e) is = absurd is
-no_command_code told (answer.Proved certs) is = absurd is
+no_command_code told (answer.Exported text) is = absurd is
 no_command_code told (answer.Verified v) is = absurd is
 no_command_code told (answer.Played outcome) is = absurd is
 no_command_code told (answer.Simulated outcome) is = absurd is
@@ -306,7 +317,7 @@ long_for_check : (policy : Told) (a : Answer) (held : List ℕ) → AnswersCheck
 long_for_check policy (answer.Checked c) held (text, read, is) tells long = absurd (not_read kind.Policy policy text held read tells long)
 long_for_check policy (answer.Explained e) held is tells long = absurd is
 long_for_check policy (answer.Bounded e) held is tells long = absurd is
-long_for_check policy (answer.Proved certs) held is tells long = absurd is
+long_for_check policy (answer.Exported text) held is tells long = absurd is
 long_for_check policy (answer.Verified v) held is tells long = absurd is
 long_for_check policy (answer.Played outcome) held is tells long = absurd is
 long_for_check policy (answer.Simulated outcome) held is tells long = absurd is
@@ -320,7 +331,7 @@ long_for_explain : (policy : Told) (name : ObName) (a : Answer) (held : List ℕ
 long_for_explain policy name (answer.Checked c) held is tells long = absurd is
 long_for_explain policy name (answer.Explained e) held (text, read, is) tells long = absurd (not_read kind.Policy policy text held read tells long)
 long_for_explain policy name (answer.Bounded b) held is tells long = absurd is
-long_for_explain policy name (answer.Proved certs) held is tells long = absurd is
+long_for_explain policy name (answer.Exported text) held is tells long = absurd is
 long_for_explain policy name (answer.Verified v) held is tells long = absurd is
 long_for_explain policy name (answer.Played outcome) held is tells long = absurd is
 long_for_explain policy name (answer.Simulated outcome) held is tells long = absurd is
@@ -334,7 +345,7 @@ long_for_bound : (policy : Told) (a : Answer) (held : List ℕ) → AnswersBound
 long_for_bound policy (answer.Checked c) held is tells long = absurd is
 long_for_bound policy (answer.Explained e) held is tells long = absurd is
 long_for_bound policy (answer.Bounded b) held (text, read, is) tells long = absurd (not_read kind.Policy policy text held read tells long)
-long_for_bound policy (answer.Proved certs) held is tells long = absurd is
+long_for_bound policy (answer.Exported text) held is tells long = absurd is
 long_for_bound policy (answer.Verified v) held is tells long = absurd is
 long_for_bound policy (answer.Played outcome) held is tells long = absurd is
 long_for_bound policy (answer.Simulated outcome) held is tells long = absurd is
@@ -344,25 +355,25 @@ long_for_bound policy (answer.Benched told) held is tells long = absurd is
 long_for_bound policy (answer.TooLong which) held is tells long = refl
 long_for_bound policy answer.BadWords held is tells long = absurd is
 
-long_for_prove : (policy : Told) (a : Answer) (held : List ℕ) → AnswersProve policy a → policy ≡ holds held → room_of kind.Policy < length held → code_of (status_of a) ≡ 10
-long_for_prove policy (answer.Checked c) held is tells long = absurd (not_read kind.Policy policy is.text held is.read tells long)
-long_for_prove policy (answer.Explained e) held is tells long = absurd is
-long_for_prove policy (answer.Bounded e) held is tells long = absurd is
-long_for_prove policy (answer.Proved certs) held is tells long = absurd (not_read kind.Policy policy is.text held is.read tells long)
-long_for_prove policy (answer.Verified v) held is tells long = absurd is
-long_for_prove policy (answer.Played outcome) held is tells long = absurd is
-long_for_prove policy (answer.Simulated outcome) held is tells long = absurd is
-long_for_prove policy (answer.Judged h) held is tells long = absurd is
-long_for_prove policy (answer.Made text) held is tells long = absurd is
-long_for_prove policy (answer.Benched told) held is tells long = absurd is
-long_for_prove policy (answer.TooLong which) held is tells long = refl
-long_for_prove policy answer.BadWords held is tells long = absurd is
+long_for_export : (Is : Exporting) (policy : Told) (a : Answer) (held : List ℕ) → AnswersExport Is policy a → policy ≡ holds held → room_of kind.Policy < length held → code_of (status_of a) ≡ 10
+long_for_export Is policy (answer.Checked c) held is tells long = absurd (not_read kind.Policy policy is.text held is.read tells long)
+long_for_export Is policy (answer.Explained e) held is tells long = absurd is
+long_for_export Is policy (answer.Bounded e) held is tells long = absurd is
+long_for_export Is policy (answer.Exported text) held is tells long = absurd (not_read kind.Policy policy is.text held is.read tells long)
+long_for_export Is policy (answer.Verified v) held is tells long = absurd is
+long_for_export Is policy (answer.Played outcome) held is tells long = absurd is
+long_for_export Is policy (answer.Simulated outcome) held is tells long = absurd is
+long_for_export Is policy (answer.Judged h) held is tells long = absurd is
+long_for_export Is policy (answer.Made text) held is tells long = absurd is
+long_for_export Is policy (answer.Benched told) held is tells long = absurd is
+long_for_export Is policy (answer.TooLong which) held is tells long = refl
+long_for_export Is policy answer.BadWords held is tells long = absurd is
 
 long_policy_for_verify : (policy certs : Told) (a : Answer) (held : List ℕ) → AnswersVerify policy certs a → policy ≡ holds held → room_of kind.Policy < length held → code_of (status_of a) ≡ 10
 long_policy_for_verify policy certs (answer.Checked c) held is tells long = absurd is
 long_policy_for_verify policy certs (answer.Explained e) held is tells long = absurd is
 long_policy_for_verify policy certs (answer.Bounded e) held is tells long = absurd is
-long_policy_for_verify policy certs (answer.Proved text) held is tells long = absurd is
+long_policy_for_verify policy certs (answer.Exported text) held is tells long = absurd is
 long_policy_for_verify policy certs (answer.Verified v) held is tells long = absurd (not_read kind.Policy policy is.text held is.policy_read tells long)
 long_policy_for_verify policy certs (answer.Played outcome) held is tells long = absurd is
 long_policy_for_verify policy certs (answer.Simulated outcome) held is tells long = absurd is
@@ -376,7 +387,7 @@ long_certs_for_verify : (policy certs : Told) (a : Answer) (held : List ℕ) →
 long_certs_for_verify policy certs (answer.Checked c) held is tells long = absurd is
 long_certs_for_verify policy certs (answer.Explained e) held is tells long = absurd is
 long_certs_for_verify policy certs (answer.Bounded e) held is tells long = absurd is
-long_certs_for_verify policy certs (answer.Proved text) held is tells long = absurd is
+long_certs_for_verify policy certs (answer.Exported text) held is tells long = absurd is
 long_certs_for_verify policy certs (answer.Verified v) held is tells long = absurd (not_read kind.Certificates certs is.file held is.certs_read tells long)
 long_certs_for_verify policy certs (answer.Played outcome) held is tells long = absurd is
 long_certs_for_verify policy certs (answer.Simulated outcome) held is tells long = absurd is
@@ -390,7 +401,7 @@ long_for_play : (Is : Playing) (policy trace : Told) (a : Answer) (held : List �
 long_for_play Is policy trace (answer.Checked c) held is tells long = absurd (not_read kind.Policy policy is.text held is.policy_read tells long)
 long_for_play Is policy trace (answer.Explained e) held is tells long = absurd is
 long_for_play Is policy trace (answer.Bounded e) held is tells long = absurd is
-long_for_play Is policy trace (answer.Proved certs) held is tells long = absurd is
+long_for_play Is policy trace (answer.Exported text) held is tells long = absurd is
 long_for_play Is policy trace (answer.Verified v) held is tells long = absurd is
 long_for_play Is policy trace (answer.Played outcome) held is tells long = absurd (not_read kind.Policy policy is.text held is.policy_read tells long)
 long_for_play Is policy trace (answer.Simulated s) held is tells long = absurd is
@@ -404,7 +415,7 @@ long_trace_for_play : (Is : Playing) (policy trace : Told) (a : Answer) (held : 
 long_trace_for_play Is policy trace (answer.Checked c) held is tells long = absurd (not_read kind.Trace trace is.jobs held is.trace_read tells long)
 long_trace_for_play Is policy trace (answer.Explained e) held is tells long = absurd is
 long_trace_for_play Is policy trace (answer.Bounded e) held is tells long = absurd is
-long_trace_for_play Is policy trace (answer.Proved certs) held is tells long = absurd is
+long_trace_for_play Is policy trace (answer.Exported text) held is tells long = absurd is
 long_trace_for_play Is policy trace (answer.Verified v) held is tells long = absurd is
 long_trace_for_play Is policy trace (answer.Played outcome) held is tells long = absurd (not_read kind.Trace trace is.jobs held is.trace_read tells long)
 long_trace_for_play Is policy trace (answer.Simulated s) held is tells long = absurd is
@@ -418,7 +429,7 @@ long_for_simulation : (Is : Simulating) (policy trace : Told) (a : Answer) (held
 long_for_simulation Is policy trace (answer.Checked c) held is tells long = absurd (not_read kind.Policy policy is.text held is.policy_read tells long)
 long_for_simulation Is policy trace (answer.Explained e) held is tells long = absurd is
 long_for_simulation Is policy trace (answer.Bounded e) held is tells long = absurd is
-long_for_simulation Is policy trace (answer.Proved certs) held is tells long = absurd is
+long_for_simulation Is policy trace (answer.Exported text) held is tells long = absurd is
 long_for_simulation Is policy trace (answer.Verified v) held is tells long = absurd is
 long_for_simulation Is policy trace (answer.Simulated s) held is tells long = absurd (not_read kind.Policy policy is.text held is.policy_read tells long)
 long_for_simulation Is policy trace (answer.Played outcome) held is tells long = absurd is
@@ -432,7 +443,7 @@ long_trace_for_simulation : (Is : Simulating) (policy trace : Told) (a : Answer)
 long_trace_for_simulation Is policy trace (answer.Checked c) held is tells long = absurd (not_read kind.Trace trace is.jobs held is.trace_read tells long)
 long_trace_for_simulation Is policy trace (answer.Explained e) held is tells long = absurd is
 long_trace_for_simulation Is policy trace (answer.Bounded e) held is tells long = absurd is
-long_trace_for_simulation Is policy trace (answer.Proved certs) held is tells long = absurd is
+long_trace_for_simulation Is policy trace (answer.Exported text) held is tells long = absurd is
 long_trace_for_simulation Is policy trace (answer.Verified v) held is tells long = absurd is
 long_trace_for_simulation Is policy trace (answer.Simulated s) held is tells long = absurd (not_read kind.Trace trace is.jobs held is.trace_read tells long)
 long_trace_for_simulation Is policy trace (answer.Played outcome) held is tells long = absurd is
@@ -446,7 +457,7 @@ long_policy_of_three : (Is : Judging) (policy trace history : Told) (a : Answer)
 long_policy_of_three Is policy trace history (answer.Checked c) held is tells long = absurd (not_read kind.Policy policy is.text held is.policy_read tells long)
 long_policy_of_three Is policy trace history (answer.Explained e) held is tells long = absurd is
 long_policy_of_three Is policy trace history (answer.Bounded e) held is tells long = absurd is
-long_policy_of_three Is policy trace history (answer.Proved certs) held is tells long = absurd is
+long_policy_of_three Is policy trace history (answer.Exported text) held is tells long = absurd is
 long_policy_of_three Is policy trace history (answer.Verified v) held is tells long = absurd is
 long_policy_of_three Is policy trace history (answer.Played outcome) held is tells long = absurd is
 long_policy_of_three Is policy trace history (answer.Simulated outcome) held is tells long = absurd is
@@ -460,7 +471,7 @@ long_trace_of_three : (Is : Judging) (policy trace history : Told) (a : Answer) 
 long_trace_of_three Is policy trace history (answer.Checked c) held is tells long = absurd (not_read kind.Trace trace is.jobs held is.trace_read tells long)
 long_trace_of_three Is policy trace history (answer.Explained e) held is tells long = absurd is
 long_trace_of_three Is policy trace history (answer.Bounded e) held is tells long = absurd is
-long_trace_of_three Is policy trace history (answer.Proved certs) held is tells long = absurd is
+long_trace_of_three Is policy trace history (answer.Exported text) held is tells long = absurd is
 long_trace_of_three Is policy trace history (answer.Verified v) held is tells long = absurd is
 long_trace_of_three Is policy trace history (answer.Played outcome) held is tells long = absurd is
 long_trace_of_three Is policy trace history (answer.Simulated outcome) held is tells long = absurd is
@@ -474,7 +485,7 @@ long_history_of_three : (Is : Judging) (policy trace history : Told) (a : Answer
 long_history_of_three Is policy trace history (answer.Checked c) held is tells long = absurd (not_read kind.History history is.entries held is.history_read tells long)
 long_history_of_three Is policy trace history (answer.Explained e) held is tells long = absurd is
 long_history_of_three Is policy trace history (answer.Bounded e) held is tells long = absurd is
-long_history_of_three Is policy trace history (answer.Proved certs) held is tells long = absurd is
+long_history_of_three Is policy trace history (answer.Exported text) held is tells long = absurd is
 long_history_of_three Is policy trace history (answer.Verified v) held is tells long = absurd is
 long_history_of_three Is policy trace history (answer.Played outcome) held is tells long = absurd is
 long_history_of_three Is policy trace history (answer.Simulated outcome) held is tells long = absurd is
@@ -504,10 +515,14 @@ long_file (Some (explain policy ob)) told a kind.Policy name held is file tells 
 long_file (Some (explain policy ob)) told a kind.Trace name held is file tells long = absurd file
 long_file (Some (explain policy ob)) told a kind.History name held is file tells long = absurd file
 long_file (Some (explain policy ob)) told a kind.Certificates name held is file tells long = absurd file
-long_file (Some (prove policy)) told a kind.Policy name held is file tells long = long_for_prove (told policy) a held is (sym (ap told file) ∙ tells) long
+long_file (Some (prove policy)) told a kind.Policy name held is file tells long = long_for_export Proves (told policy) a held is (sym (ap told file) ∙ tells) long
 long_file (Some (prove policy)) told a kind.Trace name held is file tells long = absurd file
 long_file (Some (prove policy)) told a kind.History name held is file tells long = absurd file
 long_file (Some (prove policy)) told a kind.Certificates name held is file tells long = absurd file
+long_file (Some (emit policy)) told a kind.Policy name held is file tells long = long_for_export IsHeader (told policy) a held is (sym (ap told file) ∙ tells) long
+long_file (Some (emit policy)) told a kind.Trace name held is file tells long = absurd file
+long_file (Some (emit policy)) told a kind.History name held is file tells long = absurd file
+long_file (Some (emit policy)) told a kind.Certificates name held is file tells long = absurd file
 long_file (Some (bound policy)) told a kind.Policy name held is file tells long = long_for_bound (told policy) a held is (sym (ap told file) ∙ tells) long
 long_file (Some (bound policy)) told a kind.Trace name held is file tells long = absurd file
 long_file (Some (bound policy)) told a kind.History name held is file tells long = absurd file
@@ -524,6 +539,10 @@ long_file (Some (run policy trace)) told a kind.Policy name held is file tells l
 long_file (Some (run policy trace)) told a kind.Trace name held is file tells long = long_trace_for_play IsRunOf (told policy) (told trace) a held is (sym (ap told file) ∙ tells) long
 long_file (Some (run policy trace)) told a kind.History name held is file tells long = absurd file
 long_file (Some (run policy trace)) told a kind.Certificates name held is file tells long = absurd file
+long_file (Some (crew policy trace workers)) told a kind.Policy name held is file tells long = long_for_play IsRunOf (told policy) (told trace) a held is (sym (ap told file) ∙ tells) long
+long_file (Some (crew policy trace workers)) told a kind.Trace name held is file tells long = long_trace_for_play IsRunOf (told policy) (told trace) a held is (sym (ap told file) ∙ tells) long
+long_file (Some (crew policy trace workers)) told a kind.History name held is file tells long = absurd file
+long_file (Some (crew policy trace workers)) told a kind.Certificates name held is file tells long = absurd file
 long_file (Some (simulate policy trace)) told a kind.Policy name held is file tells long = long_for_simulation IsSimulationOf (told policy) (told trace) a held is (sym (ap told file) ∙ tells) long
 long_file (Some (simulate policy trace)) told a kind.Trace name held is file tells long = long_trace_for_simulation IsSimulationOf (told policy) (told trace) a held is (sym (ap told file) ∙ tells) long
 long_file (Some (simulate policy trace)) told a kind.History name held is file tells long = absurd file
@@ -562,6 +581,22 @@ module _ (told : List ℕ → Told) (before after : Option (List ℕ)) where
   ten_of_simulation asked policy trace file Is (checked.Unjudged why) is e added =
       crowded_by asked policy is.text why file is.policy_read is.answers.0 e added
 
+  ten_of_play : (asked : Option Asked) (policy trace : List ℕ) → IsFileOf asked kind.Policy policy → (Is : Playing) (c : CheckAnswer)
+      → AnswersPlay Is (told policy) (told trace) (answer.Checked c) → code_of (check_status c) ≡ 10 → Adds (joined (check_lines c)) before after → SaysCrowded asked told before after
+  ten_of_play asked policy trace file Is (checked.Judged (verdict.Accepted kept)) is e added = absurd (omega arith)
+  ten_of_play asked policy trace file Is (checked.Judged (verdict.Refused answers kept)) is e added = absurd (omega arith)
+  ten_of_play asked policy trace file Is (checked.Judged (verdict.Undecided answers kept)) is e added = absurd (omega arith)
+  ten_of_play asked policy trace file Is (checked.Unjudged why) is e added =
+      crowded_by asked policy is.text why file is.policy_read is.answers.0 e added
+
+  ten_of_export : (asked : Option Asked) (policy : List ℕ) → IsFileOf asked kind.Policy policy → (Is : Exporting) (c : CheckAnswer)
+      → AnswersExport Is (told policy) (answer.Checked c) → code_of (check_status c) ≡ 10 → Adds (joined (check_lines c)) before after → SaysCrowded asked told before after
+  ten_of_export asked policy file Is (checked.Judged (verdict.Accepted kept)) is e added = absurd (omega arith)
+  ten_of_export asked policy file Is (checked.Judged (verdict.Refused answers kept)) is e added = absurd (omega arith)
+  ten_of_export asked policy file Is (checked.Judged (verdict.Undecided answers kept)) is e added = absurd (omega arith)
+  ten_of_export asked policy file Is (checked.Unjudged why) is e added =
+      crowded_by asked policy is.text why file is.read is.answers.0 e added
+
   ten_of_bound : (policy text : List ℕ) (c : CheckAnswer) → MayRead kind.Policy (told policy) text → IsCheckOf text c
       → code_of (check_status c) ≡ 10 → Adds (joined (check_lines c)) before after → SaysCrowded (Some (bound policy)) told before after
   ten_of_bound policy text (checked.Judged (verdict.Accepted kept)) read is e added = absurd (omega arith)
@@ -580,23 +615,18 @@ module _ (told : List ℕ → Told) (before after : Option (List ℕ)) where
   ten (Some (check policy)) (answer.Checked (checked.Unjudged why)) (text, read, is) e added =
       inr (crowded_by (Some (check policy)) policy text why refl read is e added)
   ten (Some (explain policy ob)) (answer.Checked c) is e added = absurd is
-  ten (Some (prove policy)) (answer.Checked (checked.Judged (verdict.Accepted kept))) is e added = absurd (omega arith)
-  ten (Some (prove policy)) (answer.Checked (checked.Judged (verdict.Refused answers kept))) is e added = absurd (omega arith)
-  ten (Some (prove policy)) (answer.Checked (checked.Judged (verdict.Undecided answers kept))) is e added = absurd (omega arith)
-  ten (Some (prove policy)) (answer.Checked (checked.Unjudged why)) is e added =
-      inr (crowded_by (Some (prove policy)) policy is.text why refl is.read is.answers.0 e added)
+  ten (Some (prove policy)) (answer.Checked c) is e added =
+      inr (ten_of_export (Some (prove policy)) policy refl Proves c is e added)
+  ten (Some (emit policy)) (answer.Checked c) is e added =
+      inr (ten_of_export (Some (emit policy)) policy refl IsHeader c is e added)
   ten (Some (bound policy)) (answer.Checked c) is e added = absurd is
   ten (Some (verify policy certs)) (answer.Checked c) is e added = absurd is
-  ten (Some (play policy trace)) (answer.Checked (checked.Judged (verdict.Accepted kept))) is e added = absurd (omega arith)
-  ten (Some (play policy trace)) (answer.Checked (checked.Judged (verdict.Refused answers kept))) is e added = absurd (omega arith)
-  ten (Some (play policy trace)) (answer.Checked (checked.Judged (verdict.Undecided answers kept))) is e added = absurd (omega arith)
-  ten (Some (play policy trace)) (answer.Checked (checked.Unjudged why)) is e added =
-      inr (crowded_by (Some (play policy trace)) policy is.text why refl is.policy_read is.answers.0 e added)
-  ten (Some (run policy trace)) (answer.Checked (checked.Judged (verdict.Accepted kept))) is e added = absurd (omega arith)
-  ten (Some (run policy trace)) (answer.Checked (checked.Judged (verdict.Refused answers kept))) is e added = absurd (omega arith)
-  ten (Some (run policy trace)) (answer.Checked (checked.Judged (verdict.Undecided answers kept))) is e added = absurd (omega arith)
-  ten (Some (run policy trace)) (answer.Checked (checked.Unjudged why)) is e added =
-      inr (crowded_by (Some (run policy trace)) policy is.text why refl is.policy_read is.answers.0 e added)
+  ten (Some (play policy trace)) (answer.Checked c) is e added =
+      inr (ten_of_play (Some (play policy trace)) policy trace refl plays.IsPlayOf c is e added)
+  ten (Some (run policy trace)) (answer.Checked c) is e added =
+      inr (ten_of_play (Some (run policy trace)) policy trace refl IsRunOf c is e added)
+  ten (Some (crew policy trace workers)) (answer.Checked c) is e added =
+      inr (ten_of_play (Some (crew policy trace workers)) policy trace refl IsRunOf c is e added)
   ten (Some (simulate policy trace)) (answer.Checked c) is e added =
       inr (ten_of_simulation (Some (simulate policy trace)) policy trace refl IsSimulationOf c is e added)
   ten (Some (waste policy trace)) (answer.Checked c) is e added =
@@ -619,10 +649,12 @@ module _ (told : List ℕ → Told) (before after : Option (List ℕ)) where
   ten (Some (explain policy ob)) (answer.Explained (explained.Unjudged why)) (text, read, is) e added =
       inr (crowded_by (Some (explain policy ob)) policy text why refl read is e added)
   ten (Some (prove policy)) (answer.Explained told) is e added = absurd is
+  ten (Some (emit policy)) (answer.Explained told) is e added = absurd is
   ten (Some (bound policy)) (answer.Explained told) is e added = absurd is
   ten (Some (verify policy certs)) (answer.Explained told) is e added = absurd is
   ten (Some (play policy trace)) (answer.Explained told) is e added = absurd is
   ten (Some (run policy trace)) (answer.Explained told) is e added = absurd is
+  ten (Some (crew policy trace workers)) (answer.Explained told) is e added = absurd is
   ten (Some (simulate policy trace)) (answer.Explained told) is e added = absurd is
   ten (Some (waste policy trace)) (answer.Explained told) is e added = absurd is
   ten (Some (replay policy trace history)) (answer.Explained told) is e added = absurd is
@@ -634,6 +666,7 @@ module _ (told : List ℕ → Told) (before after : Option (List ℕ)) where
   ten (Some (check policy)) (answer.Bounded told) is e added = absurd is
   ten (Some (explain policy ob)) (answer.Bounded told) is e added = absurd is
   ten (Some (prove policy)) (answer.Bounded told) is e added = absurd is
+  ten (Some (emit policy)) (answer.Bounded told) is e added = absurd is
   ten (Some (bound policy)) (answer.Bounded (bounded.Bounded told)) is e added =
       absurd (outcome_low told.outcome 10 (λ h. omega arith) (λ h. omega arith) (λ h. omega arith) e)
   ten (Some (bound policy)) (answer.Bounded (bounded.Unbounded c)) (text, read, is) e added =
@@ -641,6 +674,7 @@ module _ (told : List ℕ → Told) (before after : Option (List ℕ)) where
   ten (Some (verify policy certs)) (answer.Bounded told) is e added = absurd is
   ten (Some (play policy trace)) (answer.Bounded told) is e added = absurd is
   ten (Some (run policy trace)) (answer.Bounded told) is e added = absurd is
+  ten (Some (crew policy trace workers)) (answer.Bounded told) is e added = absurd is
   ten (Some (simulate policy trace)) (answer.Bounded told) is e added = absurd is
   ten (Some (waste policy trace)) (answer.Bounded told) is e added = absurd is
   ten (Some (replay policy trace history)) (answer.Bounded told) is e added = absurd is
@@ -648,7 +682,7 @@ module _ (told : List ℕ → Told) (before after : Option (List ℕ)) where
   ten (Some (migrate policy trace history)) (answer.Bounded told) is e added = absurd is
   ten (Some (make seed size)) (answer.Bounded told) is e added = absurd is
   ten (Some (bench seed size)) (answer.Bounded told) is e added = absurd is
-  ten asked (answer.Proved certs) is e added = absurd (omega arith)
+  ten asked (answer.Exported text) is e added = absurd (omega arith)
   ten asked (answer.Verified (verified.Verified told_it)) is e added = absurd (omega arith)
   ten asked (answer.Verified (verified.BadLine line)) is e added = absurd (omega arith)
   ten asked (answer.Verified (verified.Wrong name place)) is e added = absurd (omega arith)
@@ -656,9 +690,11 @@ module _ (told : List ℕ → Told) (before after : Option (List ℕ)) where
   ten (Some (check policy)) (answer.Verified (verified.Unjudged why)) is e added = absurd is
   ten (Some (explain policy ob)) (answer.Verified (verified.Unjudged why)) is e added = absurd is
   ten (Some (prove policy)) (answer.Verified (verified.Unjudged why)) is e added = absurd is
+  ten (Some (emit policy)) (answer.Verified (verified.Unjudged why)) is e added = absurd is
   ten (Some (bound policy)) (answer.Verified (verified.Unjudged why)) is e added = absurd is
   ten (Some (play policy trace)) (answer.Verified (verified.Unjudged why)) is e added = absurd is
   ten (Some (run policy trace)) (answer.Verified (verified.Unjudged why)) is e added = absurd is
+  ten (Some (crew policy trace workers)) (answer.Verified (verified.Unjudged why)) is e added = absurd is
   ten (Some (simulate policy trace)) (answer.Verified (verified.Unjudged why)) is e added = absurd is
   ten (Some (waste policy trace)) (answer.Verified (verified.Unjudged why)) is e added = absurd is
   ten (Some (replay policy trace history)) (answer.Verified (verified.Unjudged why)) is e added = absurd is

@@ -1,7 +1,7 @@
 -- Answers, with what they say of the gate and without.
-use Rattle.std.proofs.Common.{◌≢◌, ℕ, List, Option, Some, None, refl}
+use Rattle.std.proofs.Common.{ℕ, List, Option, Some, None}
 use Rattle.sched_io.specs.Told.{Told}
-use Rattle.command_words.specs.Command.{Asked, bench, bound, check, explain, make, migrate, play, prove, replay, report, run, simulate, verify, waste}
+use Rattle.command_words.specs.Command.{Asked, IsSerial, bench, bound, check, crew, emit, explain, make, migrate, play, prove, replay, report, run, simulate, verify, waste}
 use Rattle.trace_run.specs.Runs.{IsGatedRunOf, IsRunOf}
 use Rattle.ipanema_cli.specs.Answers.{AnswersPlay, IsAnswer, IsGatedAnswer}
 use Rattle.ipanema_cli.specs.declared.answers.Answer.{Answer}
@@ -15,7 +15,7 @@ module _ (Passed : ℕ → ℕ → Type 0) where
   plain_run policy trace (answer.Checked c) is = record { text = is.text; jobs = is.jobs; policy_read = is.policy_read; trace_read = is.trace_read; answers = is.answers }
   plain_run policy trace (answer.Explained e) is = absurd is
   plain_run policy trace (answer.Bounded e) is = absurd is
-  plain_run policy trace (answer.Proved certs) is = absurd is
+  plain_run policy trace (answer.Exported text) is = absurd is
   plain_run policy trace (answer.Verified v) is = absurd is
   plain_run policy trace (answer.Played outcome) is = record {
     text = is.text;
@@ -39,10 +39,12 @@ module _ (Passed : ℕ → ℕ → Type 0) where
   plain (Some (check policy)) told a is = is
   plain (Some (explain policy name)) told a is = is
   plain (Some (prove policy)) told a is = is
+  plain (Some (emit policy)) told a is = is
   plain (Some (bound policy)) told a is = is
   plain (Some (verify policy certs)) told a is = is
   plain (Some (play policy trace)) told a is = is
   plain (Some (run policy trace)) told a is = plain_run (told policy) (told trace) a is
+  plain (Some (crew policy trace workers)) told a is = plain_run (told policy) (told trace) a is
   plain (Some (simulate policy trace)) told a is = is
   plain (Some (waste policy trace)) told a is = is
   plain (Some (replay policy trace history)) told a is = is
@@ -51,16 +53,18 @@ module _ (Passed : ℕ → ℕ → Type 0) where
   plain (Some (make seed size)) told a is = is
   plain (Some (bench seed size)) told a is = is
 
-  -- what is no run says nothing of the gate
-  pub ungated : (asked : Option Asked) (told : List ℕ → Told) (a : Answer) → ((policy trace : List ℕ) → asked ≢ Some (run policy trace)) → IsAnswer asked told a → IsGatedAnswer Passed asked told a
+  -- what plays no cores side by side says nothing of the gate
+  pub ungated : (asked : Option Asked) (told : List ℕ → Told) (a : Answer) → IsSerial asked → IsAnswer asked told a → IsGatedAnswer Passed asked told a
   ungated None told a other is = is
   ungated (Some (check policy)) told a other is = is
   ungated (Some (explain policy name)) told a other is = is
   ungated (Some (prove policy)) told a other is = is
+  ungated (Some (emit policy)) told a other is = is
   ungated (Some (bound policy)) told a other is = is
   ungated (Some (verify policy certs)) told a other is = is
   ungated (Some (play policy trace)) told a other is = is
-  ungated (Some (run policy trace)) told a other is = absurd (other policy trace refl)
+  ungated (Some (run policy trace)) told a other is = absurd other
+  ungated (Some (crew policy trace workers)) told a other is = absurd other
   ungated (Some (simulate policy trace)) told a other is = is
   ungated (Some (waste policy trace)) told a other is = is
   ungated (Some (replay policy trace history)) told a other is = is
@@ -81,10 +85,12 @@ module _ (Passed : ℕ → ℕ → Type 0) where
   gated_length (Some (check policy)) told which is = is
   gated_length (Some (explain policy name)) told which is = is
   gated_length (Some (prove policy)) told which is = is
+  gated_length (Some (emit policy)) told which is = is
   gated_length (Some (bound policy)) told which is = is
   gated_length (Some (verify policy certs)) told which is = is
   gated_length (Some (play policy trace)) told which is = is
   gated_length (Some (run policy trace)) told which is = long_run (told policy) (told trace) which is
+  gated_length (Some (crew policy trace workers)) told which is = long_run (told policy) (told trace) which is
   gated_length (Some (simulate policy trace)) told which is = is
   gated_length (Some (waste policy trace)) told which is = is
   gated_length (Some (replay policy trace history)) told which is = is

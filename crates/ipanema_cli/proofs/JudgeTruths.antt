@@ -412,7 +412,7 @@ judges Is Says worth policy trace history before after code (answer.Checked c) t
 ]
 judges Is Says worth policy trace history before after code (answer.Explained told) is writes = absurd is
 judges Is Says worth policy trace history before after code (answer.Bounded told) is writes = absurd is
-judges Is Says worth policy trace history before after code (answer.Proved certs) is writes = absurd is
+judges Is Says worth policy trace history before after code (answer.Exported text) is writes = absurd is
 judges Is Says worth policy trace history before after code (answer.Verified v) is writes = absurd is
 judges Is Says worth policy trace history before after code (answer.Played outcome) is writes = absurd is
 judges Is Says worth policy trace history before after code (answer.Simulated outcome) is writes = absurd is

@@ -4,6 +4,7 @@ pub mod CauseLemmas
 pub mod CheckTruths
 mod Concluding
 pub mod ExplainTruths
+pub mod ExportTruths
 pub mod Failing
 mod GatedAnswers
 pub mod LoadLemmas
@@ -12,10 +13,9 @@ pub mod JudgeTruths
 pub mod MakeTruths
 pub mod PlayTruths
 pub mod RunTruths
-pub mod RunWords
+pub mod SerialWords
 pub mod TraceTruths
 pub mod PolicyFacts
-pub mod ProveTruths
 pub mod SimulationTruths
 pub mod TruthLemmas
 pub mod VerifyTruths

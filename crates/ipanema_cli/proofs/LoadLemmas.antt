@@ -3,7 +3,7 @@ use Rattle.std.proofs.Common.{◌≡◌, ℕ, List, Option, Some, None, subst, s
 use Rattle.sched_io.specs.Loads.{AreRequested, LoadRequest}
 use Rattle.sched_io.specs.Told.{Told}
 use Rattle.sched_io.proofs.WrittenLemmas.{Grows-nil}
-use Rattle.command_words.specs.Command.{Asked, bench, bound, check, explain, make, migrate, play, prove, replay, report, run, simulate, verify, waste}
+use Rattle.command_words.specs.Command.{Asked, bench, bound, check, crew, emit, explain, make, migrate, play, prove, replay, report, run, simulate, verify, waste}
 use Rattle.ipanema_cli.specs.Loads.{FirstAreLoaded, MayGoOn, files_of}
 
 -- none of them is behind one that isn't read
@@ -12,10 +12,12 @@ goes_nowhere None told = tt
 goes_nowhere (Some (check policy)) told = tt
 goes_nowhere (Some (explain policy name)) told = tt
 goes_nowhere (Some (prove policy)) told = tt
+goes_nowhere (Some (emit policy)) told = tt
 goes_nowhere (Some (bound policy)) told = tt
 goes_nowhere (Some (verify policy certs)) told = λ more. absurd (omega arith)
 goes_nowhere (Some (play policy trace)) told = λ more. absurd (omega arith)
 goes_nowhere (Some (run policy trace)) told = λ more. absurd (omega arith)
+goes_nowhere (Some (crew policy trace workers)) told = λ more. absurd (omega arith)
 goes_nowhere (Some (simulate policy trace)) told = λ more. absurd (omega arith)
 goes_nowhere (Some (waste policy trace)) told = λ more. absurd (omega arith)
 goes_nowhere (Some (replay policy trace history)) told = record { policy_read = λ more. absurd (omega arith); trace_read = λ more. absurd (omega arith) }

@@ -104,7 +104,7 @@ pub answer_code : (a : Answer) → AnswerCode (code_of (status_of a))
 answer_code (answer.Checked c) = check_code c
 answer_code (answer.Explained e) = explain_code e
 answer_code (answer.Bounded b) = bound_code b
-answer_code (answer.Proved certs) = is_0 refl
+answer_code (answer.Exported text) = is_0 refl
 answer_code (answer.Verified v) = verify_code v
 answer_code (answer.Played p) = play_code p
 answer_code (answer.Simulated s) = simulation_code s

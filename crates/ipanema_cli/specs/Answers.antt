@@ -19,6 +19,7 @@ use Rattle.policy_check.specs.TextLines.{lines_in}
 use Rattle.policy_check.specs.Verifying.{IsVerifyOf, verify_line}
 use Rattle.policy_check.specs.declared.verifying.VerifyAnswer.{VerifyAnswer}
 use Rattle.cert_file.specs.Wrong.{Proves}
+use Rattle.c_printer.specs.CText.{c_text}
 use Rattle.sched_io.specs.Puts.{joined}
 use Rattle.sched_io.specs.Told.{Told}
 use Rattle.trace_maker.specs.Made.{made}
@@ -36,16 +37,18 @@ use Rattle.history_replay.specs.Lines as histories
 use Rattle.fair_policy.specs.Fair.{fair_meaning}
 use Rattle.bench_play.specs.Bench.{IsBench}
 use Rattle.bench_play.specs.Lines.{bench_lines}
-use Rattle.command_words.specs.Command.{Asked, bench, bound, check, explain, make, migrate, play, prove, replay}
-use Rattle.command_words.specs.Command.{report, run, simulate, verify, waste}
-use Rattle.ipanema_cli.specs.Simulations.{AnswersSimulation}
+use Rattle.command_words.specs.Command.{Asked, bench, bound, check, crew, emit, explain, make, migrate, play}
+use Rattle.command_words.specs.Command.{prove, replay, report, run, simulate, verify, waste}
+use Rattle.ipanema_cli.specs.Simulations.{AnswersSimulation, IsTooLongOfOne, IsTooLongOfTwo}
 use Rattle.ipanema_cli.specs.Status.{bound_status, check_status, explain_status, history_status, simulation_status}
 use Rattle.ipanema_cli.specs.Status.{verify_status}
 use Rattle.ipanema_cli.specs.Texts.{MayBeLong, MayRead, too_long_line}
 use Rattle.ipanema_cli.specs.declared.answers.Answer.{Answer}
 use Rattle.ipanema_cli.specs.declared.answers.Answer.TheVariants as answer
-use Rattle.ipanema_cli.specs.declared.answers.HistoryCommand.{HistoryCommand}
-use Rattle.ipanema_cli.specs.declared.answers.HistoryCommand.TheVariants as history_command
+use Rattle.ipanema_cli.specs.declared.kinds.ExportCommand.{ExportCommand}
+use Rattle.ipanema_cli.specs.declared.kinds.ExportCommand.TheVariants as export_command
+use Rattle.ipanema_cli.specs.declared.kinds.HistoryCommand.{HistoryCommand}
+use Rattle.ipanema_cli.specs.declared.kinds.HistoryCommand.TheVariants as history_command
 use Rattle.ipanema_cli.specs.declared.status.Status.{Status}
 use Rattle.ipanema_cli.specs.declared.status.Status.TheVariants as status
 use Rattle.ipanema_cli.specs.declared.texts.TextKind.{TextKind}
@@ -56,7 +59,7 @@ abbrev pub lines_of : Answer → List (List ℕ)
 lines_of (answer.Checked c) = check_lines c
 lines_of (answer.Explained e) = explain_lines e
 lines_of (answer.Bounded b) = bound_lines b
-lines_of (answer.Proved certs) = lines_in certs.items
+lines_of (answer.Exported text) = lines_in text.items
 lines_of (answer.Verified v) = verify_line v ∷ []
 lines_of (answer.Played outcome) = plays.lines_of outcome
 lines_of (answer.Simulated outcome) = simulations.lines_of outcome
@@ -81,7 +84,7 @@ abbrev pub status_of : Answer → Status
 status_of (answer.Checked c) = check_status c
 status_of (answer.Explained e) = explain_status e
 status_of (answer.Bounded b) = bound_status b
-status_of (answer.Proved certs) = status.Done
+status_of (answer.Exported text) = status.Done
 status_of (answer.Verified v) = verify_status v
 status_of (answer.Played outcome) = play_status outcome
 status_of (answer.Simulated outcome) = simulation_status outcome
@@ -96,7 +99,7 @@ abbrev pub CanBePut : Answer → Type 0
 CanBePut (answer.Checked c) = Unit {0}
 CanBePut (answer.Explained e) = Unit {0}
 CanBePut (answer.Bounded b) = Unit {0}
-CanBePut (answer.Proved certs) = Unit {0}
+CanBePut (answer.Exported text) = Unit {0}
 CanBePut (answer.Verified v) = Unit {0}
 CanBePut (answer.Played outcome) = plays.IsShown outcome
 CanBePut (answer.Simulated outcome) = IsShown outcome
@@ -124,7 +127,7 @@ abbrev pub AnswersWords : Answer → Type 0
 AnswersWords (answer.Checked c) = ⊥
 AnswersWords (answer.Explained e) = ⊥
 AnswersWords (answer.Bounded b) = ⊥
-AnswersWords (answer.Proved certs) = ⊥
+AnswersWords (answer.Exported text) = ⊥
 AnswersWords (answer.Verified v) = ⊥
 AnswersWords (answer.Played outcome) = ⊥
 AnswersWords (answer.Simulated outcome) = ⊥
@@ -140,17 +143,14 @@ AnswersCheck policy (answer.Checked c) = (text : List ℕ) × MayRead kind.Polic
     × IsCheckOf text c
 AnswersCheck policy (answer.Explained e) = ⊥
 AnswersCheck policy (answer.Bounded b) = ⊥
-AnswersCheck policy (answer.Proved certs) = ⊥
+AnswersCheck policy (answer.Exported text) = ⊥
 AnswersCheck policy (answer.Verified v) = ⊥
 AnswersCheck policy (answer.Played outcome) = ⊥
 AnswersCheck policy (answer.Simulated outcome) = ⊥
 AnswersCheck policy (answer.Judged outcome) = ⊥
 AnswersCheck policy (answer.Made text) = ⊥
 AnswersCheck policy (answer.Benched told) = ⊥
-AnswersCheck policy (answer.TooLong kind.Policy) = MayBeLong kind.Policy policy
-AnswersCheck policy (answer.TooLong kind.Trace) = ⊥
-AnswersCheck policy (answer.TooLong kind.History) = ⊥
-AnswersCheck policy (answer.TooLong kind.Certificates) = ⊥
+AnswersCheck policy (answer.TooLong which) = IsTooLongOfOne policy which
 AnswersCheck policy answer.BadWords = ⊥
 
 -- the answer of `explain` to a file of which this is told, for the obligation of that name
@@ -159,17 +159,14 @@ AnswersExplain policy name (answer.Checked c) = ⊥
 AnswersExplain policy name (answer.Explained e) = (text : List ℕ) × MayRead kind.Policy policy text
     × IsExplainOf text name e
 AnswersExplain policy name (answer.Bounded b) = ⊥
-AnswersExplain policy name (answer.Proved certs) = ⊥
+AnswersExplain policy name (answer.Exported text) = ⊥
 AnswersExplain policy name (answer.Verified v) = ⊥
 AnswersExplain policy name (answer.Played outcome) = ⊥
 AnswersExplain policy name (answer.Simulated outcome) = ⊥
 AnswersExplain policy name (answer.Judged outcome) = ⊥
 AnswersExplain policy name (answer.Made text) = ⊥
 AnswersExplain policy name (answer.Benched told) = ⊥
-AnswersExplain policy name (answer.TooLong kind.Policy) = MayBeLong kind.Policy policy
-AnswersExplain policy name (answer.TooLong kind.Trace) = ⊥
-AnswersExplain policy name (answer.TooLong kind.History) = ⊥
-AnswersExplain policy name (answer.TooLong kind.Certificates) = ⊥
+AnswersExplain policy name (answer.TooLong which) = IsTooLongOfOne policy which
 AnswersExplain policy name answer.BadWords = ⊥
 
 -- the answer of `bound` to a file of which this is told
@@ -177,57 +174,65 @@ abbrev pub AnswersBound : Told → Answer → Type 0
 AnswersBound policy (answer.Checked c) = ⊥
 AnswersBound policy (answer.Explained e) = ⊥
 AnswersBound policy (answer.Bounded b) = (text : List ℕ) × MayRead kind.Policy policy text × IsBoundOf text b
-AnswersBound policy (answer.Proved certs) = ⊥
+AnswersBound policy (answer.Exported text) = ⊥
 AnswersBound policy (answer.Verified v) = ⊥
 AnswersBound policy (answer.Played outcome) = ⊥
 AnswersBound policy (answer.Simulated outcome) = ⊥
 AnswersBound policy (answer.Judged outcome) = ⊥
 AnswersBound policy (answer.Made text) = ⊥
 AnswersBound policy (answer.Benched told) = ⊥
-AnswersBound policy (answer.TooLong kind.Policy) = MayBeLong kind.Policy policy
-AnswersBound policy (answer.TooLong kind.Trace) = ⊥
-AnswersBound policy (answer.TooLong kind.History) = ⊥
-AnswersBound policy (answer.TooLong kind.Certificates) = ⊥
+AnswersBound policy (answer.TooLong which) = IsTooLongOfOne policy which
 AnswersBound policy answer.BadWords = ⊥
 
--- the answer of `prove` to a policy's text: where the policy isn't accepted, that of `check`
-abbrev pub IsProvingOfText : List ℕ → Answer → Type 0
-IsProvingOfText policy (answer.Checked c) = IsCheckOf policy c × IsFalse (accepts c)
-IsProvingOfText policy (answer.Explained e) = ⊥
-IsProvingOfText policy (answer.Bounded b) = ⊥
-IsProvingOfText policy (answer.Proved certs) = (p : Meaning) × IsAccepted policy p × Proves p certs.items
-IsProvingOfText policy (answer.Verified v) = ⊥
-IsProvingOfText policy (answer.Played outcome) = ⊥
-IsProvingOfText policy (answer.Simulated outcome) = ⊥
-IsProvingOfText policy (answer.Judged outcome) = ⊥
-IsProvingOfText policy (answer.Made text) = ⊥
-IsProvingOfText policy (answer.Benched told) = ⊥
-IsProvingOfText policy (answer.TooLong which) = ⊥
-IsProvingOfText policy answer.BadWords = ⊥
+-- a command that writes a text of an accepted policy: which text that may be
+abbrev pub Exporting : Type 1
+Exporting = Meaning → (text : List ℕ) → Type 0
 
--- The policy's file is read, and may hold this text, to which that is the answer of `prove`.
-pub record ProvesText (policy : Told) (a : Answer) : Type 0 where
-  pub text : List ℕ
-  pub read : MayRead kind.Policy policy text
-  pub answers : IsProvingOfText text a
+-- the text is the policy's header in C
+abbrev pub IsHeader : Exporting
+IsHeader p text = text ≡ c_text p
 
--- the answer of `prove` to a file of which this is told
-abbrev pub AnswersProve : Told → Answer → Type 0
-AnswersProve policy (answer.Checked c) = ProvesText policy (answer.Checked c)
-AnswersProve policy (answer.Explained e) = ⊥
-AnswersProve policy (answer.Bounded b) = ⊥
-AnswersProve policy (answer.Proved certs) = ProvesText policy (answer.Proved certs)
-AnswersProve policy (answer.Verified v) = ⊥
-AnswersProve policy (answer.Played outcome) = ⊥
-AnswersProve policy (answer.Simulated outcome) = ⊥
-AnswersProve policy (answer.Judged outcome) = ⊥
-AnswersProve policy (answer.Made text) = ⊥
-AnswersProve policy (answer.Benched told) = ⊥
-AnswersProve policy (answer.TooLong kind.Policy) = MayBeLong kind.Policy policy
-AnswersProve policy (answer.TooLong kind.Trace) = ⊥
-AnswersProve policy (answer.TooLong kind.History) = ⊥
-AnswersProve policy (answer.TooLong kind.Certificates) = ⊥
-AnswersProve policy answer.BadWords = ⊥
+-- what each of them may write
+abbrev pub exporting_of : ExportCommand → Exporting
+exporting_of export_command.Prove = Proves
+exporting_of export_command.Emit = IsHeader
+
+module _ (Is : Exporting) where
+  -- the command's answer to a policy's text: where the policy isn't accepted, that of `check`
+  abbrev pub IsExportOfText : List ℕ → Answer → Type 0
+  IsExportOfText policy (answer.Checked c) = IsCheckOf policy c × IsFalse (accepts c)
+  IsExportOfText policy (answer.Explained e) = ⊥
+  IsExportOfText policy (answer.Bounded b) = ⊥
+  IsExportOfText policy (answer.Exported text) = (p : Meaning) × IsAccepted policy p × Is p text.items
+  IsExportOfText policy (answer.Verified v) = ⊥
+  IsExportOfText policy (answer.Played outcome) = ⊥
+  IsExportOfText policy (answer.Simulated outcome) = ⊥
+  IsExportOfText policy (answer.Judged outcome) = ⊥
+  IsExportOfText policy (answer.Made text) = ⊥
+  IsExportOfText policy (answer.Benched told) = ⊥
+  IsExportOfText policy (answer.TooLong which) = ⊥
+  IsExportOfText policy answer.BadWords = ⊥
+
+  -- The policy's file is read, and may hold this text, to which that is the command's answer.
+  pub record ExportsText (policy : Told) (a : Answer) : Type 0 where
+    pub text : List ℕ
+    pub read : MayRead kind.Policy policy text
+    pub answers : IsExportOfText text a
+
+  -- the command's answer to a file of which this is told
+  abbrev pub AnswersExport : Told → Answer → Type 0
+  AnswersExport policy (answer.Checked c) = ExportsText policy (answer.Checked c)
+  AnswersExport policy (answer.Explained e) = ⊥
+  AnswersExport policy (answer.Bounded b) = ⊥
+  AnswersExport policy (answer.Exported text) = ExportsText policy (answer.Exported text)
+  AnswersExport policy (answer.Verified v) = ⊥
+  AnswersExport policy (answer.Played outcome) = ⊥
+  AnswersExport policy (answer.Simulated outcome) = ⊥
+  AnswersExport policy (answer.Judged outcome) = ⊥
+  AnswersExport policy (answer.Made text) = ⊥
+  AnswersExport policy (answer.Benched told) = ⊥
+  AnswersExport policy (answer.TooLong which) = IsTooLongOfOne policy which
+  AnswersExport policy answer.BadWords = ⊥
 
 -- Both files are read, and may hold these texts, to which that is the answer of `verify`.
 pub record VerifiesTexts (policy certs : Told) (v : VerifyAnswer) : Type 0 where
@@ -242,7 +247,7 @@ abbrev pub AnswersVerify : (policy certs : Told) → Answer → Type 0
 AnswersVerify policy certs (answer.Checked c) = ⊥
 AnswersVerify policy certs (answer.Explained e) = ⊥
 AnswersVerify policy certs (answer.Bounded b) = ⊥
-AnswersVerify policy certs (answer.Proved text) = ⊥
+AnswersVerify policy certs (answer.Exported text) = ⊥
 AnswersVerify policy certs (answer.Verified v) = VerifiesTexts policy certs v
 AnswersVerify policy certs (answer.Played outcome) = ⊥
 AnswersVerify policy certs (answer.Simulated outcome) = ⊥
@@ -266,7 +271,7 @@ module _ (Is : Playing) where
   IsPlayOfTexts policy trace (answer.Checked c) = IsCheckOf policy c × IsFalse (accepts c)
   IsPlayOfTexts policy trace (answer.Explained e) = ⊥
   IsPlayOfTexts policy trace (answer.Bounded b) = ⊥
-  IsPlayOfTexts policy trace (answer.Proved certs) = ⊥
+  IsPlayOfTexts policy trace (answer.Exported text) = ⊥
   IsPlayOfTexts policy trace (answer.Verified v) = ⊥
   IsPlayOfTexts policy trace (answer.Played outcome) = (p : Meaning) × IsAccepted policy p × Is p trace outcome
   IsPlayOfTexts policy trace (answer.Simulated outcome) = ⊥
@@ -289,18 +294,14 @@ module _ (Is : Playing) where
   AnswersPlay policy trace (answer.Checked c) = PlaysTexts policy trace (answer.Checked c)
   AnswersPlay policy trace (answer.Explained e) = ⊥
   AnswersPlay policy trace (answer.Bounded b) = ⊥
-  AnswersPlay policy trace (answer.Proved certs) = ⊥
+  AnswersPlay policy trace (answer.Exported text) = ⊥
   AnswersPlay policy trace (answer.Verified v) = ⊥
   AnswersPlay policy trace (answer.Played outcome) = PlaysTexts policy trace (answer.Played outcome)
   AnswersPlay policy trace (answer.Simulated outcome) = ⊥
   AnswersPlay policy trace (answer.Judged outcome) = ⊥
   AnswersPlay policy trace (answer.Made text) = ⊥
   AnswersPlay policy trace (answer.Benched told) = ⊥
-  AnswersPlay policy trace (answer.TooLong kind.Policy) = MayBeLong kind.Policy policy
-  AnswersPlay policy trace (answer.TooLong kind.Trace) =
-      ((text : List ℕ) × MayRead kind.Policy policy text) × MayBeLong kind.Trace trace
-  AnswersPlay policy trace (answer.TooLong kind.History) = ⊥
-  AnswersPlay policy trace (answer.TooLong kind.Certificates) = ⊥
+  AnswersPlay policy trace (answer.TooLong which) = IsTooLongOfTwo policy trace which
   AnswersPlay policy trace answer.BadWords = ⊥
 
 -- Of the three files of a command that judges a history that one may be too long, and those before it are read.
@@ -328,7 +329,7 @@ module _ (Is : Judging) where
   IsJudgingOfTexts policy trace history (answer.Checked c) = IsCheckOf policy c × IsFalse (accepts c)
   IsJudgingOfTexts policy trace history (answer.Explained e) = ⊥
   IsJudgingOfTexts policy trace history (answer.Bounded b) = ⊥
-  IsJudgingOfTexts policy trace history (answer.Proved certs) = ⊥
+  IsJudgingOfTexts policy trace history (answer.Exported text) = ⊥
   IsJudgingOfTexts policy trace history (answer.Verified v) = ⊥
   IsJudgingOfTexts policy trace history (answer.Played outcome) = ⊥
   IsJudgingOfTexts policy trace history (answer.Simulated outcome) = ⊥
@@ -354,7 +355,7 @@ module _ (Is : Judging) where
   AnswersJudging policy trace history (answer.Checked c) = JudgesTexts policy trace history (answer.Checked c)
   AnswersJudging policy trace history (answer.Explained e) = ⊥
   AnswersJudging policy trace history (answer.Bounded b) = ⊥
-  AnswersJudging policy trace history (answer.Proved certs) = ⊥
+  AnswersJudging policy trace history (answer.Exported text) = ⊥
   AnswersJudging policy trace history (answer.Verified v) = ⊥
   AnswersJudging policy trace history (answer.Played outcome) = ⊥
   AnswersJudging policy trace history (answer.Simulated outcome) = ⊥
@@ -369,7 +370,7 @@ abbrev pub AnswersMake : (seed size : ℕ) → Answer → Type 0
 AnswersMake seed size (answer.Checked c) = ⊥
 AnswersMake seed size (answer.Explained e) = ⊥
 AnswersMake seed size (answer.Bounded b) = ⊥
-AnswersMake seed size (answer.Proved certs) = ⊥
+AnswersMake seed size (answer.Exported text) = ⊥
 AnswersMake seed size (answer.Verified v) = ⊥
 AnswersMake seed size (answer.Played outcome) = ⊥
 AnswersMake seed size (answer.Simulated outcome) = ⊥
@@ -391,7 +392,7 @@ abbrev pub AnswersBench : (seed size : ℕ) → Answer → Type 0
 AnswersBench seed size (answer.Checked c) = IsFairVerdict c
 AnswersBench seed size (answer.Explained e) = ⊥
 AnswersBench seed size (answer.Bounded b) = ⊥
-AnswersBench seed size (answer.Proved certs) = ⊥
+AnswersBench seed size (answer.Exported text) = ⊥
 AnswersBench seed size (answer.Verified v) = ⊥
 AnswersBench seed size (answer.Played outcome) = ⊥
 AnswersBench seed size (answer.Simulated outcome) = ⊥
@@ -406,11 +407,13 @@ abbrev pub IsAnswer : Option Asked → (List ℕ → Told) → Answer → Type 0
 IsAnswer None told a = AnswersWords a
 IsAnswer (Some (check policy)) told a = AnswersCheck (told policy) a
 IsAnswer (Some (explain policy name)) told a = AnswersExplain (told policy) name a
-IsAnswer (Some (prove policy)) told a = AnswersProve (told policy) a
+IsAnswer (Some (prove policy)) told a = AnswersExport Proves (told policy) a
+IsAnswer (Some (emit policy)) told a = AnswersExport IsHeader (told policy) a
 IsAnswer (Some (bound policy)) told a = AnswersBound (told policy) a
 IsAnswer (Some (verify policy certs)) told a = AnswersVerify (told policy) (told certs) a
 IsAnswer (Some (play policy trace)) told a = AnswersPlay plays.IsPlayOf (told policy) (told trace) a
 IsAnswer (Some (run policy trace)) told a = AnswersPlay IsRunOf (told policy) (told trace) a
+IsAnswer (Some (crew policy trace workers)) told a = AnswersPlay IsRunOf (told policy) (told trace) a
 IsAnswer (Some (simulate policy trace)) told a = AnswersSimulation IsSimulationOf (told policy) (told trace) a
 IsAnswer (Some (waste policy trace)) told a = AnswersSimulation IsWasteOf (told policy) (told trace) a
 IsAnswer (Some (replay policy trace history)) told a =
@@ -425,5 +428,7 @@ IsAnswer (Some (bench seed size)) told a = AnswersBench seed size a
 -- and where it is a history that was run, each core of the plan passed the gate in each round of it
 abbrev pub IsGatedAnswer : (Passed : ℕ → ℕ → Type 0) → Option Asked → (List ℕ → Told) → Answer → Type 0
 IsGatedAnswer Passed (Some (run policy trace)) told a =
+    AnswersPlay (IsGatedRunOf Passed) (told policy) (told trace) a
+IsGatedAnswer Passed (Some (crew policy trace workers)) told a =
     AnswersPlay (IsGatedRunOf Passed) (told policy) (told trace) a
 IsGatedAnswer Passed asked told a = IsAnswer asked told a

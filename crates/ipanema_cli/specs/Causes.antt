@@ -10,7 +10,7 @@ use Rattle.policy_check.specs.Checks.{IsCrowded}
 use Rattle.policy_check.specs.Lines.{refusal_line}
 use Rattle.policy_check.specs.declared.reading.Refusal.TheVariants.{Crowded}
 use Rattle.ipanema_cli.specs.Answers.{IsAnswer, lines_of}
-use Rattle.command_words.specs.Command.{Asked, migrate, play, replay, report, run, simulate, verify, waste}
+use Rattle.command_words.specs.Command.{Asked, crew, migrate, play, replay, report, run, simulate, verify, waste}
 use Rattle.ipanema_cli.specs.Loads.{IsFileOf}
 use Rattle.ipanema_cli.specs.Stops.{IsUnread}
 use Rattle.ipanema_cli.specs.Texts.{MayRead, room_of, too_long_line}
@@ -47,7 +47,8 @@ Judges asked = (policy trace history : List ℕ) × ((asked ≡ Some (replay pol
 -- the command plays a trace
 abbrev pub Plays : Option Asked → Type 0
 Plays asked = (policy trace : List ℕ) × ((asked ≡ Some (play policy trace)) ⊎ ((asked ≡ Some (run policy trace))
-    ⊎ ((asked ≡ Some (simulate policy trace)) ⊎ (asked ≡ Some (waste policy trace)))))
+    ⊎ ((asked ≡ Some (simulate policy trace)) ⊎ ((asked ≡ Some (waste policy trace))
+    ⊎ ((workers : ℕ) × (asked ≡ Some (crew policy trace workers)))))))
 
 -- the command verifies certificates
 abbrev pub Verifies : Option Asked → Type 0

@@ -5,10 +5,10 @@ pub mod Causes
 pub mod CheckTruths
 pub mod Ends
 pub mod ExplainTruths
+pub mod ExportTruths
 pub mod JudgeTruths
 pub mod Loads
 pub mod MakeTruths
-pub mod ProveTruths
 pub mod Simulations
 pub mod SimulationTruths
 pub mod Status

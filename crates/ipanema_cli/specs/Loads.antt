@@ -2,8 +2,8 @@
 use Rattle.std.specs.Prelude.{◌≡◌, ℕ, ◌<◌, List, [], ◌∷◌, Option, Some, None, take}
 use Rattle.sched_io.specs.Loads.{AreRequested, LoadRequest, load_request}
 use Rattle.sched_io.specs.Told.{Told}
-use Rattle.command_words.specs.Command.{Asked, bench, bound, check, explain, make, migrate, play, prove, replay}
-use Rattle.command_words.specs.Command.{report, run, simulate, verify, waste}
+use Rattle.command_words.specs.Command.{Asked, bench, bound, check, crew, emit, explain, make, migrate, play}
+use Rattle.command_words.specs.Command.{prove, replay, report, run, simulate, verify, waste}
 use Rattle.ipanema_cli.specs.Texts.{MayRead, room_of}
 use Rattle.ipanema_cli.specs.declared.texts.TextKind.{TextKind}
 use Rattle.ipanema_cli.specs.declared.texts.TextKind.TheVariants as kind
@@ -30,6 +30,10 @@ IsFileOf (Some (prove policy)) kind.Policy name = name ≡ policy
 IsFileOf (Some (prove policy)) kind.Trace name = ⊥
 IsFileOf (Some (prove policy)) kind.History name = ⊥
 IsFileOf (Some (prove policy)) kind.Certificates name = ⊥
+IsFileOf (Some (emit policy)) kind.Policy name = name ≡ policy
+IsFileOf (Some (emit policy)) kind.Trace name = ⊥
+IsFileOf (Some (emit policy)) kind.History name = ⊥
+IsFileOf (Some (emit policy)) kind.Certificates name = ⊥
 IsFileOf (Some (bound policy)) kind.Policy name = name ≡ policy
 IsFileOf (Some (bound policy)) kind.Trace name = ⊥
 IsFileOf (Some (bound policy)) kind.History name = ⊥
@@ -46,6 +50,10 @@ IsFileOf (Some (run policy trace)) kind.Policy name = name ≡ policy
 IsFileOf (Some (run policy trace)) kind.Trace name = name ≡ trace
 IsFileOf (Some (run policy trace)) kind.History name = ⊥
 IsFileOf (Some (run policy trace)) kind.Certificates name = ⊥
+IsFileOf (Some (crew policy trace workers)) kind.Policy name = name ≡ policy
+IsFileOf (Some (crew policy trace workers)) kind.Trace name = name ≡ trace
+IsFileOf (Some (crew policy trace workers)) kind.History name = ⊥
+IsFileOf (Some (crew policy trace workers)) kind.Certificates name = ⊥
 IsFileOf (Some (simulate policy trace)) kind.Policy name = name ≡ policy
 IsFileOf (Some (simulate policy trace)) kind.Trace name = name ≡ trace
 IsFileOf (Some (simulate policy trace)) kind.History name = ⊥
@@ -74,16 +82,22 @@ abbrev pub certified_files : (policy certs : List ℕ) → List LoadRequest
 certified_files policy certs =
     load_request policy (room_of kind.Policy) ∷ load_request certs (room_of kind.Certificates) ∷ []
 
+-- and the one of a command on a policy alone
+abbrev pub one_file : (policy : List ℕ) → List LoadRequest
+one_file policy = load_request policy (room_of kind.Policy) ∷ []
+
 -- the files of a command, each with the most bytes that it may have
 abbrev pub files_of : Option Asked → List LoadRequest
 files_of None = []
-files_of (Some (check policy)) = load_request policy (room_of kind.Policy) ∷ []
-files_of (Some (explain policy name)) = load_request policy (room_of kind.Policy) ∷ []
-files_of (Some (prove policy)) = load_request policy (room_of kind.Policy) ∷ []
-files_of (Some (bound policy)) = load_request policy (room_of kind.Policy) ∷ []
+files_of (Some (check policy)) = one_file policy
+files_of (Some (explain policy name)) = one_file policy
+files_of (Some (prove policy)) = one_file policy
+files_of (Some (emit policy)) = one_file policy
+files_of (Some (bound policy)) = one_file policy
 files_of (Some (verify policy certs)) = certified_files policy certs
 files_of (Some (play policy trace)) = two_files policy trace
 files_of (Some (run policy trace)) = two_files policy trace
+files_of (Some (crew policy trace workers)) = two_files policy trace
 files_of (Some (simulate policy trace)) = two_files policy trace
 files_of (Some (waste policy trace)) = two_files policy trace
 files_of (Some (replay policy trace history)) = three_files policy trace history
@@ -123,6 +137,7 @@ MayGoOn None told count = Unit {0}
 MayGoOn (Some (check policy)) told count = Unit {0}
 MayGoOn (Some (explain policy name)) told count = Unit {0}
 MayGoOn (Some (prove policy)) told count = Unit {0}
+MayGoOn (Some (emit policy)) told count = Unit {0}
 MayGoOn (Some (bound policy)) told count = Unit {0}
 MayGoOn (Some (verify policy certs)) told count = GoesOnOfTwo (told policy) count
 MayGoOn (Some (replay policy trace history)) told count =
@@ -135,6 +150,7 @@ MayGoOn (Some (make seed size)) told count = Unit {0}
 MayGoOn (Some (bench seed size)) told count = Unit {0}
 MayGoOn (Some (play policy trace)) told count = GoesOnOfTwo (told policy) count
 MayGoOn (Some (run policy trace)) told count = GoesOnOfTwo (told policy) count
+MayGoOn (Some (crew policy trace workers)) told count = GoesOnOfTwo (told policy) count
 MayGoOn (Some (simulate policy trace)) told count = GoesOnOfTwo (told policy) count
 MayGoOn (Some (waste policy trace)) told count = GoesOnOfTwo (told policy) count
 

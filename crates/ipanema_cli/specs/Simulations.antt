@@ -14,8 +14,8 @@ use Rattle.trace_simulation.specs.Simulations.{IsSimulationOf, IsWasteOf}
 use Rattle.ipanema_cli.specs.Texts.{MayBeLong, MayRead}
 use Rattle.ipanema_cli.specs.declared.answers.Answer.{Answer}
 use Rattle.ipanema_cli.specs.declared.answers.Answer.TheVariants as answer
-use Rattle.ipanema_cli.specs.declared.answers.SimulationCommand.{SimulationCommand}
-use Rattle.ipanema_cli.specs.declared.answers.SimulationCommand.TheVariants as simulation_command
+use Rattle.ipanema_cli.specs.declared.kinds.SimulationCommand.{SimulationCommand}
+use Rattle.ipanema_cli.specs.declared.kinds.SimulationCommand.TheVariants as simulation_command
 use Rattle.ipanema_cli.specs.declared.texts.TextKind.{TextKind}
 use Rattle.ipanema_cli.specs.declared.texts.TextKind.TheVariants as kind
 
@@ -31,7 +31,14 @@ abbrev pub lets_play : CheckAnswer → Bool
 lets_play (checked.Judged verdict) = is_playable verdict
 lets_play (checked.Unjudged why) = false
 
--- Of the two files of a command that simulates that one may be too long, and the one before it is read.
+-- The file of a command on a policy alone may be too long.
+abbrev pub IsTooLongOfOne : (policy : Told) → TextKind → Type 0
+IsTooLongOfOne policy kind.Policy = MayBeLong kind.Policy policy
+IsTooLongOfOne policy kind.Trace = ⊥
+IsTooLongOfOne policy kind.History = ⊥
+IsTooLongOfOne policy kind.Certificates = ⊥
+
+-- Of the files of a policy and a trace that one may be too long, and the one before it is read.
 abbrev pub IsTooLongOfTwo : (policy trace : Told) → TextKind → Type 0
 IsTooLongOfTwo policy trace kind.Policy = MayBeLong kind.Policy policy
 IsTooLongOfTwo policy trace kind.Trace =
@@ -54,7 +61,7 @@ module _ (Is : Simulating) where
   IsSimulationOfTexts policy trace (answer.Checked c) = IsCheckOf policy c × IsFalse (lets_play c)
   IsSimulationOfTexts policy trace (answer.Explained e) = ⊥
   IsSimulationOfTexts policy trace (answer.Bounded b) = ⊥
-  IsSimulationOfTexts policy trace (answer.Proved certs) = ⊥
+  IsSimulationOfTexts policy trace (answer.Exported text) = ⊥
   IsSimulationOfTexts policy trace (answer.Verified v) = ⊥
   IsSimulationOfTexts policy trace (answer.Played outcome) = ⊥
   IsSimulationOfTexts policy trace (answer.Simulated outcome) = (p : Meaning) × IsPlayable policy p × Is p trace outcome
@@ -77,7 +84,7 @@ module _ (Is : Simulating) where
   AnswersSimulation policy trace (answer.Checked c) = SimulatesTexts policy trace (answer.Checked c)
   AnswersSimulation policy trace (answer.Explained e) = ⊥
   AnswersSimulation policy trace (answer.Bounded b) = ⊥
-  AnswersSimulation policy trace (answer.Proved certs) = ⊥
+  AnswersSimulation policy trace (answer.Exported text) = ⊥
   AnswersSimulation policy trace (answer.Verified v) = ⊥
   AnswersSimulation policy trace (answer.Played outcome) = ⊥
   AnswersSimulation policy trace (answer.Simulated outcome) = SimulatesTexts policy trace (answer.Simulated outcome)

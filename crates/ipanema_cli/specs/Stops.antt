@@ -2,9 +2,9 @@
 use Rattle.std.specs.Prelude.{◌≡◌, ◌⊎◌, ℕ, List, Option, Some, None}
 use Rattle.sched_io.specs.Told.{Told, missing}
 use Rattle.ipanema_cli.specs.Answers.{IsAnswer, IsTooLongOfThree}
-use Rattle.command_words.specs.Command.{Asked, bench, bound, check, explain, make, migrate, play, prove, replay}
-use Rattle.command_words.specs.Command.{report, run, simulate, verify, waste}
-use Rattle.ipanema_cli.specs.Simulations.{IsTooLongOfTwo}
+use Rattle.command_words.specs.Command.{Asked, bench, bound, check, crew, emit, explain, make, migrate, play}
+use Rattle.command_words.specs.Command.{prove, replay, report, run, simulate, verify, waste}
+use Rattle.ipanema_cli.specs.Simulations.{IsTooLongOfOne, IsTooLongOfTwo}
 use Rattle.ipanema_cli.specs.Texts.{MayBeLong, MayRead}
 use Rattle.ipanema_cli.specs.declared.answers.Answer.TheVariants as answer
 use Rattle.ipanema_cli.specs.declared.stop.Stop.{Stop}
@@ -38,10 +38,12 @@ IsUnread None told fault = ⊥
 IsUnread (Some (check policy)) told fault = fault ⊎ (told policy ≡ missing)
 IsUnread (Some (explain policy name)) told fault = fault ⊎ (told policy ≡ missing)
 IsUnread (Some (prove policy)) told fault = fault ⊎ (told policy ≡ missing)
+IsUnread (Some (emit policy)) told fault = fault ⊎ (told policy ≡ missing)
 IsUnread (Some (bound policy)) told fault = fault ⊎ (told policy ≡ missing)
 IsUnread (Some (verify policy certs)) told fault = IsUnreadOfTwo (told policy) (told certs) fault
 IsUnread (Some (play policy trace)) told fault = IsUnreadOfTwo (told policy) (told trace) fault
 IsUnread (Some (run policy trace)) told fault = IsUnreadOfTwo (told policy) (told trace) fault
+IsUnread (Some (crew policy trace workers)) told fault = IsUnreadOfTwo (told policy) (told trace) fault
 IsUnread (Some (simulate policy trace)) told fault = IsUnreadOfTwo (told policy) (told trace) fault
 IsUnread (Some (waste policy trace)) told fault = IsUnreadOfTwo (told policy) (told trace) fault
 IsUnread (Some (replay policy trace history)) told fault =
@@ -52,6 +54,12 @@ IsUnread (Some (migrate policy trace history)) told fault =
     IsUnreadOfThree (told policy) (told trace) (told history) fault
 IsUnread (Some (make seed size)) told fault = ⊥
 IsUnread (Some (bench seed size)) told fault = ⊥
+
+-- That is why the text of a policy isn't loaded.
+abbrev pub IsStopOfOne : (policy : Told) → Type 0 → Stop → Type 0
+IsStopOfOne policy fault stop.Unread = fault ⊎ (policy ≡ missing)
+IsStopOfOne policy fault (stop.TooLong which) = IsTooLongOfOne policy which
+IsStopOfOne policy fault stop.Memory = Unit {0}
 
 -- That is why not both texts of a policy and a trace are loaded.
 abbrev pub IsStopOfTwo : (policy trace : Told) → Type 0 → Stop → Type 0

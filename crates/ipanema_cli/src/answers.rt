@@ -3,18 +3,19 @@
 ghost use Rattle.std.specs.Prelude.{◌≡◌, ◌≤◌, ℕ, IfErr, IfOk, IsTrue, length};
 ghost use Rattle.sched_base.specs.declared.limits.TheConstants.{MAX_POLICY_BYTES, MAX_TRACE_BYTES};
 ghost use Rattle.sched_io.specs.Puts.{Puts};
-ghost use Rattle.ipanema_cli.specs.Answers.{AnswersBench, AnswersMake, CanBePut, IsJudgingOfTexts, IsPlayOfTexts};
-ghost use Rattle.ipanema_cli.specs.Answers.{IsProvingOfText, judging_of, lines_of, status_of};
+ghost use Rattle.ipanema_cli.specs.Answers.{AnswersBench, AnswersMake, CanBePut, IsExportOfText, IsJudgingOfTexts};
+ghost use Rattle.ipanema_cli.specs.Answers.{IsPlayOfTexts, exporting_of, judging_of, lines_of, status_of};
 ghost use Rattle.ipanema_cli.specs.Simulations.{IsSimulationOfTexts, simulating_of};
 ghost use Rattle.policy_tree.specs.Meaning.{meaning_of};
 ghost use Rattle.command_words.specs.Numbers.{is_size};
 ghost use Rattle.trace_play.specs.Plays.{IsPlayOf};
-ghost use Rattle.trace_run.specs.Runs.{IsGatedRunOf};
+ghost use Rattle.trace_run.specs.Runs.{HasPlayers, IsGatedRunOf};
 ghost use Rattle.history_replay.specs.Lines.{IsShown as IsShownHistory};
 ghost use Rattle.trace_simulation.specs.Simulations.{IsShown};
 ghost use Rattle.ipanema_cli.specs.declared.stop.Stop.TheVariants as stop;
 
 use crate::accepted::accepted_in;
+use crate::kinds::{ExportCommand, HistoryCommand, SimulationCommand};
 use crate::status::{
     Status, bound_status, check_status, explain_status, history_status, simulation_status,
     verify_status,
@@ -22,7 +23,8 @@ use crate::status::{
 use crate::stop::Stop;
 use crate::texts::{TextKind, Texts};
 use bench_play::{BenchTotals, play_bench, print_bench};
-use cert_file::write_certs;
+use c_printer::c_text;
+use cert_file::{CertFileMemory, write_certs};
 use fair_policy::fair_policy;
 use history_replay::{HistoryAnswer, migrate_texts, replay_texts, report_texts};
 use policy_check::{BoundAnswer, CheckAnswer, ExplainAnswer, VerifyAnswer, check_text, put_text};
@@ -35,7 +37,7 @@ use std::thread::Threads;
 use trace_maker::make_trace;
 use trace_play::{PlayAnswer, PlayMemory, PlayedCores, play_text};
 use trace_printer::print_trace;
-use trace_run::run_text;
+use trace_run::{Players, run_text};
 use trace_simulation::{SimulationAnswer, SimulationMemory, simulate_text, waste_text};
 
 /// What a command answers.
@@ -47,8 +49,8 @@ pub enum Answer {
     Explained(ExplainAnswer),
     /// What `bound` answers of the bad rounds under the policy.
     Bounded(BoundAnswer),
-    /// The text of the certificates of a policy that is accepted.
-    Proved(Vec<u8>),
+    /// The text of the certificates of a policy that is accepted, or of its header in C.
+    Exported(Vec<u8>),
     /// What `verify` answers to a policy and certificates.
     Verified(VerifyAnswer),
     /// What the trace comes to that is played under an accepted policy.
@@ -67,36 +69,30 @@ pub enum Answer {
     BadWords,
 }
 
-/// The commands that simulate a trace.
-#[derive(Clone, Copy)]
-pub enum SimulationCommand {
-    /// To write its serial history.
-    Simulate,
-    /// To say what that history wasted and why its steals failed, where an entry explains it.
-    Waste,
-}
-
-/// The commands that judge a history.
-#[derive(Clone, Copy)]
-pub enum HistoryCommand {
-    /// To say whether it is whole.
-    Replay,
-    /// To say what it wasted and why its steals failed.
-    Report,
-    /// To write its text of the second format.
-    Migrate,
-}
-
-/// The answer of `prove` to a policy's text within its limit.
-pub fn prove_text(alloc: Global, policy: &[u8]) -> Result<Answer, Stop>
+/// The answer to a policy's text within its limit of a command that writes a text of an accepted policy.
+pub fn export_text(alloc: Global, command: ExportCommand, policy: &[u8]) -> Result<Answer, Stop>
     requires { length policy.now ≤ MAX_POLICY_BYTES }
-    ensures answer { IfOk result (IsProvingOfText policy.now) }
+    ensures answer { IfOk result (IsExportOfText (exporting_of command) policy.now) }
     ensures shown { IfOk result CanBePut }
     ensures memory { IfErr result (λ why. why ≡ stop.Memory) }
 {
     match accepted_in(check_text(alloc, policy)?) {
-        Ok(accepted) => Ok(Answer::Proved(write_certs(alloc, &accepted)?)),
+        Ok(accepted) => Ok(Answer::Exported(exported_of(alloc, command, &accepted)?)),
         Err(refusal) => Ok(Answer::Checked(refusal)),
+    }
+}
+
+/// What a command writes of an accepted policy.
+fn exported_of(
+    alloc: Global,
+    command: ExportCommand,
+    accepted: &AcceptedPolicy,
+) -> Result<Vec<u8>, CertFileMemory>
+    ensures { IfOk result (λ text. exporting_of command (meaning_of accepted.now) text.items) }
+{
+    match command {
+        ExportCommand::Prove => write_certs(alloc, accepted),
+        ExportCommand::Emit => Ok(c_text(alloc, accepted.policy())?),
     }
 }
 
@@ -114,23 +110,28 @@ pub fn play_texts(alloc: Global, policy: &[u8], trace: &[u8]) -> Result<Answer, 
     }
 }
 
-/// The answer of `run` to texts within their limits.
+/// The answer of `run` to texts within their limits, or of `crew`, whose players are a crew.
 pub fn run_texts<R: Threads + Wait + Sync, G: Gate + Sync>(
     rt: &R,
     alloc: Global,
+    players: Players,
     policy: &[u8],
     trace: &[u8],
     gate: &G,
 ) -> Result<Answer, Stop>
     requires policy { length policy.now ≤ MAX_POLICY_BYTES }
     requires trace { length trace.now ≤ MAX_TRACE_BYTES }
+    requires players { HasPlayers players }
     requires gate { (c r : ℕ) → IsTrue (G.admits gate.now c r) }
     ensures answer { IfOk result (IsPlayOfTexts (IsGatedRunOf (G.passed gate.now)) policy.now trace.now) }
     ensures shown { IfOk result CanBePut }
     ensures memory { IfErr result (λ why. why ≡ stop.Memory) }
 {
     match accepted_in(check_text(alloc, policy)?) {
-        Ok(accepted) => Ok(Answer::Played(run_text(rt, alloc, &accepted, trace, gate)?)),
+        Ok(accepted) => {
+            let outcome = run_text(rt, alloc, &accepted, players, trace, gate)?;
+            Ok(Answer::Played(outcome))
+        }
         Err(refusal) => Ok(Answer::Checked(refusal)),
     }
 }
@@ -254,7 +255,7 @@ impl Answer {
             Answer::Checked(answer) => check_status(answer),
             Answer::Explained(answer) => explain_status(answer),
             Answer::Bounded(answer) => bound_status(answer),
-            Answer::Proved(_) => Status::Done,
+            Answer::Exported(_) => Status::Done,
             Answer::Verified(answer) => verify_status(answer),
             Answer::Played(PlayAnswer::Broken(_)) => Status::BadText,
             Answer::Played(PlayAnswer::Played(PlayedCores::Whole(_))) => Status::Done,
@@ -277,7 +278,7 @@ impl Answer {
             Answer::Checked(answer) => answer.put(out),
             Answer::Explained(answer) => answer.put(out),
             Answer::Bounded(answer) => answer.put(out),
-            Answer::Proved(certs) => put_text(out, certs.as_slice()),
+            Answer::Exported(text) => put_text(out, text.as_slice()),
             Answer::Verified(answer) => answer.put(out),
             Answer::Played(answer) => answer.put(out),
             Answer::Simulated(answer) => answer.put(out),

@@ -3,22 +3,23 @@
 ghost use Rattle.std.specs.Prelude.{◌≡◌, ◌≢◌, ◌⊎◌, ℕ, List, Some, IfErr, IfOk, IsErrOf, IsTrue, OnOk};
 ghost use Rattle.sched_io.specs.Faults.{Rose};
 ghost use Rattle.sched_io.specs.Loads.{AreRequested};
-ghost use Rattle.ipanema_cli.specs.Answers.{AnswersBound, AnswersCheck, AnswersExplain, AnswersJudging, AnswersPlay};
-ghost use Rattle.ipanema_cli.specs.Answers.{AnswersProve, AnswersVerify, CanBePut, IsAnswer, judging_of};
+ghost use Rattle.ipanema_cli.specs.Answers.{AnswersBound, AnswersCheck, AnswersExplain, AnswersExport, AnswersJudging};
+ghost use Rattle.ipanema_cli.specs.Answers.{AnswersPlay, AnswersVerify, CanBePut, IsAnswer, exporting_of, judging_of};
 ghost use Rattle.command_words.specs.Asks.{asked};
 ghost use Rattle.command_words.specs.Numbers.{is_size};
-ghost use Rattle.command_words.specs.Command.{bench as asks_bench, bound, check, explain, make as asks_make, play};
-ghost use Rattle.command_words.specs.Command.{prove as asks_prove, run, verify as asks_verify};
+ghost use Rattle.command_words.specs.Command.{IsSerial, bench as asks_bench, bound, check, explain};
+ghost use Rattle.command_words.specs.Command.{make as asks_make, play, verify as asks_verify};
 ghost use Rattle.ipanema_cli.specs.Simulations.{AnswersSimulation, simulating_of};
-ghost use Rattle.ipanema_cli.specs.Loads.{FirstAreLoaded, LoadsOfThree, LoadsOfTwo, files_of, three_files, two_files};
-ghost use Rattle.ipanema_cli.specs.Stops.{IsStop, IsStopOfThree, IsStopOfTwo};
+ghost use Rattle.ipanema_cli.specs.Loads.{FirstAreLoaded, LoadsOfThree, LoadsOfTwo, files_of, one_file, three_files};
+ghost use Rattle.ipanema_cli.specs.Loads.{two_files};
+ghost use Rattle.ipanema_cli.specs.Stops.{IsStop, IsStopOfOne, IsStopOfThree, IsStopOfTwo};
 ghost use Rattle.trace_play.specs.Plays.{IsPlayOf};
-ghost use Rattle.trace_run.specs.Runs.{IsGatedRunOf};
+ghost use Rattle.trace_run.specs.Runs.{HasPlayers, IsGatedRunOf};
 
 use crate::answers::{
-    Answer, HistoryCommand, SimulationCommand, bench, judge, make, play_texts, prove_text,
-    run_texts, simulate_texts,
+    Answer, bench, export_text, judge, make, play_texts, run_texts, simulate_texts,
 };
+use crate::kinds::{ExportCommand, HistoryCommand, SimulationCommand};
 use crate::stop::Stop;
 use crate::texts::{TextKind, load, load_three};
 use command_words::{HistoryFiles, Request};
@@ -28,10 +29,11 @@ use sched_io::{Files, Gate};
 use std::alloc::Global;
 use std::sync::Wait;
 use std::thread::Threads;
+use trace_run::Players;
 
-/// The answer to what is asked for, where that is no run. It has no runtime, so it waits for nobody.
+/// The answer to what is asked for, where that plays no cores side by side. It has no runtime, so it waits for nobody.
 pub fn answer_of<F: Files>(alloc: Global, request: Request, files: &mut F) -> Result<Answer, Stop>
-    requires serial { (policy trace : List ℕ) → asked request ≢ Some (run policy trace) }
+    requires serial { IsSerial (asked request) }
     requires made { (seed size : ℕ) → asked request ≡ Some (asks_make seed size) → IsTrue (is_size size) }
     requires benched { (seed size : ℕ) → asked request ≡ Some (asks_bench seed size) → IsTrue (is_size size) }
     ensures answer { IfOk result (IsAnswer (asked request.entry) (F.told files.old)) }
@@ -47,12 +49,14 @@ pub fn answer_of<F: Files>(alloc: Global, request: Request, files: &mut F) -> Re
     match request {
         Request::Check { policy } => check(alloc, policy, files),
         Request::Explain { policy, name } => explain(alloc, policy, name, files),
-        Request::Prove { policy } => prove_policy(alloc, policy, files),
+        Request::Prove { policy } => export_file(alloc, ExportCommand::Prove, policy, files),
         Request::Bound { policy } => bound(alloc, policy, files),
+        Request::Emit { policy } => export_file(alloc, ExportCommand::Emit, policy, files),
         Request::Verify { policy, certs } => verify(alloc, policy, certs, files),
         Request::Play { policy, trace } => play(alloc, policy, trace, files),
-        // That takes more than one thread.
+        // They take more than one thread.
         Request::Run { .. } => unreachable!(),
+        Request::Crew { .. } => unreachable!(),
         Request::Simulate { policy, trace } => {
             simulate_files(alloc, SimulationCommand::Simulate, policy, trace, files)
         }
@@ -115,18 +119,22 @@ fn bound<F: Files>(alloc: Global, policy: &str, files: &mut F) -> Result<Answer,
     Ok(Answer::Bounded(bound_text(alloc, policy_text.as_slice())?))
 }
 
-/// The answer of `prove` to the policy in that file.
-fn prove_policy<F: Files>(alloc: Global, policy: &str, files: &mut F) -> Result<Answer, Stop>
-    ensures answer { IfOk result (AnswersProve (F.told files.old policy.now)) }
+/// The answer of a command that writes a text of the policy in that file, where it is accepted.
+fn export_file<F: Files>(
+    alloc: Global,
+    command: ExportCommand,
+    policy: &str,
+    files: &mut F,
+) -> Result<Answer, Stop>
+    ensures answer { IfOk result (AnswersExport (exporting_of command) (F.told files.old policy.now)) }
     ensures shown { IfOk result CanBePut }
-    ensures stop { IfErr result (IsStop (Some (asks_prove policy.now)) (F.told files.old)
+    ensures stop { IfErr result (IsStopOfOne (F.told files.old policy.now)
         (Rose (F.faults files.old) (F.faults files.new))) }
-    ensures loads { AreRequested (files_of (Some (asks_prove policy.now)))
-        (F.requested files.old) (F.requested files.new) }
+    ensures loads { AreRequested (one_file policy.now) (F.requested files.old) (F.requested files.new) }
     ensures calm { IsErrOf result Stop.Unread ⊎ (F.faults files.new ≡ F.faults files.old) }
 {
     let policy_text = load(alloc, files, policy, TextKind::Policy)?;
-    prove_text(alloc, policy_text.as_slice())
+    export_text(alloc, command, policy_text.as_slice())
 }
 
 /// The answer of `verify` to the policy in one file and the certificates in the other.
@@ -163,27 +171,29 @@ fn play<F: Files>(alloc: Global, policy: &str, trace: &str, files: &mut F) -> Re
     play_texts(alloc, policy_text.as_slice(), trace_text.as_slice())
 }
 
-/// The answer of `run` to the trace in one file under the policy in the other.
+/// The answer of `run` to the trace in one file under the policy in the other, or of `crew`, whose players are a crew.
 ///
-/// Each core takes its turn of a round in a thread of its own, where one can be started, and passes the gate between
-/// its unit and its look. That it passes is a clause, and neither the thread nor the place in the turn is.
+/// The players take the turns of the cores side by side, where threads can be started, and each core passes the gate
+/// between its unit and its look. That it passes is a clause, and neither the thread nor the place in the turn is.
 pub fn run<R: Threads + Wait + Sync, F: Files, G: Gate + Sync>(
     rt: &R,
     alloc: Global,
+    players: Players,
     policy: &str,
     trace: &str,
     files: &mut F,
     gate: &G,
 ) -> Result<Answer, Stop>
+    requires players { HasPlayers players }
     requires gate { (c r : ℕ) → IsTrue (G.admits gate.now c r) }
     ensures answer { IfOk result (AnswersPlay (IsGatedRunOf (G.passed gate.now))
         (F.told files.old policy.now) (F.told files.old trace.now)) }
     ensures shown { IfOk result CanBePut }
-    ensures stop { IfErr result (IsStop (Some (run policy.now trace.now)) (F.told files.old)
+    ensures stop { IfErr result (IsStopOfTwo (F.told files.old policy.now) (F.told files.old trace.now)
         (Rose (F.faults files.old) (F.faults files.new))) }
-    ensures loads { FirstAreLoaded (Some (run policy.now trace.now)) (F.told files.old)
+    ensures loads { LoadsOfTwo policy.now trace.now (F.told files.old)
         (F.requested files.old) (F.requested files.new) }
-    ensures loaded { OnOk result (AreRequested (files_of (Some (run policy.now trace.now)))
+    ensures loaded { OnOk result (AreRequested (two_files policy.now trace.now)
         (F.requested files.old) (F.requested files.new)) }
     ensures calm { IsErrOf result Stop.Unread ⊎ (F.faults files.new ≡ F.faults files.old) }
 {
@@ -192,6 +202,7 @@ pub fn run<R: Threads + Wait + Sync, F: Files, G: Gate + Sync>(
     run_texts(
         rt,
         alloc,
+        players,
         policy_text.as_slice(),
         trace_text.as_slice(),
         gate,

@@ -5,6 +5,7 @@ mod accepted;
 mod answers;
 mod commands;
 mod ending;
+mod kinds;
 mod status;
 mod stop;
 mod texts;

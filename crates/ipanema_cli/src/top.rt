@@ -4,7 +4,7 @@ ghost use Rattle.std.specs.Prelude.{◌≡◌, ◌≢◌, ◌⊎◌, ℕ, List, 
 ghost use Rattle.std.specs.Prelude.{IsTrue, OnOk, Some, codes, slice_get};
 ghost use Rattle.sched_io.specs.Faults.{Rose};
 ghost use Rattle.sched_io.specs.Loads.{AreRequested};
-ghost use Rattle.command_words.specs.Command.{asked_by, run as asks_run, words_of};
+ghost use Rattle.command_words.specs.Command.{IsSerial, asked_by, words_of};
 ghost use Rattle.ipanema_cli.specs.Answers.{CanBePut, IsAnswer, IsGatedAnswer};
 ghost use Rattle.ipanema_cli.specs.Ends.{Ends};
 ghost use Rattle.ipanema_cli.specs.Causes.{HasCause, OneOf};
@@ -21,6 +21,7 @@ use sched_io::{Files, Gate, Sink};
 use std::alloc::Global;
 use std::sync::Wait;
 use std::thread::Threads;
+use trace_run::Players;
 
 /// Carries out the command that the words are, and answers the status for the shell.
 ///
@@ -57,13 +58,13 @@ pub fn ipanema<R: Threads + Wait + Sync, F: Files, S: Sink, G: Gate + Sync>(
     ensures quiet { (result ≡ 5) ⊎ ((S.shown out.new).faults ≡ (S.shown out.old).faults) }
 {
     let list = words.as_slice();
-    if begins_with_run(list) {
+    if may_take_threads(list) {
         return conclude(answer(rt, alloc, list, files, gate), out);
     }
     serial_command(alloc, words, files, out)
 }
 
-/// Carries out the command that the words are, where the first of them isn't `run`.
+/// Carries out the command that the words are, where it plays no cores side by side, as `run` and `crew` do.
 ///
 /// All that `ipanema` promises is promised here. But this call has no runtime and no gate, so it can't wait: it
 /// returns, as every call does that has no leave to wait.
@@ -73,7 +74,7 @@ pub fn serial_command<F: Files, S: Sink>(
     files: &mut F,
     out: &mut S,
 ) -> u8
-    requires serial { slice_get (words_of words.now.items) 0 ≢ Some (codes "run") }
+    requires serial { IsSerial (asked_by (words_of words.now.items)) }
     ensures ends { Ends (asked_by (words_of words.now.items)) (F.told files.old)
         (Rose (F.faults files.old) (F.faults files.new)) (S.shown out.old) (S.shown out.new) result }
     ensures causes { HasCause (asked_by (words_of words.now.items)) (F.told files.old)
@@ -90,19 +91,20 @@ pub fn serial_command<F: Files, S: Sink>(
     conclude(serial_answer(alloc, words.as_slice(), files), out)
 }
 
-/// Whether the first word is `run`.
-fn begins_with_run(words: &[String]) -> bool
-    ensures { IsFalse result → slice_get (words_of words.now) 0 ≢ Some (codes "run") }
+/// Whether the first word is `run` or `crew`, whose commands play cores side by side.
+fn may_take_threads(words: &[String]) -> bool
+    ensures no_run { IsFalse result → slice_get (words_of words.now) 0 ≢ Some (codes "run") }
+    ensures no_crew { IsFalse result → slice_get (words_of words.now) 0 ≢ Some (codes "crew") }
 {
     match words {
-        [first, ..] => first.as_str() == "run",
+        [first, ..] => matches!(first.as_str(), "run" | "crew"),
         [] => false,
     }
 }
 
-/// The answer to what the words ask for, where that is no run.
+/// The answer to what the words ask for, where that plays no cores side by side.
 fn serial_answer<F: Files>(alloc: Global, words: &[String], files: &mut F) -> Result<Answer, Stop>
-    requires serial { (policy trace : List ℕ) → asked_by (words_of words.now) ≢ Some (asks_run policy trace) }
+    requires serial { IsSerial (asked_by (words_of words.now)) }
     ensures answer { IfOk result (IsAnswer (asked_by (words_of words.now)) (F.told files.old)) }
     ensures shown { IfOk result CanBePut }
     ensures stop { IfErr result (IsStop (asked_by (words_of words.now)) (F.told files.old)
@@ -138,7 +140,22 @@ fn answer<R: Threads + Wait + Sync, F: Files, G: Gate + Sync>(
     ensures calm { IsErrOf result Stop.Unread ⊎ (F.faults files.new ≡ F.faults files.old) }
 {
     match request_of(alloc, words)? {
-        Request::Run { policy, trace } => run(rt, alloc, policy, trace, files, gate),
+        Request::Run { policy, trace } => {
+            run(rt, alloc, Players::ThreadEach, policy, trace, files, gate)
+        }
+        Request::Crew {
+            policy,
+            trace,
+            workers,
+        } => run(
+            rt,
+            alloc,
+            Players::Crew(workers),
+            policy,
+            trace,
+            files,
+            gate,
+        ),
         other => answer_of(alloc, other, files),
     }
 }

@@ -1,5 +1,5 @@
 -- The history of the logs is the one that was run, and can be written.
-use Rattle.std.proofs.Common.{ℕ, arith, subst, sym}
+use Rattle.std.proofs.Common.{ℕ, Result, Ok, Err, IfOk, arith, subst, sym}
 use Rattle.policy_tree.specs.Meaning.{Meaning}
 use Rattle.round_model.specs.declared.plan.Plan.{Plan}
 use Rattle.round_model.specs.Fits.{Fits}
@@ -8,9 +8,14 @@ use Rattle.core_state.specs.Views.{ClosedView}
 use Rattle.history_merge.specs.Merged.{CanBeWritten, merged}
 use Rattle.history_merge.proofs.MergedLists.{merged_history}
 use Rattle.parallel_play.proofs.Beginnings.{nothing_begun}
-use Rattle.parallel_play.specs.Runs.{AllPassed, IsFaultOf, RunsFull, RunsWhole}
-use Rattle.parallel_play.specs.declared.fault.RunFault.{RunFault}
-use Rattle.parallel_play.specs.declared.fault.RunFault.TheVariants as fault
+use Rattle.core_table.specs.declared.seat.Seat.{Seat}
+use Rattle.core_table.specs.declared.seat.Table.{Table}
+use Rattle.parallel_play.specs.Runs.{AllPassed, RunsFull, RunsWhole}
+use Rattle.crew_play.specs.Crews.{IsFaultOf}
+use Rattle.crew_play.specs.declared.fault.CrewFault.{CrewFault}
+use Rattle.crew_play.specs.declared.fault.CrewFault.TheVariants as crew
+use Rattle.trace_play.specs.declared.cores.PlayedCores.{PlayedCores}
+use Rattle.trace_play.specs.declared.cores.PlayedCores.TheVariants as cores
 use Rattle.trace_play.proofs.Merged.{can_be_written}
 use Rattle.trace_run.specs.Runs.{Left, RunEnds, RunStops}
 
@@ -49,7 +54,10 @@ module _ (p : Meaning) (plan : Plan) (Passed : ℕ → ℕ → Type 0) (closed :
     full_can_be_written run =
         can_be_written p plan closed run.history fits run.left.legal (let most = fits.few_entries in let few = run.left.few in omega arith) run.left.count run.left.logs
 
--- the cores that are left are those of the fault
-pub full_of : (p : Meaning) (plan : Plan) (Passed : ℕ → ℕ → Type 0) (why : RunFault) (left : ClosedView) → IsFaultOf p plan Passed why → Left why left
-    → RunsFull p plan Passed left
-full_of p plan Passed (fault.HistoryFull closed) left run is = subst (RunsFull p plan Passed) (sym is) run
+module _ (p : Meaning) (plan : Plan) (Passed : ℕ → ℕ → Type 0) (table : Table) (seat : Seat) where
+  -- what holds of all cores that a full history leaves holds of those that are left
+  pub of_left : {E : Type 0} (P : PlayedCores → Type 0) → ((closed : ClosedView) → RunsFull p plan Passed closed → P (cores.Full closed)) → (why : CrewFault)
+      → IsFaultOf p plan Passed table seat why → (r : Result PlayedCores E) → IfOk r (Left why) → IfOk r P
+  of_left P each (crew.HistoryFull closed) is (Ok left) same = subst P (sym same) (each closed is)
+  of_left P each (crew.Memory t s) is (Ok left) none = absurd none
+  of_left P each why is (Err e) same = tt

@@ -1,5 +1,6 @@
 -- What a run of a trace's text comes to, where all cores play side by side.
 use Rattle.std.specs.Prelude.{◌≡◌, ℕ, ◌≤◌, List, [], length}
+use Rattle.sched_base.specs.declared.limits.TheConstants.{MAX_WORKERS}
 use Rattle.policy_tree.specs.Meaning.{Meaning}
 use Rattle.round_model.specs.declared.entry.Entry.{Entry}
 use Rattle.round_model.specs.declared.plan.Plan.{Plan}
@@ -8,17 +9,26 @@ use Rattle.round_model.specs.declared.serial.Played.TheVariants as played
 use Rattle.round_model.specs.Fits.{Fits}
 use Rattle.round_model.specs.Legal.{IsComplete, Legal, Whole, rounds_begun}
 use Rattle.round_model.specs.SerialEnds.{IsFull}
-use Rattle.core_state.specs.Views.{ClosedView}
 use Rattle.parallel_play.specs.Runs.{AllPassed, HadRoom}
 use Rattle.parallel_play.specs.declared.fault.RunFault.{RunFault}
 use Rattle.parallel_play.specs.declared.fault.RunFault.TheVariants as fault
+use Rattle.crew_play.specs.declared.fault.CrewFault.{CrewFault}
+use Rattle.crew_play.specs.declared.fault.CrewFault.TheVariants as crew
 use Rattle.job_trace.specs.declared.trace.Numbered.{Numbered}
 use Rattle.job_trace.specs.Plans.{SpellsPlan}
 use Rattle.job_trace.specs.TraceText.{SpellsTrace}
 use Rattle.trace_play.specs.declared.answer.PlayAnswer.{PlayAnswer}
 use Rattle.trace_play.specs.declared.answer.PlayAnswer.TheVariants as answer
 use Rattle.trace_play.specs.declared.cores.PlayedCores.{PlayedCores}
+use Rattle.trace_play.specs.declared.cores.PlayedCores.TheVariants as cores
+use Rattle.trace_run.specs.declared.players.Players.{Players}
+use Rattle.trace_run.specs.declared.players.Players.TheVariants as players
 use Rattle.trace_play.specs.Plays.{HasFault, MeansPlan, closed_of, history_of, played_by}
+
+-- a crew has at least one worker, and no more than there may be. Threads of their own need no bound
+abbrev pub HasPlayers : Players → Type 0
+HasPlayers players.ThreadEach = Unit {0}
+HasPlayers (players.Crew workers) = (1 ≤ workers) × (workers ≤ MAX_WORKERS)
 
 -- the run came to its end: the history is whole, and each of its rounds had room
 pub record RunEnds (p : Meaning) (plan : Plan) (history : List Entry) : Type 0 where
@@ -42,9 +52,14 @@ abbrev pub IsRun : Meaning → Plan → Played → Type 0
 IsRun p plan (played.Whole history) = RunEnds p plan history
 IsRun p plan (played.Full history) = RunStops p plan history
 
+-- the fault of threads is also that of a crew
+abbrev pub IsSameFault : RunFault → CrewFault → Type 0
+IsSameFault (fault.HistoryFull closed) why = why ≡ crew.HistoryFull closed
+
 -- the cores that are left where no whole history was made
-abbrev pub Left : RunFault → ClosedView → Type 0
-Left (fault.HistoryFull closed) left = left ≡ closed
+abbrev pub Left : CrewFault → PlayedCores → Type 0
+Left (crew.HistoryFull closed) left = left ≡ cores.Full closed
+Left (crew.Memory table seat) left = ⊥
 
 -- the text spells a trace, whose plan fits the policy, and that is what a run of the plan came to
 pub record RunsText (p : Meaning) (text : List ℕ) (play : Played) : Type 0 where

@@ -1,8 +1,6 @@
 -- What answers that which a turn asks is what it may be told next.
-use Rattle.std.proofs.Common.{◌≡◌, ◌⊎◌, ⊎_elim, inl, inr, ℕ, zero, suc, ◌<◌, ◌≤◌, ◌↔◌, List, [], ◌∷◌, length, option_map, Option, Some, None, refl, sym, subst, arith}
+use Rattle.std.proofs.Common.{◌≡◌, ◌⊎◌, ⊎_elim, inl, inr, ℕ, zero, suc, ◌<◌, ◌≤◌, ◌↔◌, List, [], ◌∷◌, length, option_map, Some, None, refl, sym, subst, arith}
 use Rattle.std.specs.Prelude.{slice_get}
-use Rattle.round_model.specs.declared.entry.Did.{Did}
-use Rattle.select_phase.specs.declared.looks.Look.{Look}
 use Rattle.turn_steps.specs.declared.asking.Ask.TheVariants as ask
 use Rattle.turn_steps.specs.declared.asking.Told.{Told}
 use Rattle.turn_steps.specs.declared.asking.Told.TheVariants as told

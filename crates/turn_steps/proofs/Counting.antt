@@ -1,5 +1,5 @@
 -- What was told is counted.
-use Rattle.std.proofs.Common.{◌≡◌, ℕ, ◌+◌, eqb, ◌||◌, ◌↔◌, Bool, true, false, filter, map, length, IsTrue, Option, Some, None, refl, sym, ap, ◌∙◌, subst, arith}
+use Rattle.std.proofs.Common.{◌≡◌, ℕ, ◌+◌, ◌||◌, ◌↔◌, Bool, true, false, filter, map, length, IsTrue, Option, Some, refl, sym, ap, ◌∙◌, subst, arith}
 use Rattle.std.specs.List.{list_any}
 use Rattle.std.proofs.lemmas.Bool.Decides.{nat_tests}
 use Rattle.std.proofs.lemmas.List.{length-map}
@@ -13,7 +13,7 @@ use Rattle.turn_steps.specs.declared.reached.Reached.{Reached}
 use Rattle.turn_steps.specs.declared.reached.Reached.TheVariants as reached
 use Rattle.turn_steps.specs.Answers.{drawn, has_entry}
 use Rattle.turn_steps.specs.Code.Reaching.{ended_by, ended_in, entries_in}
-use Rattle.turn_steps.specs.Reaches.{told_behind}
+use Rattle.turn_steps.specs.Reaches.{did_in, told_behind}
 use Rattle.turn_steps.specs.States.{TurnState}
 use Rattle.turn_steps.specs.Views.{Counts, IsAsTold, own_in, told_of}
 use Rattle.turn_steps.proofs.Telling.{any_drawn, any_of, drawn_count, ends_by, tells_end}
@@ -36,6 +36,24 @@ ends_behind reached.NothingDue id = ((λ test. absurd (cc)), (λ is. absurd (cc)
 ends_behind (reached.Worked d) id = subst (λ b. IsTrue b ↔ (ended_by d ≡ Some id)) (sym (or_false (is_ended id d))) (ends_one d id)
 ends_behind (reached.Looked d look) id = subst (λ b. IsTrue b ↔ (ended_by d ≡ Some id)) (sym (or_false (is_ended id d))) (ends_one d id)
 ends_behind (reached.Acted d look) id = subst (λ b. IsTrue b ↔ (ended_by d ≡ Some id)) (sym (or_false (is_ended id d))) (ends_one d id)
+
+-- the thread that ended in the unit is the one of which that was told
+pub ended_as_told : (r : Reached) (o : Option ℕ) → o ≡ ended_in r → (id : ℕ) → (o ≡ Some id) ↔ (did_in r ≡ Some (did.Ended id))
+ended_as_told r o is id = subst (λ (x : Option ℕ). (x ≡ Some id) ↔ (did_in r ≡ Some (did.Ended id))) (sym is) (by_case r)
+  where
+    by_did : (d : Did) → (ended_by d ≡ Some id) ↔ (Some d ≡ Some (did.Ended id))
+    by_did did.Nothing = ((λ e. absurd (cc)), (λ e. absurd (cc)))
+    by_did (did.Kept thread) = ((λ e. absurd (cc)), (λ e. absurd (cc)))
+    by_did (did.Queued thread) = ((λ e. absurd (cc)), (λ e. absurd (cc)))
+    by_did (did.Blocked thread) = ((λ e. absurd (cc)), (λ e. absurd (cc)))
+    by_did (did.Ended thread) = ((λ e. let same : thread ≡ id = cc in ap (λ k. Some (did.Ended k)) same), (λ e. let same : thread ≡ id = cc in ap Some same))
+
+    by_case : (q : Reached) → (ended_in q ≡ Some id) ↔ (did_in q ≡ Some (did.Ended id))
+    by_case reached.Threads = ((λ e. absurd (cc)), (λ e. absurd (cc)))
+    by_case reached.NothingDue = ((λ e. absurd (cc)), (λ e. absurd (cc)))
+    by_case (reached.Worked d) = by_did d
+    by_case (reached.Looked d look) = by_did d
+    by_case (reached.Acted d look) = by_did d
 
 -- so many entries, and that thread, are those of the view
 pub counts_view : (t : TurnState) (v : View) → IsAsTold t v → (count : ℕ) (ended : Option ℕ) → count ≡ t.arrived + t.woke + entries_in t.reached → ended ≡ ended_in t.reached → Counts (count, ended) v

@@ -1,5 +1,5 @@
 -- What the model asks of a turn that was told so far.
-use Rattle.std.proofs.Common.{◌≡◌, ℕ, zero, suc, ◌<◌, Bool, true, false, cond, ◌↔◌, List, [], ◌∷◌, filter, map, length, option_map, is_some, IsNone, IsSomeAnd, Option, Some, None, refl, sym, ap, ap₂, ◌∙◌, subst, arith}
+use Rattle.std.proofs.Common.{◌≡◌, ℕ, zero, suc, cond, ◌↔◌, List, [], ◌∷◌, filter, map, length, option_map, IsNone, IsSomeAnd, Option, Some, None, refl, sym, ap, ap₂, ◌∙◌, subst, arith}
 use Rattle.std.specs.List.{list_any}
 use Rattle.std.specs.Prelude.{slice_get}
 use Rattle.round_model.specs.declared.entry.Did.{Did}
@@ -10,9 +10,8 @@ use Rattle.round_model.specs.declared.state.Blocked.{Blocked}
 use Rattle.round_model.specs.After.{after, round_of}
 use Rattle.round_model.specs.Kinds.{is_attempt, is_work}
 use Rattle.round_model.specs.Scenes.{Scene, entering_next, has_attempted, has_worked, own_entries, scene_of, waking_next}
-use Rattle.round_model.specs.TurnSteps.{TurnStep, attempting, entering, late_step, looking, over, step_behind_unit, step_to_enter, step_to_wake, turn_step_of, waking, working}
+use Rattle.round_model.specs.TurnSteps.{TurnStep, attempting, entering, looking, over, step_behind_unit, step_to_enter, step_to_wake, turn_step_of, waking, working}
 use Rattle.core_state.specs.declared.logged.Logged.{Logged}
-use Rattle.core_table.specs.declared.views.Role.TheVariants as role
 use Rattle.core_table.specs.declared.views.View.{View}
 use Rattle.core_table.specs.Told.{Agrees, IsTrueRole}
 use Rattle.core_table.specs.Views.{meaning_in}
@@ -20,7 +19,6 @@ use Rattle.core_table.proofs.Histories.{own_is}
 use Rattle.select_phase.specs.declared.looks.Look.{Look}
 use Rattle.turn_steps.specs.declared.asking.Ask.{Ask}
 use Rattle.turn_steps.specs.declared.asking.Ask.TheVariants as ask
-use Rattle.turn_steps.specs.declared.asking.Told.{Told}
 use Rattle.turn_steps.specs.declared.reached.Reached.{Reached}
 use Rattle.turn_steps.specs.declared.reached.Reached.TheVariants as reached
 use Rattle.turn_steps.specs.Answers.{drawn, has_entry}

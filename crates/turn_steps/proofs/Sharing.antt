@@ -3,7 +3,7 @@ use Rattle.std.proofs.Common.{◌≡◌, ℕ, zero, suc, ◌+◌, ◌*◌, ◌/�
 use Rattle.std.proofs.Math.Nat.{mul-div_cancel_left, zero-div, div-le_of_le-mul, mul-le-mul_right}
 use Rattle.std.proofs.lemmas.Bool.Decides.{nat_tests}
 use Rattle.std.proofs.lemmas.Nat.{div-add-mod', le-div}
-use Rattle.turn_steps.specs.Shares.{HasOneWorker, OneWorkerLaw, Plays, first_of}
+use Rattle.turn_steps.specs.Shares.{OneWorkerLaw, Plays, first_of}
 
 pub first_is : (cores workers worker : ℕ) → worker * cores / workers ≡ first_of cores workers worker
 unfolding first_of

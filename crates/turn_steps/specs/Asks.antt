@@ -1,5 +1,5 @@
 -- What a turn asks is what the model asks.
-use Rattle.std.specs.Prelude.{◌≡◌, ◌↔◌, ℕ, List, option_map, IsSomeAnd}
+use Rattle.std.specs.Prelude.{◌≡◌, ◌↔◌, List, option_map, IsSomeAnd}
 use Rattle.round_model.specs.declared.entry.Entry.{Entry}
 use Rattle.round_model.specs.declared.plan.Plan.{Plan}
 use Rattle.round_model.specs.Scenes.{scene_of}

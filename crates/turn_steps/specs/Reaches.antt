@@ -32,6 +32,14 @@ told_behind (reached.Looked did look) = told.NothingDue ∷ told.Worked did ∷ 
 told_behind (reached.Acted did look) =
     told.NothingDue ∷ told.Worked did ∷ told.Looked look ∷ told.Acted ∷ []
 
+-- what became of the thread that ran in the unit, where that was told
+abbrev pub did_in : Reached → Option Did
+did_in reached.Threads = None
+did_in reached.NothingDue = None
+did_in (reached.Worked did) = Some did
+did_in (reached.Looked did look) = Some did
+did_in (reached.Acted did look) = Some did
+
 -- the look, where one was told
 abbrev pub look_in : Reached → Option Look
 look_in reached.Threads = None

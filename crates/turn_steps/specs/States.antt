@@ -1,5 +1,5 @@
 -- What a contract sees of a turn.
-use Rattle.std.specs.Prelude.{◌≡◌, ℕ, ◌==◌, ◌&&◌, Bool, List, length, filter}
+use Rattle.std.specs.Prelude.{◌≡◌, ℕ, ◌==◌, ◌&&◌, Bool, List, Option, length, filter, option_map, slice_get}
 use Rattle.round_model.specs.declared.plan.Plan.{Plan}
 use Rattle.round_model.specs.declared.plan.Planned.{Planned}
 use Rattle.turn_steps.specs.declared.reached.Reached.{Reached}
@@ -51,3 +51,8 @@ first_state plan core round = record {
 -- by the plan, as many threads enter as the turn counts
 abbrev pub IsTurnOf : Plan → TurnState → Type 0
 IsTurnOf plan t = t.entering ≡ length (entering_by plan t.core t.round)
+
+-- the thread that enters next, if one is left: by the plan's order it stands behind those that have
+abbrev pub next_thread : Plan → TurnState → Option ℕ
+next_thread plan t =
+    option_map (λ (p : Planned). p.id) (slice_get (entering_by plan t.core t.round) t.arrived)

@@ -1,16 +1,17 @@
 //! What a turn asks, step by step.
 
-ghost use Rattle.std.specs.Prelude.{◌≡◌, ◌↔◌, ◌*◌, ◌<◌, ◌++◌, ◌∷◌, [], length, Some};
+ghost use Rattle.std.specs.Prelude.{◌≡◌, ◌↔◌, ℕ, ◌*◌, ◌<◌, ◌++◌, ◌∷◌, [], length, Some};
 ghost use Rattle.sched_base.specs.declared.limits.TheConstants.{MAX_ENTRIES};
+ghost use Rattle.round_model.specs.declared.entry.Did.TheVariants as did;
 ghost use Rattle.core_table.specs.declared.views.View.{View};
 ghost use Rattle.select_phase.specs.declared.looks.Look.{Look as Seen};
 ghost use Rattle.turn_steps.specs.declared.asking.Ask.TheVariants as ask;
 ghost use Rattle.turn_steps.specs.declared.asking.Told.{Told as Answer};
-ghost use Rattle.turn_steps.specs.States.{IsTurnOf, first_state, state_of};
-ghost use Rattle.turn_steps.specs.Answers.{Answers, Awaits, told_so_far, with_told};
+ghost use Rattle.turn_steps.specs.States.{IsTurnOf, first_state, next_thread, state_of};
+ghost use Rattle.turn_steps.specs.Answers.{Answers, Awaits, drawn, told_so_far, with_told};
 ghost use Rattle.turn_steps.specs.Views.{Counts, IsAsTold};
 ghost use Rattle.turn_steps.specs.Asks.{AsksAsModel};
-ghost use Rattle.turn_steps.specs.Reaches.{IsOver, look_in};
+ghost use Rattle.turn_steps.specs.Reaches.{IsOver, did_in, look_in};
 
 use crate::asking::{Ask, Told};
 use crate::entering::{count_entering, entering_behind};
@@ -48,12 +49,15 @@ impl Turning {
         self.round
     }
 
-    /// What the turn asks next, by what it was told. The plan is the one with which it began.
+    /// What the turn asks next, by what it was told. By the plan as many threads enter as by that with
+    /// which it began.
     pub fn asks(&self, plan: &Plan) -> Ask
         requires plan { IsTurnOf plan.now (state_of self.now) }
         ensures model { AsksAsModel plan.now (state_of self.now) result }
         ensures awaits { (told : Answer) → Answers result told ↔ Awaits (state_of self.now) told }
-        ensures over { result ≡ ask.Over → IsOver (state_of self.now).reached }
+        ensures thread { (id : ℕ) → result ≡ ask.Arrive id →
+            next_thread plan.now (state_of self.now) ≡ Some id }
+        ensures over { (result ≡ ask.Over) ↔ IsOver (state_of self.now).reached }
         ensures look { (look : Seen) → result ≡ ask.Act look →
             look_in (state_of self.now).reached ≡ Some look }
     {
@@ -89,7 +93,10 @@ impl Turning {
 
     /// How many entries the turn was told of, and the thread that ended in its unit, if one did.
     pub fn turned(&self) -> (u32, Option<ThreadId>)
-        ensures { (v : View) → IsAsTold (state_of self.now) v → Counts result v }
+        ensures entries { result.0 ≡ length (drawn (state_of self.now)) }
+        ensures ended { (id : ℕ) →
+            (result.1 ≡ Some id) ↔ (did_in (state_of self.now).reached ≡ Some (did.Ended id)) }
+        ensures view { (v : View) → IsAsTold (state_of self.now) v → Counts result v }
     {
         let behind = self.reached.entries();
         (self.arrived + self.woke + behind, self.reached.ended())

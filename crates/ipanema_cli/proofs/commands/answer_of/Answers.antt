@@ -1,6 +1,7 @@
--- What `check`, `explain`, `prove` and `bound` load is the one file of their command.
+-- What a command on a policy alone loads is the one file of their command.
 use Rattle.std.proofs.Common.{ap, subst, sym}
 use Rattle.command_words.specs.Asks.{asked}
+use Rattle.command_words.specs.Command.{IsSerial}
 use Rattle.ipanema_cli.specs.Loads.{FirstAreLoaded}
 use Rattle.ipanema_cli.proofs.commands.answer_of.Goals as goal
 
@@ -11,7 +12,10 @@ pub bench-requires : goal.bench-requires
 bench-requires g c = c.requires.benched c.in-Bench.seed c.in-Bench.size (ap asked c.in-Bench.is)
 
 pub unreachable-requires : goal.unreachable-requires
-unreachable-requires g c = c.requires.serial c.in-Run.policy.now c.in-Run.trace.now (ap asked c.in-Run.is)
+unreachable-requires g c = subst (λ request. IsSerial (asked request)) c.in-Run.is c.requires.serial
+
+pub unreachable-requires-in-Crew : goal.unreachable-requires-in-Crew
+unreachable-requires-in-Crew g c = subst (λ request. IsSerial (asked request)) c.in-Crew.is c.requires.serial
 
 pub returns-in-Check-clause-loads : goal.returns-in-Check-clause-loads
 returns-in-Check-clause-loads g c =
@@ -25,10 +29,15 @@ returns-in-Explain-clause-loads g c =
 
 pub returns-in-Prove-clause-loads : goal.returns-in-Prove-clause-loads
 returns-in-Prove-clause-loads g c =
-    subst (λ request. FirstAreLoaded (asked request) (g.F.Files.told c.args.files.now) (g.F.Files.requested c.args.files.now) (g.F.Files.requested c.prove_policy.new.files))
-    (sym c.in-Prove.is) (record { count = 1; loaded = c.prove_policy.ensures.loads; goes_on = tt })
+    subst (λ request. FirstAreLoaded (asked request) (g.F.Files.told c.args.files.now) (g.F.Files.requested c.args.files.now) (g.F.Files.requested c.export_file.new.files))
+    (sym c.in-Prove.is) (record { count = 1; loaded = c.export_file.ensures.loads; goes_on = tt })
 
 pub returns-in-Bound-clause-loads : goal.returns-in-Bound-clause-loads
 returns-in-Bound-clause-loads g c =
     subst (λ request. FirstAreLoaded (asked request) (g.F.Files.told c.args.files.now) (g.F.Files.requested c.args.files.now) (g.F.Files.requested c.bound.new.files))
     (sym c.in-Bound.is) (record { count = 1; loaded = c.bound.ensures.loads; goes_on = tt })
+
+pub returns-in-Emit-clause-loads : goal.returns-in-Emit-clause-loads
+returns-in-Emit-clause-loads g c =
+    subst (λ request. FirstAreLoaded (asked request) (g.F.Files.told c.args.files.now) (g.F.Files.requested c.args.files.now) (g.F.Files.requested c.export_file-in-Emit.new.files))
+    (sym c.in-Emit.is) (record { count = 1; loaded = c.export_file-in-Emit.ensures.loads; goes_on = tt })

@@ -8,12 +8,12 @@ use Rattle.trace_run.proofs.running.run_text.Goals as goal
 pub run_plan-requires-clause-fits : goal.run_plan-requires-clause-fits
 run_plan-requires-clause-fits g c _ _ = subst (λ policy. Fits (meaning_of policy) c.in-Ok.plan) c.policy.ensures.policy c.in-Ok.ensures.plan.fits
 
-pub returns-in_ok-run_plan-in-Ok-clause-run : goal.returns-in_ok-run_plan-in-Ok-clause-run
-returns-in_ok-run_plan-in-Ok-clause-run g c =
+pub returns-in_ok-left-in-Ok-clause-run : goal.returns-in_ok-left-in-Ok-clause-run
+returns-in_ok-left-in-Ok-clause-run g c =
     let means = subst (λ policy. MeansPlan (meaning_of policy) c.args.text.now c.in-Ok.plan) c.policy.ensures.policy c.in-Ok.ensures.plan in
     record {
-      runs = record { trace = means.trace; spells = means.spells; plan = c.in-Ok.plan; means = means.means; fits = means.fits; ran = c.in_ok-run_plan-in-Ok.ensures.run };
-      count = c.in_ok-run_plan-in-Ok.ensures.cores;
+      runs = record { trace = means.trace; spells = means.spells; plan = c.in-Ok.plan; means = means.means; fits = means.fits; ran = c.in_ok-left-in-Ok.ensures.run };
+      count = c.in_ok-left-in-Ok.ensures.cores;
     }
 
 pub returns-in-Err-Broken-clause-run : goal.returns-in-Err-Broken-clause-run
@@ -22,6 +22,6 @@ returns-in-Err-Broken-clause-run g c =
     subst (HasFault (meaning_of c.args.policy.now) text) (sym c.in-Err-Broken.fault-is)
     (subst (λ policy. IsPlanStop (meaning_of policy) text (stop.Broken c.in-Err-Broken.fault)) c.policy.ensures.policy (subst (IsPlanStop (meaning_of c.policy.result.now) text) c.in-Err-Broken.field-0-is c.in-Err-Broken.ensures.stop))
 
-pub returns-in_ok-run_plan-in-Ok-clause-passed : goal.returns-in_ok-run_plan-in-Ok-clause-passed
-returns-in_ok-run_plan-in-Ok-clause-passed g c =
-    (c.in-Ok.plan, subst (λ policy. MeansPlan (meaning_of policy) c.args.text.now c.in-Ok.plan) c.policy.ensures.policy c.in-Ok.ensures.plan, c.in_ok-run_plan-in-Ok.ensures.passed)
+pub returns-in_ok-left-in-Ok-clause-passed : goal.returns-in_ok-left-in-Ok-clause-passed
+returns-in_ok-left-in-Ok-clause-passed g c =
+    (c.in-Ok.plan, subst (λ policy. MeansPlan (meaning_of policy) c.args.text.now c.in-Ok.plan) c.policy.ensures.policy c.in-Ok.ensures.plan, c.in_ok-left-in-Ok.ensures.passed)

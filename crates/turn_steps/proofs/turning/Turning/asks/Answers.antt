@@ -1,4 +1,4 @@
-use Rattle.std.proofs.Common.{◌≡◌, ◌<◌, ◌∙◌, Some, None, sym, subst, arith}
+use Rattle.std.proofs.Common.{◌∙◌, Some, None, sym, subst, arith}
 use Rattle.round_model.specs.declared.plan.Planned.{Planned}
 use Rattle.turn_steps.specs.Reaches.{IsBehindThreads}
 use Rattle.turn_steps.specs.States.{entering_by, state_of}

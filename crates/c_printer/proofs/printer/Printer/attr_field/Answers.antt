@@ -1,0 +1,9 @@
+use Rattle.c_printer.proofs.AddsLemmas.{given_ok, reads_as, ◌⊳◌}
+use Rattle.c_printer.proofs.printer.Printer.attr_field.Goals as goal
+
+pub returns : goal.returns
+returns c =
+    given_ok c.word-5.result c.word-5.ensures
+    (λ last. c.in_ok-word.ensures ⊳ reads_as c.as_slice.ensures.items c.in_ok-name.ensures ⊳
+    c.in_ok-word-2.ensures ⊳ c.in_ok-least.ensures ⊳ c.in_ok-word-3.ensures ⊳ c.in_ok-greatest.ensures ⊳
+    c.in_ok-word-4.ensures ⊳ c.in_ok-beginning.ensures ⊳ last)

@@ -1,0 +1,7 @@
+use Rattle.c_printer.proofs.AddsLemmas.{given_ok, reads_as, ◌⊳◌}
+use Rattle.c_printer.proofs.printer.Printer.test.Goals as goal
+
+pub returns : goal.returns
+returns c =
+    given_ok c.value-2.result c.value-2.ensures
+    (λ last. c.in_ok-value.ensures ⊳ reads_as c.compare_text.ensures c.in_ok-word.ensures ⊳ last)

@@ -1,0 +1,8 @@
+use Rattle.c_printer.proofs.AddsLemmas.{given_ok, ◌⊳◌}
+use Rattle.c_printer.proofs.printer.Printer.wide.Goals as goal
+
+pub returns : goal.returns
+returns c =
+    given_ok c.word-7.result c.word-7.ensures
+    (λ last. c.in_ok-word.ensures ⊳ c.in_ok-word-2.ensures ⊳ c.in_ok-word-3.ensures ⊳ c.in_ok-word-4.ensures ⊳
+    c.in_ok-value.ensures ⊳ c.in_ok-word-5.ensures ⊳ c.in_ok-wide_cut.ensures ⊳ c.in_ok-word-6.ensures ⊳ last)

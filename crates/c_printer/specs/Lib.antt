@@ -1,0 +1,11 @@
+pub mod Adds
+pub mod WordTexts
+pub mod Widths
+pub mod ExpressionTexts
+pub mod ConditionTexts
+pub mod OrderTexts
+pub mod EventTexts
+pub mod StructTexts
+pub mod HeadTexts
+pub mod CText
+pub mod WidthLaws

@@ -1,0 +1,13 @@
+use Rattle.std.proofs.Common.{◌∙◌, [], ◌∷◌, ap, codes}
+use Rattle.clap.specs.Words.{App, with_subcommand}
+use Rattle.command_words.specs.Program.{command_of}
+use Rattle.command_words.proofs.Adding.{one_behind}
+use Rattle.command_words.proofs.commands.with_policies.Goals as goal
+
+pub returns : goal.returns
+returns c =
+    one_behind c.with_command-3.result _ _
+    (c.in_ok-program-3.ensures
+    ∙ ap (λ (app : App). with_subcommand app (command_of (codes "explain") (codes "POLICY" ∷ codes "NAME" ∷ [])))
+    (c.in_ok-program-2.ensures ∙ ap (λ (app : App). with_subcommand app (command_of (codes "emit") (codes "POLICY" ∷ []))) c.in_ok-program.ensures))
+    (command_of (codes "verify") (codes "POLICY" ∷ codes "CERTS" ∷ [])) c.with_command-3.ensures

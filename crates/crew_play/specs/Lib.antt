@@ -1,0 +1,4 @@
+pub mod Crews
+pub mod Hands
+pub mod Room
+pub mod Steps

@@ -1,0 +1,4 @@
+pub mod Choosing
+pub mod Lists
+pub mod Numbers
+pub mod Parting

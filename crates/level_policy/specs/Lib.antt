@@ -1,0 +1,6 @@
+pub mod Compiled
+pub mod Laws
+pub mod LevelChoices
+pub mod Levels
+pub mod NearestBest
+pub mod ResolvedLevels

@@ -1,0 +1,4 @@
+pub mod Fitting
+pub mod Owing
+pub mod Playing
+pub mod Resolving

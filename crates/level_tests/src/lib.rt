@@ -1,0 +1,4 @@
+//! Worked rows of balancing by levels: each a function whose contract is the row.
+#![tactic(auto)]
+
+pub mod rows;
