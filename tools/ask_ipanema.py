@@ -30,6 +30,14 @@ def build():
     subprocess.run([PROGRAM, "make", "1", "1"], stdout=subprocess.DEVNULL, check=False)
 
 
+def program():
+    """The program that ./ipanema uses, without its look at all sources."""
+    subprocess.run([PROGRAM, "make", "1", "1"], stdout=subprocess.DEVNULL, check=True)
+    said = subprocess.run(["bash", "-c", 'top="$PWD"; source tools/front/programs.bash; program_of'], cwd=PROGRAM.parent, stdout=subprocess.PIPE,
+                          check=True, text=True)
+    return said.stdout.strip()
+
+
 def ask(statuses, *words):
     """What `ipanema` writes on these words. It must end with one of the statuses. What it says beside, the script says itself."""
     try:

@@ -16,7 +16,8 @@ else
   syntax keyword ipanemaStatement policy load place elect on filter choose steal
   syntax keyword ipanemaKeyword thread in start here min max first when while limit prefer always and or not
   syntax keyword ipanemaKeyword count weight enqueue tick yield block queue keep
-  syntax match ipanemaKeyword /\<core\>/
+  syntax match ipanemaKeyword /\<\%(core\|within\)\>/
+  syntax match ipanemaStatement /\<levels\?\>/
   syntax match ipanemaReference /\<\%(self\|victim\|core\|t\)\s*\.\s*\h\w*/
   syntax match ipanemaOperator /[-+*]\|[=!<>]=\|[=<>]/
 endif

@@ -1,4 +1,5 @@
-"""Reads the text of a policy far enough to say what is wrong with it. The program alone decides; this finds words for its answer.
+"""Reads the text of a policy, or of one by levels, far enough to say what is wrong with it. The program alone decides; this finds words
+for its answer.
 
 The file `grammar` beside this one is the table of what may stand where. It is the grammar of docs/LANGUAGE.md, and tools/try_places
 tries it against the program.
@@ -8,20 +9,22 @@ import re
 
 RESERVED = """policy load count weight core thread in start place here min max elect choose steal first on enqueue tick yield
 block when queue keep filter and or not always self victim t while limit prefer nr fresh""".split()
+# In a level text these can't be names either.
+LEVEL_WORDS = ["levels", "level", "within"]
 EVENTS = ["enqueue", "tick", "yield", "block"]
 COMPARISONS = ["==", "!=", "<", "<=", ">", ">="]
 TOKEN = re.compile(r"(?P<blank>[ \t\r\n]+|#[^\n]*)|(?P<word>[A-Za-z][A-Za-z0-9_]*)|(?P<number>[0-9]+)|(?P<symbol>\.\.|[=!<>]=|[.,:(){}+*=<>-])")
 
 
 class Token:
-    """A token: its kind (word, number, symbol), its text, and its first byte, from 0. The end of a text is a token of kind end."""
+    """A token: its kind (word, number, symbol), its text, its first byte, from 0, and the words that can't be names in its text."""
 
-    def __init__(self, kind, text, at):
-        self.kind, self.text, self.at = kind, text, at
+    def __init__(self, kind, text, at, reserved):
+        self.kind, self.text, self.at, self.reserved = kind, text, at, reserved
 
     def fits(self, terminal):
         if terminal == "NAME":
-            return self.kind == "word" and self.text not in RESERVED
+            return self.kind == "word" and self.text not in self.reserved
         if terminal == "WORD":
             return self.kind == "word"
         if terminal == "NUMBER":
@@ -34,9 +37,15 @@ def tokens_of(text):
     found, at, text = [], 0, text.decode("latin-1")
     while match := TOKEN.match(text, at):
         if match.lastgroup != "blank":
-            found.append(Token(match.lastgroup, match.group(), at))
+            found.append((match.lastgroup, match.group(), at))
         at = match.end()
-    return found
+    reserved = RESERVED + LEVEL_WORDS if found and found[0][1] == "levels" else RESERVED
+    return [Token(*it, reserved) for it in found]
+
+
+def is_by_levels(tokens):
+    """Whether the text is one by levels: its first token says so."""
+    return bool(tokens) and tokens[0].text == "levels"
 
 
 class Table:
@@ -78,7 +87,7 @@ class Table:
         return item
 
     def start(self):
-        return self.opened([(("rule", "policy"), ())])
+        return self.opened([(("rule", "policy"), ()), (("rule", "levels"), ())])
 
     def opened(self, stacks):
         """The stacks that these come to, each with a sign on top, or empty."""
@@ -136,7 +145,22 @@ class Conditions:
         return found
 
     def filter(self):
-        return self.behind("filter")
+        return self.levels() if is_by_levels(self.tokens) else self.behind("filter")
+
+    def levels(self):
+        """The filter that the levels are compiled to. A later level's `always` isn't in it."""
+        near, found = None, None
+        for n, token in enumerate(self.tokens):
+            if token.text == "level" and self.tokens[n - 1].text != ".":
+                self.at = n + 2
+                within = self.unit()
+                belongs = within
+                if near:
+                    belongs = ("not", near) if within == ("always",) else ("and", ("not", near), within)
+                near = ("or", near, within) if near else within
+                part = ("and", belongs, self.read(self.at + 1))
+                found = ("or", found, part) if found else part
+        return found
 
     def batch(self):
         """The condition behind `while`, if there is one."""
@@ -181,7 +205,7 @@ class Conditions:
         """Whether the right side of a comparison has ended."""
         token = self.tokens[self.at]
         behind_dot = self.tokens[self.at - 1].text == "."
-        return not behind_dot and token.text in ("and", "or", ")", ":", "choose", "limit")
+        return not behind_dot and token.text in ("and", "or", ")", ":", "choose", "limit", "filter", "level")
 
 
 def count_of(outcome, cond):

@@ -96,7 +96,7 @@ def hint(found, before, signs):
         return ". Write two comparisons with `and` between them"
     if found.text == "(" and "NUMBER" in signs:
         return ". A sum has no parentheses; multiply it out"
-    if "NAME" in signs and found.text in policies.RESERVED:
+    if "NAME" in signs and found.text in found.reserved:
         return f". {quoted(found.text)} has a meaning of its own, so it can't be a name"
     close = alike(found.text, [it for it in signs if it.isalpha() and it.islower()]) if found.kind == "word" else []
     return f". Near is `{close[0]}`" if close else ""
@@ -109,12 +109,22 @@ def is_joined(tokens):
     return is_close and texts[1] == "-" and tokens[0].kind == tokens[2].kind == "word"
 
 
+def last_of(tokens, words):
+    """The last of these words that stands there, but behind a dot."""
+    found = [it.text for it, before in zip(tokens, [None, *tokens]) if it.text in words and (before is None or before.text != ".")]
+    return found[-1] if found else None
+
+
 def of_many(text, at, tokens):
     word = next(it.text for it in tokens if it.at == at)
+    before = [it for it in tokens if it.at < at] if policies.is_by_levels(tokens) else []
+    keys = "2 keys of `choose` in a level text" if last_of(before, ("elect", "choose", "steal")) == "choose" else "4 keys of one order"
+    is_filter = last_of(before, ("when", "filter", "prefer", "while")) == "filter"
+    comparisons = "3 comparisons of a level's filter" if is_filter else "16 comparisons of one condition"
     most = {"core": "8 attributes of cores", "thread": "8 attributes of threads", "when": "8 cases of one handler"}
-    most.update({"t": "8 assignments of one case", "min": "4 keys of one order", "max": "4 keys of one order"})
-    most["prefer"] = "4 keys of one order"
-    most.update(dict.fromkeys(policies.COMPARISONS, "16 comparisons of one condition"))
+    most.update({"t": "8 assignments of one case", "level": "3 levels"})
+    most.update(dict.fromkeys(["min", "max", "prefer"], keys))
+    most.update(dict.fromkeys(policies.COMPARISONS, comparisons))
     return f"{quoted(word)} is one too many: there may be {most.get(word, '32 operators of one expression')}"
 
 
@@ -155,6 +165,7 @@ HERE = {
     "elect": "`elect` sees `t` alone, with `weight` and attributes of threads",
     "steal": "`steal` sees `t` alone, with `weight` and attributes of threads",
     "while": "the condition after `while` sees `self` and `victim`, with `nr`, `load` and attributes of cores, and `t`, with `weight` and attributes of threads",
+    "within": "`within` sees `self` and `victim`, with attributes of cores alone",
     "filter": "`filter` sees `self` and `victim`, with `nr`, `load` and attributes of cores",
     "choose": "`choose` sees `self` and `victim`, with `nr`, `load` and attributes of cores",
     "on": "a handler sees `t`, with `weight` and attributes of threads, and of `self` the attributes of cores; `t.fresh` only on `enqueue`",

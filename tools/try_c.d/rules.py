@@ -48,10 +48,10 @@ class Rules(apart.Policy):
         while self.takes("on"):
             event = self.next()
             self.handlers[event] = self.cases_of_handler()
+        self.near = []
+        self.filter = self.rule(self.text(self.condition() if self.takes("filter") else self.levels(), "a", "one"))
         self.next()
-        self.filter = self.rule(self.condition_in("a", "one"))
-        self.next()
-        self.choose = self.order("a", "b")
+        self.choose = self.order("a", "b", [("prefer", near) for near in self.near])
         self.next()
         self.steal = self.order("one", "other")
         self.batch, self.limit = self.never, 1
@@ -109,11 +109,12 @@ class Rules(apart.Policy):
         form = self.expression()
         return self.rule(f"{self.value(form, 'a', 'one')} < {self.value(form, 'b', 'one')}")
 
-    def order(self, one, other):
-        """Whether the one comes before the other: the lists of what the keys see of each, in the order of Python."""
-        if self.takes("first"):
-            return self.never
-        keys = [self.key()]
+    def order(self, one, other, before=()):
+        """Whether the one comes before the other: the lists of what the keys see of each, in the order of Python. Some keys may stand
+        before those of the text."""
+        keys = [*before]
+        if not self.takes("first"):
+            keys.append(self.key())
         while self.takes(","):
             keys.append(self.key())
         sides = [", ".join(self.seen(how, part, side) for how, part in keys) for side in (one, other)]

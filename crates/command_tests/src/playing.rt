@@ -20,10 +20,11 @@ use std::thread::Threads;
 use std::{fs, io};
 
 /// The tables, in the order in which they are played.
-const TABLES: [&str; 17] = [
+const TABLES: [&str; 18] = [
     "statuses.cases",
     "words.cases",
     "check.cases",
+    "levels.cases",
     "bound.cases",
     "certs.cases",
     "emit.cases",

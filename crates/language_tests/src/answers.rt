@@ -21,7 +21,8 @@ pub(crate) fn syntax_answer(alloc: Global, text: &[u8]) -> Result<String, AllocE
     }
 }
 
-fn token_fault(alloc: Global, fault: LexFault) -> Result<String, AllocError> {
+/// The fault with its byte.
+pub(crate) fn token_fault(alloc: Global, fault: LexFault) -> Result<String, AllocError> {
     match fault {
         LexFault::NotAscii(at) => format!(in alloc; "not-ascii {at}"),
         LexFault::BadByte(at) => format!(in alloc; "bad-byte {at}"),
@@ -31,7 +32,8 @@ fn token_fault(alloc: Global, fault: LexFault) -> Result<String, AllocError> {
     }
 }
 
-fn grammar_fault(alloc: Global, fault: ParseFault) -> Result<String, AllocError> {
+/// The fault with its token and its limit.
+pub(crate) fn grammar_fault(alloc: Global, fault: ParseFault) -> Result<String, AllocError> {
     match fault {
         ParseFault::Unexpected(at) => format!(in alloc; "unexpected {at}"),
         ParseFault::Deep(at) => format!(in alloc; "deep {at}"),

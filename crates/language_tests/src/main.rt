@@ -5,6 +5,7 @@
 
 mod answers;
 mod built;
+mod leveling;
 mod printing;
 mod reading_again;
 mod resolving;

@@ -56,7 +56,7 @@ pub(crate) fn shown(alloc: Global, policy: &Policy) -> Result<String, AllocError
 }
 
 /// The fault with its token.
-fn type_fault(alloc: Global, fault: TypeFault) -> Result<String, AllocError> {
+pub(crate) fn type_fault(alloc: Global, fault: TypeFault) -> Result<String, AllocError> {
     let (word, at) = match fault {
         TypeFault::Unknown(at) => ("unknown", at),
         TypeFault::Twice(at) => ("twice", at),

@@ -117,7 +117,7 @@ fn show_batch(text: &mut String, batch: &Option<Batch>) -> Result<(), AllocError
 }
 
 /// A condition, with parentheses round each conjunction and each disjunction.
-fn show_cond(text: &mut String, cond: &Cond) -> Result<(), AllocError> {
+pub(crate) fn show_cond(text: &mut String, cond: &Cond) -> Result<(), AllocError> {
     match cond {
         Cond::Always => text.push_str("always"),
         Cond::Not(inner) => {

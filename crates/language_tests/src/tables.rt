@@ -1,6 +1,7 @@
 //! The tables, and what is asked of their texts.
 
 use crate::answers::syntax_answer;
+use crate::leveling::level_answer;
 use crate::printing::printed_answer;
 use crate::resolving::policy_answer;
 use case_tables::{Answers, play_table};
@@ -17,6 +18,8 @@ enum Question {
     Printed,
     /// The policy that it is, or the first rule of names, ranges and phases that it breaks.
     Policy,
+    /// The policy by levels that it is, or its first fault.
+    Levels,
 }
 
 impl Answers for Question {
@@ -25,15 +28,17 @@ impl Answers for Question {
             Question::Syntax => syntax_answer(alloc, text),
             Question::Printed => printed_answer(alloc, text),
             Question::Policy => policy_answer(alloc, text),
+            Question::Levels => level_answer(alloc, text),
         }
     }
 }
 
 /// The tables, in the order in which they are played.
-const TABLES: [(&str, Question); 3] = [
+const TABLES: [(&str, Question); 4] = [
     ("syntax.cases", Question::Syntax),
     ("printed.cases", Question::Printed),
     ("policies.cases", Question::Policy),
+    ("levels.cases", Question::Levels),
 ];
 
 /// Plays all tables.

@@ -3,11 +3,11 @@ use Rattle.std.proofs.Common.{◌≡◌, ℕ, suc, ◌+◌, Bool, true, false, c
 use Rattle.std.specs.List.{list_any, position_from}
 use Rattle.std.specs.Prelude.{option_and_then}
 use Rattle.std.proofs.lemmas.List.Folds.{list_any-append}
-use Rattle.policy_tree.specs.Trees.{CondTree, either}
+use Rattle.policy_tree.specs.Trees.{CondTree, always, negated, both, either, test}
 use Rattle.policy_eval.specs.declared.env.CoreValues.{CoreValues}
 use Rattle.policy_eval.specs.Sights.{pair_values}
 use Rattle.policy_eval.specs.Values.{Assignment, holds}
-use Rattle.level_policy.specs.Compiled.{any_of, belonging, compiled_filter, level_filters, near}
+use Rattle.level_policy.specs.Compiled.{any_of, belonging, compiled_filter, level_filters, narrowed, near}
 use Rattle.level_policy.specs.Laws.{LevelFilterLaw}
 use Rattle.level_policy.specs.LevelChoices.{filter_holds, level_of, passes_its_level, takes_in}
 use Rattle.level_policy.specs.Levels.{LevelTree}
@@ -19,6 +19,10 @@ or-false false = refl
 and-false : (x : Bool) → false ≡ (x && false)
 and-false true = refl
 and-false false = refl
+
+and-true : (x : Bool) → x ≡ (x && true)
+and-true true = refl
+and-true false = refl
 
 or-assoc : (x y z : Bool) → ((x || y) || z) ≡ (x || (y || z))
 or-assoc true y z = refl
@@ -32,6 +36,13 @@ parted false true false further = refl
 parted false false passes further = refl
 
 module _ (values : Assignment) where
+  holds-narrowed : (beyond within : CondTree) → holds values (narrowed beyond within) ≡ (holds values beyond && holds values within)
+  holds-narrowed beyond always = and-true (holds values beyond)
+  holds-narrowed beyond (negated c) = refl
+  holds-narrowed beyond (both l r) = refl
+  holds-narrowed beyond (either l r) = refl
+  holds-narrowed beyond (test how l r) = refl
+
   -- a chain of `or` holds where one of its parts does
   holds-chain : (c : CondTree) (cs : List CondTree) → holds values (fold either c cs) ≡ (holds values c || list_any (holds values) cs)
   holds-chain c [] = or-false (holds values c)
@@ -60,7 +71,9 @@ module _ (own other : CoreValues) where
 
   holds-belonging : (earlier : List LevelTree) (level : LevelTree) → holds (pair_values own other) (belonging earlier level) ≡ (not (taken_in earlier) && takes_in own other level)
   holds-belonging [] level = refl
-  holds-belonging (first ∷ earlier) level = ap (λ near. not near && takes_in own other level) (holds-near (first ∷ earlier))
+  holds-belonging (first ∷ earlier) level =
+      holds-narrowed (pair_values own other) (negated (near (first ∷ earlier))) level.within
+      ∙ ap (λ near. not near && takes_in own other level) (holds-near (first ∷ earlier))
 
   -- one of the filters holds: no earlier level takes the core in, and it passes the first that does
   any-filters : (earlier levels : List LevelTree) → list_any (holds (pair_values own other)) (level_filters earlier levels) ≡ (not (taken_in earlier) && passes_first levels)
@@ -76,12 +89,12 @@ module _ (own other : CoreValues) where
   holds-compiled levels = holds-any_of (pair_values own other) (level_filters [] levels) ∙ any-filters [] levels
 
 -- a place is counted from where the count began
-position-suc : {X : Type 0} (test : X → Bool) (i : ℕ) (xs : List X) → position_from test (i + 1) xs ≡ option_map suc (position_from test i xs)
-position-suc test i [] = refl
-position-suc test i (x ∷ xs) =
-    elim (test x) as (λ b. cond b (Some (i + 1)) (position_from test (i + 1 + 1) xs) ≡ option_map suc (cond b (Some i) (position_from test (i + 1) xs))) [
+position-suc : {X : Type 0} (asked : X → Bool) (i : ℕ) (xs : List X) → position_from asked (i + 1) xs ≡ option_map suc (position_from asked i xs)
+position-suc asked i [] = refl
+position-suc asked i (x ∷ xs) =
+    elim (asked x) as (λ b. cond b (Some (i + 1)) (position_from asked (i + 1 + 1) xs) ≡ option_map suc (cond b (Some i) (position_from asked (i + 1) xs))) [
       | true ↦ let e : i + 1 ≡ suc i = omega arith in ap (λ n. Some n) e
-      | false ↦ position-suc test (i + 1) xs
+      | false ↦ position-suc asked (i + 1) xs
     ]
 
 -- what stands one place further behind one item more

@@ -2,7 +2,7 @@
 use Rattle.std.specs.Prelude.{ℕ, ◌-◌, List, [], ◌∷◌, ◌++◌, fold, length, map, take}
 use Rattle.std.specs.List.{range_with_len}
 use Rattle.policy_tree.specs.Meaning.{KeyTree, Meaning, preferring}
-use Rattle.policy_tree.specs.Trees.{CondTree, always, negated, both, either}
+use Rattle.policy_tree.specs.Trees.{CondTree, always, negated, both, either, test}
 use Rattle.level_policy.specs.Levels.{LevelTree, LevelsMeaning}
 
 -- one of these holds, a chain of `or`. Where there is none, it never does
@@ -14,10 +14,18 @@ any_of (c ∷ conditions) = fold either c conditions
 abbrev pub near : List LevelTree → CondTree
 near levels = any_of (map (λ (level : LevelTree). level.within) levels)
 
+-- both conditions hold. That `always` holds too needn't be said
+abbrev pub narrowed : CondTree → CondTree → CondTree
+narrowed beyond always = beyond
+narrowed beyond (negated c) = both beyond (negated c)
+narrowed beyond (both l r) = both beyond (both l r)
+narrowed beyond (either l r) = both beyond (either l r)
+narrowed beyond (test how l r) = both beyond (test how l r)
+
 -- the core belongs to the level behind those: none of them takes it in, and the level does
 abbrev pub belonging : List LevelTree → LevelTree → CondTree
 belonging [] level = level.within
-belonging (first ∷ earlier) level = both (negated (near (first ∷ earlier))) level.within
+belonging (first ∷ earlier) level = narrowed (negated (near (first ∷ earlier))) level.within
 
 -- for each of the levels, behind the earlier ones: the core belongs to it, and passes its filter
 abbrev pub level_filters : List LevelTree → List LevelTree → List CondTree

@@ -2,7 +2,8 @@
 
 ghost use Rattle.std.specs.Prelude.{◌≡◌, ◌≤◌, IfOk, length, map};
 ghost use Rattle.policy_tree.specs.Trees.{both as both_tree, cond_tree, either as either_tree};
-ghost use Rattle.level_policy.specs.Compiled.{belonging as belonging_to, compiled_filter, near as near_of};
+ghost use Rattle.level_policy.specs.Compiled.{belonging as belonging_to, compiled_filter};
+ghost use Rattle.level_policy.specs.Compiled.{narrowed as narrowed_tree, near as near_of};
 ghost use Rattle.level_policy.specs.Levels.{level_tree};
 
 use crate::typed::Level;
@@ -38,13 +39,23 @@ fn belonging(alloc: Global, earlier: &[Level], level: &Level) -> Result<Cond, Al
     ensures { IfOk result (λ belongs.
         cond_tree belongs ≡ belonging_to (map level_tree earlier.now) (level_tree level.now)) }
 {
-    let within = copy_of_cond(alloc, &level.within)?;
     if earlier.is_empty() {
-        return Ok(within);
+        return copy_of_cond(alloc, &level.within);
     }
     let nearer = near(alloc, earlier)?;
     let beyond = Cond::Not(Box::new(alloc, nearer)?);
-    both(alloc, beyond, within)
+    narrowed(alloc, beyond, &level.within)
+}
+
+/// Both of the two hold. That `always` holds too isn't said.
+fn narrowed(alloc: Global, beyond: Cond, within: &Cond) -> Result<Cond, AllocError>
+    ensures { IfOk result (λ joined.
+        cond_tree joined ≡ narrowed_tree (cond_tree beyond) (cond_tree within.now)) }
+{
+    match within {
+        Cond::Always => Ok(beyond),
+        _ => both(alloc, beyond, copy_of_cond(alloc, within)?),
+    }
 }
 
 /// One of the levels takes the core in.

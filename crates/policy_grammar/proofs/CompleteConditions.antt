@@ -26,17 +26,17 @@ first-none : (o : Option ParseFault) → first_of o None ≡ o
 first-none None = refl
 first-none (Some f) = refl
 
-pub breaks-conjunction : (limits : Limits) (depth count at : ℕ) (first : ConditionTree) (rest : ConditionTrees) →
-    breaks_condition limits depth count (conjunction at first rest)
-    ≡ first_of (breaks_condition limits depth count first) (breaks_parts limits depth (count + comparisons first) rest)
-breaks-conjunction limits depth count at first no_more = sym (first-none _)
-breaks-conjunction limits depth count at first (more second rest) = refl
+pub breaks-conjunction : (limits : Limits) (most depth count at : ℕ) (first : ConditionTree) (rest : ConditionTrees) →
+    breaks_condition limits most depth count (conjunction at first rest)
+    ≡ first_of (breaks_condition limits most depth count first) (breaks_parts limits most depth (count + comparisons first) rest)
+breaks-conjunction limits most depth count at first no_more = sym (first-none _)
+breaks-conjunction limits most depth count at first (more second rest) = refl
 
-pub breaks-disjunction : (limits : Limits) (depth count at : ℕ) (first : ConditionTree) (rest : ConditionTrees) →
-    breaks_condition limits depth count (disjunction at first rest)
-    ≡ first_of (breaks_condition limits depth count first) (breaks_parts limits depth (count + comparisons first) rest)
-breaks-disjunction limits depth count at first no_more = sym (first-none _)
-breaks-disjunction limits depth count at first (more second rest) = refl
+pub breaks-disjunction : (limits : Limits) (most depth count at : ℕ) (first : ConditionTree) (rest : ConditionTrees) →
+    breaks_condition limits most depth count (disjunction at first rest)
+    ≡ first_of (breaks_condition limits most depth count first) (breaks_parts limits most depth (count + comparisons first) rest)
+breaks-disjunction limits most depth count at first no_more = sym (first-none _)
+breaks-disjunction limits most depth count at first (more second rest) = refl
 
 pub comparisons-conjunction : (at : ℕ) (first : ConditionTree) (rest : ConditionTrees) →
     comparisons (conjunction at first rest) ≡ comparisons first + comparisons_of rest
@@ -117,114 +117,114 @@ module _ (limits : Limits) (text : List ℕ) (ts : List Lexeme) where
   go-count : (at : ℕ) {m n : ℕ} (stack : List Symbol) → m ≡ n → go limits ts at m stack ≡ go limits ts at n stack
   go-count at stack e = ap (λ i. go limits ts at i stack) e
 
-  begins-test : (at count depth : ℕ) (below : List Symbol) → BeginsTest ts at →
-      go limits ts at count (unit depth ∷ below) ≡ go limits ts at count (operand depth depth 0 ∷ compare depth ∷ below)
-  begins-test at count depth below b =
-      go-same limits ts at count count (unit depth ∷ below) (operand depth depth 0 ∷ compare depth ∷ below) refl
+  begins-test : (at count most depth : ℕ) (below : List Symbol) → BeginsTest ts at →
+      go limits ts at count (unit most depth ∷ below) ≡ go limits ts at count (operand depth depth 0 ∷ compare most depth ∷ below)
+  begins-test at count most depth below b =
+      go-same limits ts at count count (unit most depth ∷ below) (operand depth depth 0 ∷ compare most depth ∷ below) refl
       (rw (b.always, b.not, b.group) refl)
 
-  pub compares : (at count depth : ℕ) (below : List Symbol) (c : Cmp) → kind_at ts at ≡ compare_word c →
-      go limits ts at count (compare depth ∷ below)
-      ≡ judged (many limits.comparisons at count) (go limits ts (at + 1) (count + 1) (operand depth depth 0 ∷ below))
-  compares at count depth below cmp.Eq k = go-move limits ts at (code terminal.Equal) count (count + 1) (compare depth ∷ below) _ (many limits.comparisons at count) k (lit< tt) refl
-  compares at count depth below cmp.Ne k = go-move limits ts at (code terminal.Unequal) count (count + 1) (compare depth ∷ below) _ (many limits.comparisons at count) k (lit< tt) refl
-  compares at count depth below cmp.Lt k = go-move limits ts at (code terminal.Less) count (count + 1) (compare depth ∷ below) _ (many limits.comparisons at count) k (lit< tt) refl
-  compares at count depth below cmp.Le k = go-move limits ts at (code terminal.AtMost) count (count + 1) (compare depth ∷ below) _ (many limits.comparisons at count) k (lit< tt) refl
-  compares at count depth below cmp.Gt k = go-move limits ts at (code terminal.More) count (count + 1) (compare depth ∷ below) _ (many limits.comparisons at count) k (lit< tt) refl
-  compares at count depth below cmp.Ge k = go-move limits ts at (code terminal.AtLeast) count (count + 1) (compare depth ∷ below) _ (many limits.comparisons at count) k (lit< tt) refl
+  pub compares : (at count most depth : ℕ) (below : List Symbol) (c : Cmp) → kind_at ts at ≡ compare_word c →
+      go limits ts at count (compare most depth ∷ below)
+      ≡ judged (many most at count) (go limits ts (at + 1) (count + 1) (operand depth depth 0 ∷ below))
+  compares at count most depth below cmp.Eq k = go-move limits ts at (code terminal.Equal) count (count + 1) (compare most depth ∷ below) _ (many most at count) k (lit< tt) refl
+  compares at count most depth below cmp.Ne k = go-move limits ts at (code terminal.Unequal) count (count + 1) (compare most depth ∷ below) _ (many most at count) k (lit< tt) refl
+  compares at count most depth below cmp.Lt k = go-move limits ts at (code terminal.Less) count (count + 1) (compare most depth ∷ below) _ (many most at count) k (lit< tt) refl
+  compares at count most depth below cmp.Le k = go-move limits ts at (code terminal.AtMost) count (count + 1) (compare most depth ∷ below) _ (many most at count) k (lit< tt) refl
+  compares at count most depth below cmp.Gt k = go-move limits ts at (code terminal.More) count (count + 1) (compare most depth ∷ below) _ (many most at count) k (lit< tt) refl
+  compares at count most depth below cmp.Ge k = go-move limits ts at (code terminal.AtLeast) count (count + 1) (compare most depth ∷ below) _ (many most at count) k (lit< tt) refl
 
-  pub ands-end : (at count depth : ℕ) (below : List Symbol) → (kind_at ts at == code And) ≡ false →
-      go limits ts at count (ands depth ∷ below) ≡ go limits ts at count below
-  ands-end at count depth below n = go-same limits ts at count count (ands depth ∷ below) below refl (rw n refl)
+  pub ands-end : (at count most depth : ℕ) (below : List Symbol) → (kind_at ts at == code And) ≡ false →
+      go limits ts at count (ands most depth ∷ below) ≡ go limits ts at count below
+  ands-end at count most depth below n = go-same limits ts at count count (ands most depth ∷ below) below refl (rw n refl)
 
-  pub ors-end : (at count depth : ℕ) (below : List Symbol) → (kind_at ts at == code Or) ≡ false →
-      go limits ts at count (ors depth ∷ below) ≡ go limits ts at count below
-  ors-end at count depth below n = go-same limits ts at count count (ors depth ∷ below) below refl (rw n refl)
+  pub ors-end : (at count most depth : ℕ) (below : List Symbol) → (kind_at ts at == code Or) ≡ false →
+      go limits ts at count (ors most depth ∷ below) ≡ go limits ts at count below
+  ors-end at count most depth below n = go-same limits ts at count count (ors most depth ∷ below) below refl (rw n refl)
 
   mutual
-    pub unit_read : {at to : ℕ} {v : ConditionTree} → IsUnit text ts at v to → NoOperator ts to → (count depth : ℕ) (below : List Symbol) →
-        go limits ts at count (unit depth ∷ below)
-        ≡ judged (breaks_condition limits depth count v) (go limits ts to (count + comparisons v) below)
-    unit_read {at = at} (unit_always k) n count depth below =
-        go-move limits ts at (code terminal.Always) count count (unit depth ∷ below) below None k (lit< tt) refl
+    pub unit_read : {at to : ℕ} {v : ConditionTree} → IsUnit text ts at v to → NoOperator ts to → (count most depth : ℕ) (below : List Symbol) →
+        go limits ts at count (unit most depth ∷ below)
+        ≡ judged (breaks_condition limits most depth count v) (go limits ts to (count + comparisons v) below)
+    unit_read {at = at} (unit_always k) n count most depth below =
+        go-move limits ts at (code terminal.Always) count count (unit most depth ∷ below) below None k (lit< tt) refl
         ∙ go-count (at + 1) below (omega arith)
-    unit_read {at = at} (unit_not {v = v} k d) n count depth below =
-        go-move limits ts at (code terminal.Not) count count (unit depth ∷ below) (unit (depth + 1) ∷ below) (deep limits at depth) k (lit< tt) refl
-        ∙ ap (judged (deep limits at depth)) (unit_read d n count (depth + 1) below)
+    unit_read {at = at} (unit_not {v = v} k d) n count most depth below =
+        go-move limits ts at (code terminal.Not) count count (unit most depth ∷ below) (unit most (depth + 1) ∷ below) (deep limits at depth) k (lit< tt) refl
+        ∙ ap (judged (deep limits at depth)) (unit_read d n count most (depth + 1) below)
         ∙ sym (judged-first (deep limits at depth) _ _)
-    unit_read {at = at} (unit_group {mid = mid} {v = v} k d c) n count depth below =
-        go-move limits ts at (code terminal.Open) count count (unit depth ∷ below) (unit (depth + 1) ∷ ands (depth + 1) ∷ ors (depth + 1) ∷ close ∷ below)
+    unit_read {at = at} (unit_group {mid = mid} {v = v} k d c) n count most depth below =
+        go-move limits ts at (code terminal.Open) count count (unit most depth ∷ below) (unit most (depth + 1) ∷ ands most (depth + 1) ∷ ors most (depth + 1) ∷ close ∷ below)
         (deep limits at depth) k (lit< tt) refl
         ∙ ap (judged (deep limits at depth))
-        (condition_read d (close-stops c) count (depth + 1) (close ∷ below)
-        ∙ ap (judged (breaks_condition limits (depth + 1) count v))
+        (condition_read d (close-stops c) count most (depth + 1) (close ∷ below)
+        ∙ ap (judged (breaks_condition limits most (depth + 1) count v))
         (go-move limits ts mid (code terminal.Close) (count + comparisons v) (count + comparisons v) (close ∷ below) below None c (lit< tt) refl))
         ∙ sym (judged-first (deep limits at depth) _ _)
-    unit_read {at = at} {to = to} (unit_test {mid = mid} c {left = left} {right = right} d k e) n count depth below =
-        begins-test at count depth below (expr-begins d)
-        ∙ expr_read limits text ts d (compare-no_operator ts mid c k) count depth (compare depth ∷ below)
+    unit_read {at = at} {to = to} (unit_test {mid = mid} c {left = left} {right = right} d k e) n count most depth below =
+        begins-test at count most depth below (expr-begins d)
+        ∙ expr_read limits text ts d (compare-no_operator ts mid c k) count depth (compare most depth ∷ below)
         ∙ ap (judged (breaks_expr limits depth left))
-        (compares mid count depth below c k
-        ∙ ap (judged (many limits.comparisons mid count)) (expr_read limits text ts e n (count + 1) depth below)
-        ∙ sym (judged-first (many limits.comparisons mid count) _ _))
+        (compares mid count most depth below c k
+        ∙ ap (judged (many most mid count)) (expr_read limits text ts e n (count + 1) depth below)
+        ∙ sym (judged-first (many most mid count) _ _))
         ∙ sym (judged-first (breaks_expr limits depth left) _ _)
 
-    pub ands_read : {at to : ℕ} {us : ConditionTrees} → IsAnds text ts at us to → NoAnd ts to → (count depth : ℕ) (below : List Symbol) →
-        go limits ts at count (ands depth ∷ below)
-        ≡ judged (breaks_parts limits depth count us) (go limits ts to (count + comparisons_of us) below)
-    ands_read {at = at} ands_none n count depth below =
-        ands-end at count depth below n.and ∙ go-count at below (omega arith)
-    ands_read {at = at} {to = to} (ands_more {v = v} {rest = rest} k d others) n count depth below =
-        go-move limits ts at (code terminal.And) count count (ands depth ∷ below) (unit depth ∷ ands depth ∷ below)
+    pub ands_read : {at to : ℕ} {us : ConditionTrees} → IsAnds text ts at us to → NoAnd ts to → (count most depth : ℕ) (below : List Symbol) →
+        go limits ts at count (ands most depth ∷ below)
+        ≡ judged (breaks_parts limits most depth count us) (go limits ts to (count + comparisons_of us) below)
+    ands_read {at = at} ands_none n count most depth below =
+        ands-end at count most depth below n.and ∙ go-count at below (omega arith)
+    ands_read {at = at} {to = to} (ands_more {v = v} {rest = rest} k d others) n count most depth below =
+        go-move limits ts at (code terminal.And) count count (ands most depth ∷ below) (unit most depth ∷ ands most depth ∷ below)
         None k (lit< tt) refl
-        ∙ unit_read d (ands-stop others n.operator) count depth (ands depth ∷ below)
-        ∙ ap (judged (breaks_condition limits depth count v))
-        (ands_read others n (count + comparisons v) depth below
-        ∙ ap (judged (breaks_parts limits depth (count + comparisons v) rest)) (go-count to below (omega arith)))
-        ∙ sym (judged-first (breaks_condition limits depth count v) _ _)
+        ∙ unit_read d (ands-stop others n.operator) count most depth (ands most depth ∷ below)
+        ∙ ap (judged (breaks_condition limits most depth count v))
+        (ands_read others n (count + comparisons v) most depth below
+        ∙ ap (judged (breaks_parts limits most depth (count + comparisons v) rest)) (go-count to below (omega arith)))
+        ∙ sym (judged-first (breaks_condition limits most depth count v) _ _)
 
-    pub conjunction_read : {at to : ℕ} {v : ConditionTree} → IsConjunction text ts at v to → NoAnd ts to → (count depth : ℕ) (below : List Symbol) →
-        go limits ts at count (unit depth ∷ ands depth ∷ below)
-        ≡ judged (breaks_condition limits depth count v) (go limits ts to (count + comparisons v) below)
-    conjunction_read {at = at} {to = to} (conjunction_of first rest d others) n count depth below =
-        unit_read d (ands-stop others n.operator) count depth (ands depth ∷ below)
-        ∙ ap (judged (breaks_condition limits depth count first)) (ands_read others n (count + comparisons first) depth below)
-        ∙ sym (judged-first (breaks_condition limits depth count first) _ _)
-        ∙ ap (λ o. judged o (go limits ts to (count + comparisons first + comparisons_of rest) below)) (sym (breaks-conjunction limits depth count at first rest))
-        ∙ ap (judged (breaks_condition limits depth count (conjunction at first rest)))
+    pub conjunction_read : {at to : ℕ} {v : ConditionTree} → IsConjunction text ts at v to → NoAnd ts to → (count most depth : ℕ) (below : List Symbol) →
+        go limits ts at count (unit most depth ∷ ands most depth ∷ below)
+        ≡ judged (breaks_condition limits most depth count v) (go limits ts to (count + comparisons v) below)
+    conjunction_read {at = at} {to = to} (conjunction_of first rest d others) n count most depth below =
+        unit_read d (ands-stop others n.operator) count most depth (ands most depth ∷ below)
+        ∙ ap (judged (breaks_condition limits most depth count first)) (ands_read others n (count + comparisons first) most depth below)
+        ∙ sym (judged-first (breaks_condition limits most depth count first) _ _)
+        ∙ ap (λ o. judged o (go limits ts to (count + comparisons first + comparisons_of rest) below)) (sym (breaks-conjunction limits most depth count at first rest))
+        ∙ ap (judged (breaks_condition limits most depth count (conjunction at first rest)))
         (go-count to below (omega (arith, comparisons-conjunction at first rest)))
 
-    pub ors_read : {at to : ℕ} {cs : ConditionTrees} → IsOrs text ts at cs to → NoOr ts to → (count depth : ℕ) (below : List Symbol) →
-        go limits ts at count (ors depth ∷ below)
-        ≡ judged (breaks_parts limits depth count cs) (go limits ts to (count + comparisons_of cs) below)
-    ors_read {at = at} ors_none n count depth below =
-        ors-end at count depth below n.or ∙ go-count at below (omega arith)
-    ors_read {at = at} {to = to} (ors_more {v = v} {rest = rest} k d others) n count depth below =
-        go-move limits ts at (code terminal.Or) count count (ors depth ∷ below) (unit depth ∷ ands depth ∷ ors depth ∷ below) None k (lit< tt) refl
-        ∙ conjunction_read d (ors-stop others n.before) count depth (ors depth ∷ below)
-        ∙ ap (judged (breaks_condition limits depth count v))
-        (ors_read others n (count + comparisons v) depth below
-        ∙ ap (judged (breaks_parts limits depth (count + comparisons v) rest)) (go-count to below (omega arith)))
-        ∙ sym (judged-first (breaks_condition limits depth count v) _ _)
+    pub ors_read : {at to : ℕ} {cs : ConditionTrees} → IsOrs text ts at cs to → NoOr ts to → (count most depth : ℕ) (below : List Symbol) →
+        go limits ts at count (ors most depth ∷ below)
+        ≡ judged (breaks_parts limits most depth count cs) (go limits ts to (count + comparisons_of cs) below)
+    ors_read {at = at} ors_none n count most depth below =
+        ors-end at count most depth below n.or ∙ go-count at below (omega arith)
+    ors_read {at = at} {to = to} (ors_more {v = v} {rest = rest} k d others) n count most depth below =
+        go-move limits ts at (code terminal.Or) count count (ors most depth ∷ below) (unit most depth ∷ ands most depth ∷ ors most depth ∷ below) None k (lit< tt) refl
+        ∙ conjunction_read d (ors-stop others n.before) count most depth (ors most depth ∷ below)
+        ∙ ap (judged (breaks_condition limits most depth count v))
+        (ors_read others n (count + comparisons v) most depth below
+        ∙ ap (judged (breaks_parts limits most depth (count + comparisons v) rest)) (go-count to below (omega arith)))
+        ∙ sym (judged-first (breaks_condition limits most depth count v) _ _)
 
-    pub condition_read : {at to : ℕ} {v : ConditionTree} → IsCondition text ts at v to → NoOr ts to → (count depth : ℕ) (below : List Symbol) →
-        go limits ts at count (unit depth ∷ ands depth ∷ ors depth ∷ below)
-        ≡ judged (breaks_condition limits depth count v) (go limits ts to (count + comparisons v) below)
-    condition_read {at = at} {to = to} (condition_of first rest d others) n count depth below =
-        conjunction_read d (ors-stop others n.before) count depth (ors depth ∷ below)
-        ∙ ap (judged (breaks_condition limits depth count first)) (ors_read others n (count + comparisons first) depth below)
-        ∙ sym (judged-first (breaks_condition limits depth count first) _ _)
-        ∙ ap (λ o. judged o (go limits ts to (count + comparisons first + comparisons_of rest) below)) (sym (breaks-disjunction limits depth count at first rest))
-        ∙ ap (judged (breaks_condition limits depth count (disjunction at first rest)))
+    pub condition_read : {at to : ℕ} {v : ConditionTree} → IsCondition text ts at v to → NoOr ts to → (count most depth : ℕ) (below : List Symbol) →
+        go limits ts at count (unit most depth ∷ ands most depth ∷ ors most depth ∷ below)
+        ≡ judged (breaks_condition limits most depth count v) (go limits ts to (count + comparisons v) below)
+    condition_read {at = at} {to = to} (condition_of first rest d others) n count most depth below =
+        conjunction_read d (ors-stop others n.before) count most depth (ors most depth ∷ below)
+        ∙ ap (judged (breaks_condition limits most depth count first)) (ors_read others n (count + comparisons first) most depth below)
+        ∙ sym (judged-first (breaks_condition limits most depth count first) _ _)
+        ∙ ap (λ o. judged o (go limits ts to (count + comparisons first + comparisons_of rest) below)) (sym (breaks-disjunction limits most depth count at first rest))
+        ∙ ap (judged (breaks_condition limits most depth count (disjunction at first rest)))
         (go-count to below (omega (arith, comparisons-disjunction at first rest)))
 
-  pub condition-begins : (at count : ℕ) (below : List Symbol) →
-      go limits ts at count (condition ∷ below) ≡ go limits ts at 0 (unit 0 ∷ ands 0 ∷ ors 0 ∷ below)
-  condition-begins at count below = go-same limits ts at count 0 (condition ∷ below) (unit 0 ∷ ands 0 ∷ ors 0 ∷ below) refl refl
+  pub condition-begins : (at count most : ℕ) (below : List Symbol) →
+      go limits ts at count (condition most ∷ below) ≡ go limits ts at 0 (unit most 0 ∷ ands most 0 ∷ ors most 0 ∷ below)
+  condition-begins at count most below = go-same limits ts at count 0 (condition most ∷ below) (unit most 0 ∷ ands most 0 ∷ ors most 0 ∷ below) refl refl
 
   -- a whole condition
-  pub whole_read : {at to : ℕ} {v : ConditionTree} → IsCondition text ts at v to → NoOr ts to → (below : List Symbol) →
-      go limits ts at 0 (condition ∷ below) ≡ judged (breaks_condition limits 0 0 v) (go limits ts to (comparisons v) below)
-  whole_read {at = at} {to = to} {v = v} d n below =
-      condition-begins at 0 below ∙ condition_read d n 0 0 below
-      ∙ ap (judged (breaks_condition limits 0 0 v)) (go-count to below (omega arith))
+  pub whole_read : {at to : ℕ} {v : ConditionTree} → IsCondition text ts at v to → NoOr ts to → (most : ℕ) (below : List Symbol) →
+      go limits ts at 0 (condition most ∷ below) ≡ judged (breaks_condition limits most 0 0 v) (go limits ts to (comparisons v) below)
+  whole_read {at = at} {to = to} {v = v} d n most below =
+      condition-begins at 0 most below ∙ condition_read d n 0 most 0 below
+      ∙ ap (judged (breaks_condition limits most 0 0 v)) (go-count to below (omega arith))

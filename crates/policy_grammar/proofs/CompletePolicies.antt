@@ -10,7 +10,7 @@ use Rattle.policy_syntax.specs.declared.syntax.LoadSyntax.{LoadSyntax}
 use Rattle.policy_syntax.specs.declared.syntax.AttrSyntax.{AttrSyntax}
 use Rattle.policy_syntax.specs.declared.syntax.PlaceSyntax.{PlaceSyntax}
 use Rattle.policy_syntax.specs.declared.syntax.SetSyntax.{SetSyntax}
-use Rattle.policy_syntax.specs.SyntaxTrees.{ElectSyntaxTree, BatchSyntaxTree, CaseSyntaxTree, HandlerSyntaxTree, SyntaxTree}
+use Rattle.policy_syntax.specs.SyntaxTrees.{OrderSyntaxTree, ElectSyntaxTree, BatchSyntaxTree, CaseSyntaxTree, HandlerSyntaxTree, SyntaxTree}
 use Rattle.policy_grammar.specs.declared.terminal.Lexeme.{Lexeme}
 use Rattle.policy_grammar.specs.declared.terminal.Terminal.TheVariants.{Policy, Load, In, Start, Choose, Steal, When, Filter, Limit, Name, Number, Dot, Comma, Colon, Begin, Finish, Gets, Range}
 use Rattle.policy_grammar.specs.declared.terminal.Terminal.TheVariants as terminal
@@ -19,7 +19,8 @@ use Rattle.policy_grammar.specs.declared.fault.ParseFault.{ParseFault}
 use Rattle.policy_grammar.specs.Terminals.{code, kind_at, is_word}
 use Rattle.policy_grammar.specs.Words.{attr_word, event_word, put_word}
 use Rattle.policy_grammar.specs.Policies.{IsLoad, load_count, load_weight, IsAttr, attr_of, IsAttrs, attrs_none, attrs_more, IsPlace, place_none, place_here, place_least, IsElect, elect_none, elect_some, IsBatch, batch_none, batch_some, IsSets, sets_none, sets_more, IsCase, case_of, IsCases, cases_none, cases_more, IsHandler, handler_of, IsHandlers, handlers_none, handlers_more, IsPolicy, policy_of}
-use Rattle.policy_grammar.specs.Breaks.{many, first_of, breaks_expr, breaks_condition, breaks_sets, breaks_cases, breaks_handlers, of_cores_more, of_threads_more, of_kind, breaks_attrs, breaks_place, breaks_elect, breaks_batch, breaks_policy, comparisons}
+use Rattle.policy_grammar.specs.Orders.{IsOrder}
+use Rattle.policy_grammar.specs.Breaks.{many, first_of, breaks_expr, breaks_condition, breaks_sets, breaks_cases, breaks_handlers, of_cores_more, of_threads_more, of_kind, breaks_attrs, breaks_place, breaks_elect, breaks_order, breaks_batch, breaks_policy, comparisons}
 use Rattle.policy_grammar.specs.Machine.{Symbol, the, load_rule, int, attrs, place, place_rule, elect, handlers, event, case, cases, actions, field, order, batch, condition, operand, go, start}
 use Rattle.policy_grammar.proofs.Steps.{judged, judged-first, go-move, go-same, is-zero}
 use Rattle.policy_grammar.proofs.CompleteExpressions.{NoOperator, the-read, int_read, range_read, expr_read, go-at}
@@ -67,10 +68,16 @@ from-at first k e low high = record { least = omega (arith, e, low); most = omeg
 from-less : {m n : ℕ} {ts : List Lexeme} {at : ℕ} → m ≤ n → From n ts at → From m ts at
 from-less le f = let least = f.least in record { least = omega (arith, least, le); most = f.most }
 
+pub filter-from : {ts : List Lexeme} {at : ℕ} → kind_at ts at ≡ code Filter → From (code terminal.Level) ts at
+filter-from k = from-at (code terminal.Level) (code Filter) k (omega arith) (omega arith)
+
+pub level-from : {ts : List Lexeme} {at : ℕ} → kind_at ts at ≡ code terminal.Level → From (code terminal.Level) ts at
+level-from k = from-at (code terminal.Level) (code terminal.Level) k (omega arith) (omega arith)
+
 pub handlers-from : {text : List ℕ} {ts : List Lexeme} {at to : ℕ} {hs : List HandlerSyntaxTree} → IsHandlers text ts at hs to →
-    kind_at ts to ≡ code Filter → From (code terminal.On) ts at
-handlers-from handlers_none k = from-at (code terminal.On) (code terminal.Filter) k (omega arith) (omega arith)
-handlers-from (handlers_more (handler_of e k1 k2 k3 c cs k4) more) k =
+    From (code terminal.Level) ts to → From (code terminal.On) ts at
+handlers-from handlers_none f = from-less (omega arith) f
+handlers-from (handlers_more (handler_of e k1 k2 k3 c cs k4) more) f =
     from-at (code terminal.On) (code terminal.On) k1 (omega arith) (omega arith)
 
 pub elect-from : {text : List ℕ} {ts : List Lexeme} {at to : ℕ} {e : Option ElectSyntaxTree} → IsElect text ts at e to → From (code terminal.On) ts to → From (code terminal.Elect) ts at
@@ -156,8 +163,8 @@ module _ (limits : Limits) (text : List ℕ) (ts : List Lexeme) where
       go limits ts at 0 (elect ∷ below) ≡ judged (breaks_elect limits e) (go limits ts to 0 below)
   elect_read {at = at} elect_none f below = go-same limits ts at 0 0 (elect ∷ below) below refl (rw (from-past (code terminal.Elect) (omega arith) f) refl)
   elect_read {at = at} (elect_some k d) f below =
-      go-move limits ts at (code terminal.Elect) 0 0 (elect ∷ below) (order ∷ below) None k (lit< tt) refl
-      ∙ order_read limits text ts d (from-no_key f) below
+      go-move limits ts at (code terminal.Elect) 0 0 (elect ∷ below) (order limits.keys ∷ below) None k (lit< tt) refl
+      ∙ order_read limits text ts d (from-no_key f) limits.keys below
 
   put-read : (at before : ℕ) (below : List Symbol) (p : Put) → kind_at ts at ≡ put_word p →
       go limits ts at 0 (actions before ∷ below) ≡ go limits ts (at + 1) 0 below
@@ -194,25 +201,25 @@ module _ (limits : Limits) (text : List ℕ) (ts : List Lexeme) where
       ∙ sym (judged-first (many limits.sets at before) _ _)
 
   case-body : {at to : ℕ} {c : CaseSyntaxTree} → IsCase text ts at c to → (below : List Symbol) →
-      go limits ts (at + 1) 0 (condition ∷ the Colon ∷ actions 0 ∷ below)
-      ≡ judged (breaks_condition limits 0 0 c.guard) (judged (breaks_sets limits 0 c.sets) (go limits ts to 0 below))
+      go limits ts (at + 1) 0 (condition limits.comparisons ∷ the Colon ∷ actions 0 ∷ below)
+      ≡ judged (breaks_condition limits limits.comparisons 0 0 c.guard) (judged (breaks_sets limits 0 c.sets) (go limits ts to 0 below))
   case-body (case_of {mid = mid} {guard = guard} p k g c sets q) below =
       whole_read limits text ts g (no_or-by ts mid (code terminal.Colon) c refl refl refl refl refl)
-      (the Colon ∷ actions 0 ∷ below)
-      ∙ ap (judged (breaks_condition limits 0 0 guard))
+      limits.comparisons (the Colon ∷ actions 0 ∷ below)
+      ∙ ap (judged (breaks_condition limits limits.comparisons 0 0 guard))
       (the-read limits text ts mid (comparisons guard) (actions 0 ∷ below) Colon c (lit< tt) refl
       ∙ actions_read sets p q 0 below)
 
   case-when : {at to : ℕ} {c : CaseSyntaxTree} → IsCase text ts at c to → (before : ℕ) (below : List Symbol) →
       go limits ts at 0 (case before ∷ below)
-      ≡ judged (many limits.cases c.at before) (go limits ts (at + 1) 0 (condition ∷ the Colon ∷ actions 0 ∷ cases (before + 1) ∷ below))
+      ≡ judged (many limits.cases c.at before) (go limits ts (at + 1) 0 (condition limits.comparisons ∷ the Colon ∷ actions 0 ∷ cases (before + 1) ∷ below))
   case-when {at = at} (case_of p k g c sets q) before below =
       go-move limits ts at (code terminal.When) 0 0 (case before ∷ below) _ (many limits.cases at before)
       k (lit< tt) refl
 
   cases-when : {at to : ℕ} {c : CaseSyntaxTree} → IsCase text ts at c to → (before : ℕ) (below : List Symbol) →
       go limits ts at 0 (cases before ∷ below)
-      ≡ judged (many limits.cases c.at before) (go limits ts (at + 1) 0 (condition ∷ the Colon ∷ actions 0 ∷ cases (before + 1) ∷ below))
+      ≡ judged (many limits.cases c.at before) (go limits ts (at + 1) 0 (condition limits.comparisons ∷ the Colon ∷ actions 0 ∷ cases (before + 1) ∷ below))
   cases-when {at = at} (case_of p k g c sets q) before below =
       go-move limits ts at (code terminal.When) 0 0 (cases before ∷ below) _ (many limits.cases at before)
       k (lit< tt) refl
@@ -232,8 +239,8 @@ module _ (limits : Limits) (text : List ℕ) (ts : List Lexeme) where
       cases-when d before below
       ∙ ap (judged (many limits.cases c.at before))
       (case-body d (cases (before + 1) ∷ below)
-      ∙ ap (λ r. judged (breaks_condition limits 0 0 c.guard) (judged (breaks_sets limits 0 c.sets) r)) (cases_read more n (before + 1) below))
-      ∙ joined (many limits.cases c.at before) (breaks_condition limits 0 0 c.guard) (breaks_sets limits 0 c.sets) _ _
+      ∙ ap (λ r. judged (breaks_condition limits limits.comparisons 0 0 c.guard) (judged (breaks_sets limits 0 c.sets) r)) (cases_read more n (before + 1) below))
+      ∙ joined (many limits.cases c.at before) (breaks_condition limits limits.comparisons 0 0 c.guard) (breaks_sets limits 0 c.sets) _ _
 
   event-read : (at : ℕ) (below : List Symbol) (e : Event) → kind_at ts at ≡ event_word e → go limits ts at 0 (event ∷ below) ≡ go limits ts (at + 1) 0 below
   event-read at below event_is.Enqueue k =
@@ -258,16 +265,16 @@ module _ (limits : Limits) (text : List ℕ) (ts : List Lexeme) where
       ∙ case-when d 0 rest
       ∙ ap (judged (many limits.cases c.at 0))
       (case-body d (cases 1 ∷ rest)
-      ∙ ap (λ r. judged (breaks_condition limits 0 0 c.guard) (judged (breaks_sets limits 0 c.sets) r)) (cases_read more (rw f refl) 1 rest))
-      ∙ joined (many limits.cases c.at 0) (breaks_condition limits 0 0 c.guard) (breaks_sets limits 0 c.sets) _ _
+      ∙ ap (λ r. judged (breaks_condition limits limits.comparisons 0 0 c.guard) (judged (breaks_sets limits 0 c.sets) r)) (cases_read more (rw f refl) 1 rest))
+      ∙ joined (many limits.cases c.at 0) (breaks_condition limits limits.comparisons 0 0 c.guard) (breaks_sets limits 0 c.sets) _ _
       ∙ ap (judged (breaks_cases limits 0 (c ∷ _))) (the-read limits text ts last 0 (handlers ∷ below) Finish f (lit< tt) refl)
 
-  pub handlers_read : {at to : ℕ} {hs : List HandlerSyntaxTree} → IsHandlers text ts at hs to → kind_at ts to ≡ code Filter → (below : List Symbol) →
+  pub handlers_read : {at to : ℕ} {hs : List HandlerSyntaxTree} → IsHandlers text ts at hs to → From (code terminal.Level) ts to → (below : List Symbol) →
       go limits ts at 0 (handlers ∷ below) ≡ judged (breaks_handlers limits hs) (go limits ts to 0 below)
-  handlers_read {at = at} handlers_none k below = go-same limits ts at 0 0 (handlers ∷ below) below refl (rw k refl)
-  handlers_read (handlers_more {h = h} d more) k below =
+  handlers_read {at = at} handlers_none f below = go-same limits ts at 0 0 (handlers ∷ below) below refl (rw (from-past (code terminal.On) (omega arith) f) refl)
+  handlers_read (handlers_more {h = h} d more) f below =
       handler_read d below
-      ∙ ap (judged (breaks_cases limits 0 h.cases)) (handlers_read more k below)
+      ∙ ap (judged (breaks_cases limits 0 h.cases)) (handlers_read more f below)
       ∙ sym (judged-first (breaks_cases limits 0 h.cases) _ _)
 
 pub batch-no_key : {text : List ℕ} {ts : List Lexeme} {at to : ℕ} {b : Option BatchSyntaxTree} → IsBatch text ts at b to → kind_at ts to ≡ 0 → NoKey ts at
@@ -279,41 +286,59 @@ module _ (limits : Limits) (text : List ℕ) (ts : List Lexeme) where
       go limits ts at 0 (batch ∷ below) ≡ judged (breaks_batch limits b) (go limits ts to 0 below)
   batch_read {at = at} batch_none k below = go-same limits ts at 0 0 (batch ∷ below) below refl (rw k refl)
   batch_read {at = at} (batch_some {mid = mid} {condition = c} w d l n) k below =
-      go-move limits ts at (code terminal.While) 0 0 (batch ∷ below) (condition ∷ the Limit ∷ the Number ∷ below) None w (lit< tt) refl
-      ∙ whole_read limits text ts d (no_or-by ts mid (code terminal.Limit) l refl refl refl refl refl) (the Limit ∷ the Number ∷ below)
-      ∙ ap (judged (breaks_condition limits 0 0 c))
+      go-move limits ts at (code terminal.While) 0 0 (batch ∷ below) (condition limits.comparisons ∷ the Limit ∷ the Number ∷ below) None w (lit< tt) refl
+      ∙ whole_read limits text ts d (no_or-by ts mid (code terminal.Limit) l refl refl refl refl refl) limits.comparisons (the Limit ∷ the Number ∷ below)
+      ∙ ap (judged (breaks_condition limits limits.comparisons 0 0 c))
       (the-read limits text ts mid (comparisons c) (the Number ∷ below) Limit l (lit< tt) refl
       ∙ the-read limits text ts (mid + 1) 0 below Number n (lit< tt) refl
       ∙ go-at limits text ts 0 below (let e : mid + 1 + 1 ≡ mid + 2 = omega arith in e))
 
-judged-is : (o : Option ParseFault) {r x : Option ParseFault} → r ≡ x → judged o r ≡ first_of o x
+pub judged-is : (o : Option ParseFault) {r x : Option ParseFault} → r ≡ x → judged o r ≡ first_of o x
 judged-is None e = e
 judged-is (Some f) e = refl
 
+module _ (limits : Limits) (text : List ℕ) (ts : List Lexeme) where
+  -- all that stands before the filter, or before the levels
+  pub front_read : {at_attrs at_place at_elect at_handlers to : ℕ} {l : LoadSyntax} {us : List AttrSyntax} {p : Option PlaceSyntax}
+      {e : Option ElectSyntaxTree} {hs : List HandlerSyntaxTree} →
+      IsLoad ts 2 l at_attrs → IsAttrs text ts at_attrs us at_place → IsPlace text ts at_place p at_elect →
+      IsElect text ts at_elect e at_handlers → IsHandlers text ts at_handlers hs to → From (code terminal.Level) ts to → (below : List Symbol) →
+      go limits ts 2 0 (the Load ∷ load_rule ∷ attrs 0 0 ∷ place ∷ elect ∷ handlers ∷ below)
+      ≡ judged (breaks_attrs limits 0 0 us) (judged (breaks_place limits p) (judged (breaks_elect limits e) (judged (breaks_handlers limits hs) (go limits ts to 0 below))))
+  front_read {us = us} {p = p} {e = e} dl da dp de dh f below =
+      let fh = handlers-from dh f in
+      let fe = elect-from de fh in
+      load_read limits text ts dl _
+      ∙ attrs_read limits text ts da (place-from dp fe) 0 0 _
+      ∙ ap (judged (breaks_attrs limits 0 0 us)) (place_read limits text ts dp fe _
+      ∙ ap (judged (breaks_place limits p)) (elect_read limits text ts de fh _
+      ∙ ap (judged (breaks_elect limits e)) (handlers_read limits text ts dh f below)))
+
+  -- the orders and the batch, behind which nothing stands
+  pub choices_read : (at_choose : ℕ) {at_steal at_batch : ℕ} {c s : OrderSyntaxTree} {b : Option BatchSyntaxTree} → kind_at ts at_choose ≡ code Choose →
+      IsOrder text ts (at_choose + 1) c at_steal → kind_at ts at_steal ≡ code Steal → IsOrder text ts (at_steal + 1) s at_batch →
+      IsBatch text ts at_batch b (length ts) → (count most : ℕ) →
+      go limits ts at_choose count (the Choose ∷ order most ∷ the Steal ∷ order limits.keys ∷ batch ∷ [])
+      ≡ first_of (breaks_order limits most c) (first_of (breaks_order limits limits.keys s) (breaks_batch limits b))
+  choices_read at_choose {at_steal = at_steal} kc dc ks ds db count most =
+      let none = kind-end ts in
+      the-read limits text ts at_choose count _ Choose kc (lit< tt) refl
+      ∙ order_read limits text ts dc (no_key-by ts at_steal (code terminal.Steal) ks refl refl refl refl refl refl) most _
+      ∙ judged-is _ (the-read limits text ts at_steal 0 _ Steal ks (lit< tt) refl
+      ∙ order_read limits text ts ds (batch-no_key db none) limits.keys _
+      ∙ judged-is _ (batch_read limits text ts db none []
+      ∙ ap (judged _) (is-zero limits ts (length ts) refl 0 [] refl)
+      ∙ judged-none _))
+
 -- the tokens of a policy are read to their end, up to the first limit that it passes
 pub policy_read : (limits : Limits) (text : List ℕ) (ts : List Lexeme) {s : SyntaxTree} → IsPolicy text ts s →
-    go limits ts 0 0 start ≡ breaks_policy limits s
+    go limits ts 0 0 (start limits) ≡ breaks_policy limits s
 policy_read limits text ts
-    (policy_of {at_attrs = at_attrs} {at_place = at_place} {at_elect = at_elect} {at_handlers = at_handlers} {at_filter = at_filter}
-    {at_choose = at_choose} {at_steal = at_steal} {filter = filter}
-    k0 k1 dl da dp de dh kf df kc dc ks ds db) =
-    let fh = handlers-from dh kf in
-    let fe = elect-from de fh in
-    let fp = place-from dp fe in
-    let none = kind-end ts in
+    (policy_of {at_filter = at_filter} {at_choose = at_choose} {attrs = us} {place = p} {elect = e} {handlers = hs} {filter = filter} k0 k1 dl da dp de dh kf df kc dc ks ds db) =
     the-read limits text ts 0 0 _ Policy k0 (lit< tt) refl
     ∙ the-read limits text ts 1 0 _ Name k1 (lit< tt) refl
-    ∙ load_read limits text ts dl _
-    ∙ attrs_read limits text ts da fp 0 0 _
-    ∙ judged-is _ (place_read limits text ts dp fe _
-    ∙ judged-is _ (elect_read limits text ts de fh _
-    ∙ judged-is _ (handlers_read limits text ts dh kf _
-    ∙ judged-is _ (the-read limits text ts at_filter 0 _ Filter kf (lit< tt) refl
-    ∙ whole_read limits text ts df (no_or-by ts at_choose (code terminal.Choose) kc refl refl refl refl refl) _
-    ∙ judged-is _ (the-read limits text ts at_choose (comparisons filter) _ Choose kc (lit< tt) refl
-    ∙ order_read limits text ts dc (no_key-by ts at_steal (code terminal.Steal) ks refl refl refl refl refl refl) _
-    ∙ judged-is _ (the-read limits text ts at_steal 0 _ Steal ks (lit< tt) refl
-    ∙ order_read limits text ts ds (batch-no_key db none) _
-    ∙ judged-is _ (batch_read limits text ts db none []
-    ∙ ap (judged _) (is-zero limits ts (length ts) refl 0 [] refl)
-    ∙ judged-none _)))))))
+    ∙ front_read limits text ts dl da dp de dh (filter-from kf) _
+    ∙ judged-is (breaks_attrs limits 0 0 us) (judged-is (breaks_place limits p) (judged-is (breaks_elect limits e) (judged-is (breaks_handlers limits hs)
+    (the-read limits text ts at_filter 0 _ Filter kf (lit< tt) refl
+    ∙ whole_read limits text ts df (no_or-by ts at_choose (code terminal.Choose) kc refl refl refl refl refl) limits.comparisons _
+    ∙ judged-is (breaks_condition limits limits.comparisons 0 0 filter) (choices_read limits text ts at_choose kc dc ks ds db (comparisons filter) limits.keys)))))

@@ -3,9 +3,11 @@ pub mod CompleteExpressions
 pub mod CompleteConditions
 pub mod CompleteOrders
 pub mod CompletePolicies
+pub mod CompleteLevels
 pub mod Viable
 pub mod Reached
 pub mod Places
+pub mod Languages
 pub mod Exact
 pub mod Total
 pub mod Tags
@@ -14,3 +16,4 @@ pub mod OneExpressions
 pub mod OneConditions
 pub mod OneOrders
 pub mod OnePolicies
+pub mod OneLevels

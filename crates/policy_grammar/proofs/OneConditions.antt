@@ -27,7 +27,7 @@ module _ (text : List ℕ) (ts : List Lexeme) where
       (and-then (λ i. IsExpr text ts (i + 1)) (compare-same mid a b k l) e (λ o. expr-one text ts d n o m))
 
   mutual
-    unit-one : {at to so : ℕ} {v w : ConditionTree} → IsUnit text ts at v to → NoOperator ts to → IsUnit text ts at w so → NoOperator ts so → Same v to w so
+    pub unit-one : {at to so : ℕ} {v w : ConditionTree} → IsUnit text ts at v to → NoOperator ts to → IsUnit text ts at w so → NoOperator ts so → Same v to w so
     unit-one (unit_always k) n (unit_always l) m = same
     unit-one (unit_always k) n (unit_not l e) m = absurd (omega (arith, k, l))
     unit-one (unit_always k) n (unit_group l e f) m = absurd (omega (arith, k, l))

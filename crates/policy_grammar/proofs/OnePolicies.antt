@@ -1,5 +1,5 @@
 -- The tokens have one tree at most: policies.
-use Rattle.std.proofs.Common.{◌≡◌, ◌==◌, ◌+◌, ℕ, List, ◌∷◌, true, false, Option, Some, refl, arith}
+use Rattle.std.proofs.Common.{◌≡◌, ◌==◌, ◌+◌, ℕ, List, ◌∷◌, length, true, false, Option, Some, refl, arith}
 use Rattle.std.proofs.lemmas.Bool.{ne_eqb}
 use Rattle.policy_tree.specs.declared.typed.Put.{Put}
 use Rattle.policy_syntax.specs.declared.syntax.LoadSyntax.{LoadSyntax}
@@ -8,7 +8,7 @@ use Rattle.policy_syntax.specs.declared.syntax.AttrSyntax.{AttrSyntax}
 use Rattle.policy_syntax.specs.declared.syntax.PlaceSyntax.{PlaceSyntax}
 use Rattle.policy_syntax.specs.declared.syntax.PlaceSyntax.TheVariants as place
 use Rattle.policy_syntax.specs.declared.syntax.SetSyntax.{SetSyntax}
-use Rattle.policy_syntax.specs.SyntaxTrees.{ConditionTree, ElectSyntaxTree, BatchSyntaxTree, CaseSyntaxTree, HandlerSyntaxTree, SyntaxTree}
+use Rattle.policy_syntax.specs.SyntaxTrees.{ConditionTree, OrderSyntaxTree, ElectSyntaxTree, BatchSyntaxTree, CaseSyntaxTree, HandlerSyntaxTree, SyntaxTree}
 use Rattle.policy_grammar.specs.declared.terminal.Lexeme.{Lexeme}
 use Rattle.policy_grammar.specs.declared.terminal.Terminal.TheVariants as terminal
 use Rattle.policy_grammar.specs.Terminals.{code, kind_at, value_at, word_at}
@@ -18,7 +18,7 @@ use Rattle.policy_grammar.specs.Conditions.{IsCondition}
 use Rattle.policy_grammar.specs.Orders.{IsOrder}
 use Rattle.policy_grammar.specs.Policies.{IsLoad, load_count, load_weight, IsAttr, attr_of, IsAttrs, attrs_none, attrs_more, IsPlace, place_none, place_here, place_least, IsElect, elect_none, elect_some, IsBatch, batch_none, batch_some, IsSets, sets_none, sets_more, IsCase, case_of, IsCases, cases_none, cases_more, IsHandler, handler_of, IsHandlers, handlers_none, handlers_more, IsPolicy, policy_of}
 use Rattle.policy_grammar.proofs.CompleteConditions.{no_operator-by, no_or-by}
-use Rattle.policy_grammar.proofs.CompletePolicies.{From, from-no_operator, from-no_key, from-past, handlers-from, elect-from, place-from, kind-end, no_key-by, batch-no_key}
+use Rattle.policy_grammar.proofs.CompletePolicies.{From, from-no_operator, from-no_key, from-past, filter-from, handlers-from, elect-from, place-from, kind-end, no_key-by, batch-no_key}
 use Rattle.policy_grammar.proofs.OneExpressions.{int-one, range-one, expr-one}
 use Rattle.policy_grammar.proofs.OneConditions.{condition-one}
 use Rattle.policy_grammar.proofs.OneOrders.{order-one}
@@ -132,14 +132,15 @@ module _ (text : List ℕ) (ts : List Lexeme) where
   handler-on : {at to : ℕ} {h : HandlerSyntaxTree} → IsHandler text ts at h to → kind_at ts at ≡ code terminal.On
   handler-on (handler_of a k1 k2 k3 d more f) = k1
 
-  handlers-one : {at to so : ℕ} {v w : List HandlerSyntaxTree} → IsHandlers text ts at v to →
-      kind_at ts to ≡ code terminal.Filter →
-      IsHandlers text ts at w so → kind_at ts so ≡ code terminal.Filter → Same v to w so
-  handlers-one handlers_none n handlers_none m = same
-  handlers-one handlers_none n (handlers_more e others) m = let on = handler-on e in absurd (omega (arith, n, on))
-  handlers-one (handlers_more d rest) n handlers_none m = let on = handler-on d in absurd (omega (arith, m, on))
-  handlers-one (handlers_more d rest) n (handlers_more e others) m =
-      same-ap (λ p. p.0 ∷ p.1) (and-then (IsHandlers text ts) (handler-one d e) others (λ o. handlers-one rest n o m))
+  handlers-one : {at to so : ℕ} {v w : List HandlerSyntaxTree} → IsHandlers text ts at v to → From (code terminal.Level) ts to →
+      IsHandlers text ts at w so → From (code terminal.Level) ts so → Same v to w so
+  handlers-one handlers_none f handlers_none g = same
+  handlers-one handlers_none f (handlers_more e others) g =
+      absurd (is-not _ (code terminal.On) (from-past (code terminal.On) (omega arith) f) (handler-on e))
+  handlers-one (handlers_more d rest) f handlers_none g =
+      absurd (is-not _ (code terminal.On) (from-past (code terminal.On) (omega arith) g) (handler-on d))
+  handlers-one (handlers_more d rest) f (handlers_more e others) g =
+      same-ap (λ p. p.0 ∷ p.1) (and-then (IsHandlers text ts) (handler-one d e) others (λ o. handlers-one rest f o g))
 
   -- `while` stands where a batch begins, and no token behind the last
   batch-none : (at : ℕ) → kind_at ts at ≡ 0 → kind_at ts at ≡ code terminal.While → ⊥
@@ -159,27 +160,46 @@ module _ (text : List ℕ) (ts : List Lexeme) where
       (condition-one text ts d (no_or-by ts mid (code terminal.Limit) l refl refl refl refl refl) e
       (no_or-by ts there (code terminal.Limit) l' refl refl refl refl refl))
 
-  pub policy-one : {s t : SyntaxTree} → IsPolicy text ts s → IsPolicy text ts t → s ≡ t
-  policy-one
-      (policy_of {at_filter = at_filter} {at_choose = at_choose} {at_steal = at_steal} k0 k1 dl da dp de dh kf df kc dc ks ds db)
-      (policy_of {at_filter = bt_filter} {at_choose = bt_choose} {at_steal = bt_steal} l0 l1 el ea ep ee eh lf ef lc ec ls es eb) =
-      let fh = handlers-from dh kf in
-      let gh = handlers-from eh lf in
+  -- all that stands before the filter, or before the levels
+  pub front-one : {a1 a2 a3 a4 to b1 b2 b3 b4 so : ℕ} {l r : LoadSyntax} {us vs : List AttrSyntax} {p q : Option PlaceSyntax} {e o : Option ElectSyntaxTree}
+      {hs js : List HandlerSyntaxTree} →
+      IsLoad ts 2 l a1 → IsAttrs text ts a1 us a2 → IsPlace text ts a2 p a3 → IsElect text ts a3 e a4 → IsHandlers text ts a4 hs to → From (code terminal.Level) ts to →
+      IsLoad ts 2 r b1 → IsAttrs text ts b1 vs b2 → IsPlace text ts b2 q b3 → IsElect text ts b3 o b4 → IsHandlers text ts b4 js so → From (code terminal.Level) ts so →
+      Same {X = (((LoadSyntax × List AttrSyntax) × Option PlaceSyntax) × Option ElectSyntaxTree) × List HandlerSyntaxTree}
+      ((((l, us), p), e), hs) to ((((r, vs), q), o), js) so
+  front-one dl da dp de dh f el ea ep ee eh g =
+      let fh = handlers-from dh f in
+      let gh = handlers-from eh g in
       let fe = elect-from de fh in
       let ge = elect-from ee gh in
-      let fp = place-from dp fe in
-      let gp = place-from ep ge in
-      let none = kind-end ts in
-      let head = and-then (IsAttrs text ts) (load-one dl el) ea (λ o. attrs-one da fp o gp) in
+      let head = and-then (IsAttrs text ts) (load-one dl el) ea (λ o. attrs-one da (place-from dp fe) o (place-from ep ge)) in
       let placed = and-then (IsPlace text ts) head ep (λ o. place-one dp fe o ge) in
       let elected = and-then (IsElect text ts) placed ee (λ o. elect-one de fh o gh) in
-      let handled = same-place (and-then (IsHandlers text ts) elected eh (λ o. handlers-one dh kf o lf)) in
+      and-then (IsHandlers text ts) elected eh (λ o. handlers-one dh f o g)
+
+  -- the orders and the batch, behind which nothing stands
+  pub choices-one : {X : Type 0} {x y : X} {m n a_steal a_batch b_steal b_batch : ℕ} {c d s r : OrderSyntaxTree} {b e : Option BatchSyntaxTree} →
+      Same {X = X × ℕ} (x, m) m (y, n) n →
+      kind_at ts m ≡ code terminal.Choose → IsOrder text ts (m + 1) c a_steal → kind_at ts a_steal ≡ code terminal.Steal →
+      IsOrder text ts (a_steal + 1) s a_batch → IsBatch text ts a_batch b (length ts) →
+      kind_at ts n ≡ code terminal.Choose → IsOrder text ts (n + 1) d b_steal → kind_at ts b_steal ≡ code terminal.Steal →
+      IsOrder text ts (b_steal + 1) r b_batch → IsBatch text ts b_batch e (length ts) →
+      Same {X = ((((X × ℕ) × OrderSyntaxTree) × ℕ) × OrderSyntaxTree) × Option BatchSyntaxTree}
+      (((((x, m), c), a_steal), s), b) (length ts) (((((y, n), d), b_steal), r), e) (length ts)
+  choices-one {a_steal = a_steal} {b_steal = b_steal} front kc dc ks ds db lc ec ls es eb =
+      let none = kind-end ts in
+      let chosen = same-place (and-then (λ i. IsOrder text ts (i + 1)) front ec
+      (λ o. order-one text ts dc (no_key-by ts a_steal (code terminal.Steal) ks refl refl refl refl refl refl) o (no_key-by ts b_steal (code terminal.Steal) ls refl refl refl refl refl refl))) in
+      let stolen = and-then (λ i. IsOrder text ts (i + 1)) chosen es (λ o. order-one text ts ds (batch-no_key db none) o (batch-no_key eb none)) in
+      and-then (IsBatch text ts) stolen eb (λ o. batch-one db none o none)
+
+  pub policy-one : {s t : SyntaxTree} → IsPolicy text ts s → IsPolicy text ts t → s ≡ t
+  policy-one
+      (policy_of {at_choose = at_choose} k0 k1 dl da dp de dh kf df kc dc ks ds db)
+      (policy_of {at_choose = bt_choose} l0 l1 el ea ep ee eh lf ef lc ec ls es eb) =
+      let handled = same-place (front-one dl da dp de dh (filter-from kf) el ea ep ee eh (filter-from lf)) in
       let filtered = same-place (and-then (λ i. IsCondition text ts (i + 1)) handled ef
       (λ o. condition-one text ts df (no_or-by ts at_choose (code terminal.Choose) kc refl refl refl refl refl) o (no_or-by ts bt_choose (code terminal.Choose) lc refl refl refl refl refl))) in
-      let chosen = same-place (and-then (λ i. IsOrder text ts (i + 1)) filtered ec
-      (λ o. order-one text ts dc (no_key-by ts at_steal (code terminal.Steal) ks refl refl refl refl refl refl) o (no_key-by ts bt_steal (code terminal.Steal) ls refl refl refl refl refl refl))) in
-      let stolen = and-then (λ i. IsOrder text ts (i + 1)) chosen es (λ o. order-one text ts ds (batch-no_key db none) o (batch-no_key eb none)) in
-      let gone_on = and-then (IsBatch text ts) stolen eb (λ o. batch-one db none o none) in
       same-is (same-ap (λ t. record {
         name = word_at text ts 1;
         load = t.0.0.0.0.0.0.0.0.0.0.0;
@@ -194,4 +214,4 @@ module _ (text : List ℕ) (ts : List Lexeme) where
         steal_at = t.0.0.1;
         steal = t.0.1;
         batch = t.1;
-      }) gone_on)
+      }) (choices-one filtered kc dc ks ds db lc ec ls es eb))

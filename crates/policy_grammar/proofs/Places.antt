@@ -8,6 +8,7 @@ use Rattle.policy_syntax.specs.declared.syntax.TimesSyntax.{TimesSyntax}
 use Rattle.policy_syntax.specs.declared.syntax.TermSyntax.{TermSyntax}
 use Rattle.policy_syntax.specs.declared.syntax.AddedSyntax.{AddedSyntax}
 use Rattle.policy_syntax.specs.declared.syntax.ExprSyntax.{ExprSyntax}
+use Rattle.policy_syntax.specs.LevelTrees.{OneLevelSyntaxTree, LevelSyntaxTree}
 use Rattle.policy_syntax.specs.SyntaxTrees.{ConditionTree, always, negated, grouped, all, any, test, ConditionTrees, no_more, more, KeySyntaxTree, ranked, preferring, ElectSyntaxTree, BatchSyntaxTree, CaseSyntaxTree, HandlerSyntaxTree, SyntaxTree}
 use Rattle.policy_grammar.specs.declared.limits.Limits.{Limits}
 use Rattle.policy_grammar.specs.declared.terminal.Terminal.TheVariants as terminal_is
@@ -15,7 +16,8 @@ use Rattle.policy_grammar.specs.Terminals.{code, is_word}
 use Rattle.policy_grammar.specs.declared.fault.ParseFault.{ParseFault}
 use Rattle.policy_grammar.specs.declared.fault.ParseFault.TheVariants.{Unexpected, Deep, Many, Memory}
 use Rattle.policy_grammar.specs.Breaks.{deep, many, first_of, breaks_signs, breaks_times, breaks_term, breaks_added, breaks_expr, comparisons, breaks_condition, breaks_parts, key_at, breaks_key, breaks_keys, breaks_sets, breaks_cases, breaks_handlers, of_cores_more, of_threads_more, breaks_attrs, breaks_place, breaks_elect, breaks_batch, breaks_policy, after_term}
-use Rattle.policy_grammar.specs.Machine.{Symbol, count_behind, the, load_rule, int, attrs, place, place_rule, elect, handlers, event, case, cases, actions, field, order, key, keys, batch, condition, unit, ands, ors, close, compare, operand, dot, word, operators, State, state, Move, refuses, goes, is_compare, factor_move, unit_move, key_move, case_move, attr_move, symbol_move, moves}
+use Rattle.policy_grammar.specs.LevelBreaks.{breaks_level_list, breaks_levels}
+use Rattle.policy_grammar.specs.Machine.{Symbol, count_behind, the, load_rule, int, attrs, place, place_rule, elect, handlers, event, case, cases, actions, field, order, key, keys, batch, level, levels, within, condition, unit, ands, ors, close, compare, operand, dot, word, operators, State, state, Move, refuses, goes, is_compare, factor_move, unit_move, key_move, case_move, level_move, attr_move, symbol_move, moves}
 
 -- a limit, and no other fault
 abbrev pub IsLimit : Option ParseFault → Type 0
@@ -62,26 +64,26 @@ module _ (limits : Limits) where
   limit-expr depth e = limit-first _ _ (limit-term depth 0 e.first) (limit-added depth _ e.rest)
 
   mutual
-    limit-condition : (depth count : ℕ) (v : ConditionTree) → IsLimit (breaks_condition limits depth count v)
-    limit-condition depth count (always at) = tt
-    limit-condition depth count (negated at v) = limit-first _ _ (limit-deep limits at depth) (limit-condition (depth + 1) count v)
-    limit-condition depth count (grouped at v) = limit-first _ _ (limit-deep limits at depth) (limit-condition (depth + 1) count v)
-    limit-condition depth count (all at parts) = limit-parts depth count parts
-    limit-condition depth count (any at parts) = limit-parts depth count parts
-    limit-condition depth count (test at c left right) =
-        limit-first _ _ (limit-expr depth left) (limit-first _ _ (limit-many limits.comparisons at count) (limit-expr depth right))
+    limit-condition : (most depth count : ℕ) (v : ConditionTree) → IsLimit (breaks_condition limits most depth count v)
+    limit-condition most depth count (always at) = tt
+    limit-condition most depth count (negated at v) = limit-first _ _ (limit-deep limits at depth) (limit-condition most (depth + 1) count v)
+    limit-condition most depth count (grouped at v) = limit-first _ _ (limit-deep limits at depth) (limit-condition most (depth + 1) count v)
+    limit-condition most depth count (all at parts) = limit-parts most depth count parts
+    limit-condition most depth count (any at parts) = limit-parts most depth count parts
+    limit-condition most depth count (test at c left right) =
+        limit-first _ _ (limit-expr depth left) (limit-first _ _ (limit-many most at count) (limit-expr depth right))
 
-    limit-parts : (depth count : ℕ) (parts : ConditionTrees) → IsLimit (breaks_parts limits depth count parts)
-    limit-parts depth count no_more = tt
-    limit-parts depth count (more v rest) = limit-first _ _ (limit-condition depth count v) (limit-parts depth (count + comparisons v) rest)
+    limit-parts : (most depth count : ℕ) (parts : ConditionTrees) → IsLimit (breaks_parts limits most depth count parts)
+    limit-parts most depth count no_more = tt
+    limit-parts most depth count (more v rest) = limit-first _ _ (limit-condition most depth count v) (limit-parts most depth (count + comparisons v) rest)
 
   limit-key : (k : KeySyntaxTree) → IsLimit (breaks_key limits k)
   limit-key (ranked at greatest v) = limit-expr 0 v
-  limit-key (preferring at v) = limit-condition 0 0 v
+  limit-key (preferring at v) = limit-condition limits.comparisons 0 0 v
 
-  limit-keys : (count : ℕ) (ks : List KeySyntaxTree) → IsLimit (breaks_keys limits count ks)
-  limit-keys count [] = tt
-  limit-keys count (k ∷ rest) = limit-first _ _ (limit-many limits.keys (key_at k) count) (limit-first _ _ (limit-key k) (limit-keys (count + 1) rest))
+  limit-keys : (most count : ℕ) (ks : List KeySyntaxTree) → IsLimit (breaks_keys limits most count ks)
+  limit-keys most count [] = tt
+  limit-keys most count (k ∷ rest) = limit-first _ _ (limit-many most (key_at k) count) (limit-first _ _ (limit-key k) (limit-keys most (count + 1) rest))
 
   limit-sets : (count : ℕ) (ss : List SetSyntax) → IsLimit (breaks_sets limits count ss)
   limit-sets count [] = tt
@@ -91,7 +93,7 @@ module _ (limits : Limits) where
   limit-cases count [] = tt
   limit-cases count (c ∷ rest) =
       limit-first _ _ (limit-many limits.cases c.at count)
-      (limit-first _ _ (limit-condition 0 0 c.guard) (limit-first _ _ (limit-sets 0 c.sets) (limit-cases (count + 1) rest)))
+      (limit-first _ _ (limit-condition limits.comparisons 0 0 c.guard) (limit-first _ _ (limit-sets 0 c.sets) (limit-cases (count + 1) rest)))
 
   limit-handlers : (hs : List HandlerSyntaxTree) → IsLimit (breaks_handlers limits hs)
   limit-handlers [] = tt
@@ -108,17 +110,30 @@ module _ (limits : Limits) where
 
   limit-elect : (e : Option ElectSyntaxTree) → IsLimit (breaks_elect limits e)
   limit-elect None = tt
-  limit-elect (Some e) = limit-keys 0 e.order.keys
+  limit-elect (Some e) = limit-keys limits.keys 0 e.order.keys
 
   limit-batch : (b : Option BatchSyntaxTree) → IsLimit (breaks_batch limits b)
   limit-batch None = tt
-  limit-batch (Some b) = limit-condition 0 0 b.condition
+  limit-batch (Some b) = limit-condition limits.comparisons 0 0 b.condition
 
   pub limit-policy : (s : SyntaxTree) → IsLimit (breaks_policy limits s)
   limit-policy s =
       limit-first _ _ (limit-attrs 0 0 s.attrs) (limit-first _ _ (limit-place s.place) (limit-first _ _ (limit-elect s.elect)
-      (limit-first _ _ (limit-handlers s.handlers) (limit-first _ _ (limit-condition 0 0 s.filter)
-      (limit-first _ _ (limit-keys 0 s.choose.keys) (limit-first _ _ (limit-keys 0 s.steal.keys) (limit-batch s.batch)))))))
+      (limit-first _ _ (limit-handlers s.handlers) (limit-first _ _ (limit-condition limits.comparisons 0 0 s.filter)
+      (limit-first _ _ (limit-keys limits.keys 0 s.choose.keys) (limit-first _ _ (limit-keys limits.keys 0 s.steal.keys) (limit-batch s.batch)))))))
+
+  limit-levels : (count : ℕ) (ls : List OneLevelSyntaxTree) → IsLimit (breaks_level_list limits count ls)
+  limit-levels count [] = tt
+  limit-levels count (l ∷ rest) =
+      limit-first _ _ (limit-many limits.levels l.at count)
+      (limit-first _ _ (limit-first _ _ (limit-condition 1 0 0 l.within) (limit-condition limits.level_comparisons 0 0 l.filter))
+      (limit-levels (count + 1) rest))
+
+  pub limit-level-text : (s : LevelSyntaxTree) → IsLimit (breaks_levels limits s)
+  limit-level-text s =
+      limit-first _ _ (limit-attrs 0 0 s.attrs) (limit-first _ _ (limit-place s.place) (limit-first _ _ (limit-elect s.elect)
+      (limit-first _ _ (limit-handlers s.handlers) (limit-first _ _ (limit-levels 0 s.levels)
+      (limit-first _ _ (limit-keys limits.level_keys 0 s.choose.keys) (limit-first _ _ (limit-keys limits.keys 0 s.steal.keys) (limit-batch s.batch)))))))
 
 -- a limit that is passed at that token
 abbrev pub IsHere : ℕ → ParseFault → Type 0
@@ -165,20 +180,24 @@ module _ (limits : Limits) where
       (either-here at (((k == code terminal_is.Itself) || (k == code terminal_is.Victim)) ||
       ((k == code terminal_is.Core) || (k == code terminal_is.Task))) _ _ tt tt))
 
-  unit-here : (count depth at : ℕ) (below : List Symbol) (k : ℕ) → MovesHere at (unit_move limits count depth at below k)
-  unit-here count depth at below k =
+  unit-here : (count most depth at : ℕ) (below : List Symbol) (k : ℕ) → MovesHere at (unit_move limits count most depth at below k)
+  unit-here count most depth at below k =
       either-here at (k == code terminal_is.Always) _ _ tt
       (either-here at (k == code terminal_is.Not) _ _ (here-deep limits at depth)
-      (either-here at (k == code terminal_is.Open) _ _ (here-deep limits at depth) (factor-here count depth depth 0 at (compare depth ∷ below) k)))
+      (either-here at (k == code terminal_is.Open) _ _ (here-deep limits at depth) (factor-here count depth depth 0 at (compare most depth ∷ below) k)))
 
-  key-here : (before at : ℕ) (below : List Symbol) (k : ℕ) → MovesHere at (key_move limits before at below k)
-  key-here before at below k =
+  key-here : (most before at : ℕ) (below : List Symbol) (k : ℕ) → MovesHere at (key_move limits most before at below k)
+  key-here most before at below k =
       either-here at ((k == code terminal_is.Min) || (k == code terminal_is.Max)) _ _
-      (here-many limits.keys at before) (either-here at (k == code terminal_is.Prefer) _ _ (here-many limits.keys at before) tt)
+      (here-many most at before) (either-here at (k == code terminal_is.Prefer) _ _ (here-many most at before) tt)
 
   case-here : (before at : ℕ) (below : List Symbol) (k : ℕ) (outer : Move) → MovesHere at outer → MovesHere at (case_move limits before at below k outer)
   case-here before at below k outer h =
       either-here at (k == code terminal_is.When) _ outer (here-many limits.cases at before) h
+
+  level-here : (before at : ℕ) (below : List Symbol) (k : ℕ) (outer : Move) → MovesHere at outer → MovesHere at (level_move limits before at below k outer)
+  level-here before at below k outer h =
+      either-here at (k == code terminal_is.Level) _ outer (here-many limits.levels at before) h
 
   attr-here : (cores threads at : ℕ) (below : List Symbol) (k : ℕ) (outer : Move) → MovesHere at outer → MovesHere at (attr_move limits cores threads at below k outer)
   attr-here cores threads at below k outer h =
@@ -202,17 +221,21 @@ module _ (limits : Limits) where
   symbol-here count at (actions before) below k outer h =
       either-here at (k == code terminal_is.Task) _ _ (here-many limits.sets at before) (either-here at (((k == code terminal_is.Queue) || (k == code terminal_is.Keep)) || (k == code terminal_is.Block)) _ _ tt tt)
   symbol-here count at field below k outer h = token-here at (is_word k) (state 0 below)
-  symbol-here count at order below k outer h =
-      either-here at (k == code terminal_is.First) _ _ tt (key-here 0 at below k)
-  symbol-here count at (key before) below k outer h = key-here before at below k
-  symbol-here count at (keys before) below k outer h = either-here at (k == code terminal_is.Comma) _ outer tt h
+  symbol-here count at (order most) below k outer h =
+      either-here at (k == code terminal_is.First) _ _ tt (key-here most 0 at below k)
+  symbol-here count at (key most before) below k outer h = key-here most before at below k
+  symbol-here count at (keys most before) below k outer h = either-here at (k == code terminal_is.Comma) _ outer tt h
   symbol-here count at batch below k outer h = either-here at (k == code terminal_is.While) _ outer tt h
-  symbol-here count at condition below k outer h = unit-here 0 0 at (ands 0 ∷ ors 0 ∷ below) k
-  symbol-here count at (unit depth) below k outer h = unit-here count depth at below k
-  symbol-here count at (ands depth) below k outer h = either-here at (k == code terminal_is.And) _ outer tt h
-  symbol-here count at (ors depth) below k outer h = either-here at (k == code terminal_is.Or) _ outer tt h
+  symbol-here count at (level before) below k outer h = level-here before at below k refuses tt
+  symbol-here count at (levels before) below k outer h = level-here before at below k outer h
+  symbol-here count at within below k outer h =
+      either-here at (k == code terminal_is.Always) _ _ tt (factor-here 0 0 0 0 at (compare 1 0 ∷ below) k)
+  symbol-here count at (condition most) below k outer h = unit-here 0 most 0 at (ands most 0 ∷ ors most 0 ∷ below) k
+  symbol-here count at (unit most depth) below k outer h = unit-here count most depth at below k
+  symbol-here count at (ands most depth) below k outer h = either-here at (k == code terminal_is.And) _ outer tt h
+  symbol-here count at (ors most depth) below k outer h = either-here at (k == code terminal_is.Or) _ outer tt h
   symbol-here count at close below k outer h = either-here at (k == code terminal_is.Close) _ _ tt tt
-  symbol-here count at (compare depth) below k outer h = either-here at (is_compare k) _ _ (here-many limits.comparisons at count) tt
+  symbol-here count at (compare most depth) below k outer h = either-here at (is_compare k) _ _ (here-many most at count) tt
   symbol-here count at (operand base depth before) below k outer h = factor-here count base depth before at below k
   symbol-here count at (dot base before) below k outer h = either-here at (k == code terminal_is.Dot) _ _ tt tt
   symbol-here count at (word base before) below k outer h = token-here at (is_word k) (state count (operators base before ∷ below))

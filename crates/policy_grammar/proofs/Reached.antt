@@ -1,4 +1,4 @@
--- What is read begins some policy.
+-- Each stack of what is still to come can be completed, and what completes it completes what was read.
 use Rattle.std.proofs.Common.{◌≡◌, ℕ, suc, ◌+◌, List, [], ◌∷◌, ◌++◌, length, refl, sym, ap, subst, arith, false, Option, None, ◌∙◌, append_assoc, append-nil, length-append}
 use Rattle.policy_tree.specs.declared.trees.Cmp.TheVariants as cmp
 use Rattle.policy_tree.specs.declared.typed.Event.TheVariants as event_is
@@ -6,21 +6,21 @@ use Rattle.policy_tree.specs.declared.typed.Put.TheVariants as put_is
 use Rattle.policy_syntax.specs.declared.syntax.LoadSyntax.{LoadSyntax}
 use Rattle.policy_syntax.specs.declared.syntax.PlaceSyntax.{PlaceSyntax}
 use Rattle.policy_syntax.specs.declared.syntax.ExprSyntax.{ExprSyntax}
-use Rattle.policy_syntax.specs.SyntaxTrees.{ConditionTree, SyntaxTree}
+use Rattle.policy_syntax.specs.SyntaxTrees.{ConditionTree}
 use Rattle.policy_grammar.specs.declared.terminal.Lexeme.{Lexeme}
 use Rattle.policy_grammar.specs.declared.terminal.Terminal.{Terminal}
-use Rattle.policy_grammar.specs.declared.terminal.Terminal.TheVariants.{Load, Count, Place, Here, Min, First, Enqueue, When, Queue, Always, Name, Number, Dot, Colon, Close, Equal}
+use Rattle.policy_grammar.specs.declared.terminal.Terminal.TheVariants.{Load, Count, Place, Here, Min, First, Enqueue, When, Queue, Level, Within, Filter, Always, Name, Number, Dot, Colon, Close, Equal}
 use Rattle.policy_grammar.specs.declared.limits.Limits.{Limits}
 use Rattle.policy_grammar.specs.declared.fault.ParseFault.{ParseFault}
 use Rattle.policy_grammar.specs.Terminals.{code, kind_at}
 use Rattle.policy_grammar.specs.Expressions.{int_plain, operand_number, factor_plain, times_none, term_of, added_none, IsExpr, expr_of}
 use Rattle.policy_grammar.specs.Conditions.{unit_always, ands_none, conjunction_of, ors_none, IsCondition, condition_of}
 use Rattle.policy_grammar.specs.Orders.{key_ranked, keys_none, order_first}
-use Rattle.policy_grammar.specs.Policies.{IsLoad, load_count, attrs_none, IsPlace, place_none, place_here, elect_none, batch_none, sets_none, case_of, cases_none, handlers_none, IsPolicy, policy_of}
-use Rattle.policy_grammar.specs.Machine.{Symbol, the, load_rule, int, attrs, place, place_rule, elect, handlers, event, case, cases, actions, field, order, key, keys, batch, condition, unit, ands, ors, close, compare, operand, dot, word, operators, state, goes, moves, start}
+use Rattle.policy_grammar.specs.Policies.{IsLoad, load_count, attrs_none, IsPlace, place_none, place_here, elect_none, batch_none, sets_none, case_of, cases_none, handlers_none}
+use Rattle.policy_grammar.specs.Machine.{Symbol, the, load_rule, int, attrs, place, place_rule, elect, handlers, event, case, cases, actions, field, order, key, keys, batch, level, levels, within, condition, unit, ands, ors, close, compare, operand, dot, word, operators, state, goes, moves}
 use Rattle.policy_grammar.specs.Machine.{kind_of}
-use Rattle.policy_grammar.specs.Correct.{Begins}
-use Rattle.policy_grammar.proofs.Viable.{Token, token, any_word, acts, Cases, Keys, Compared, Further, Means, Are, are_none, are_more, Pulls, pulls, reference-further}
+use Rattle.policy_grammar.specs.Levels.{within_always, level_of, levels_none}
+use Rattle.policy_grammar.proofs.Viable.{Token, token, any_word, acts, Cases, Keys, LevelChain, Compared, Further, Means, Are, are_none, are_more, Pulls, pulls, reference-further}
 
 -- a lexeme of that kind
 abbrev named : Terminal → Lexeme
@@ -50,16 +50,19 @@ short (case before) = named When ∷ named Always ∷ named Colon ∷ named Queu
 short (cases before) = []
 short (actions before) = named Queue ∷ []
 short field = named Name ∷ []
-short order = named First ∷ []
-short (key before) = named Min ∷ named Number ∷ []
-short (keys before) = []
+short (order most) = named First ∷ []
+short (key most before) = named Min ∷ named Number ∷ []
+short (keys most before) = []
 short batch = []
-short condition = named Always ∷ []
-short (unit depth) = named Always ∷ []
-short (ands depth) = []
-short (ors depth) = []
+short (level before) = named Level ∷ named Within ∷ named Always ∷ named Filter ∷ named Always ∷ []
+short (levels before) = []
+short within = named Always ∷ []
+short (condition most) = named Always ∷ []
+short (unit most depth) = named Always ∷ []
+short (ands most depth) = []
+short (ors most depth) = []
 short close = named Close ∷ []
-short (compare depth) = named Equal ∷ named Number ∷ []
+short (compare most depth) = named Equal ∷ named Number ∷ []
 short (operand base depth before) = named Number ∷ []
 short (dot base before) = named Dot ∷ named Name ∷ []
 short (word base before) = named Name ∷ []
@@ -90,6 +93,11 @@ module _ (text : List ℕ) (ts : List Lexeme) where
   case-short w a c q =
       record { first = _; rest = []; mid = _; is = case_of put_is.Queue w (always-condition a).1 c sets_none q; are = cases_none }
 
+  level-short : {at : ℕ} → kind_at ts at ≡ code Level → kind_at ts (at + 1) ≡ code Within → kind_at ts (at + 2) ≡ code Always →
+      kind_at ts (at + 2 + 1) ≡ code Filter → kind_at ts (at + 2 + 1 + 1) ≡ code Always → LevelChain text ts at (at + 2 + 1 + 1 + 1)
+  level-short l w a f c =
+      record { first = _; rest = []; mid = _; is = level_of l w (within_always a) f (always-condition c).1; are = levels_none }
+
   -- a symbol by the tokens from a place on
   short-one : (at : ℕ) (s : Symbol) (ws : List Lexeme) → ((i : ℕ) → kind_at ts (at + i) ≡ kind_at (short s ++ ws) i) →
       kind_at ts at ≡ kind_at (short s ++ ws) 0 → Means text ts s at (at + length (short s))
@@ -111,19 +119,27 @@ module _ (text : List ℕ) (ts : List Lexeme) where
   short-one at (cases before) ws k z = let e : at ≡ at + 0 = omega arith in subst (λ n. Means text ts (cases before) at n) e ([], cases_none)
   short-one at (actions before) ws k z = acts put_is.Queue sets_none z
   short-one at field ws k z = any_word (rw z refl)
-  short-one at order ws k z = (_, order_first z)
-  short-one at (key before) ws k z =
+  short-one at (order most) ws k z = (_, order_first z)
+  short-one at (key most before) ws k z =
       let two : at + 1 + 1 ≡ at + 2 = omega arith in
       subst (λ n. Keys text ts at n) two
       (record { first = _; rest = []; mid = _; is = key_ranked false z (number-expr (k 1)).1; are = keys_none })
-  short-one at (keys before) ws k z = let e : at ≡ at + 0 = omega arith in subst (λ n. Means text ts (keys before) at n) e ([], keys_none)
+  short-one at (keys most before) ws k z = let e : at ≡ at + 0 = omega arith in subst (λ n. Means text ts (keys most before) at n) e ([], keys_none)
   short-one at batch ws k z = let e : at ≡ at + 0 = omega arith in subst (λ n. Means text ts batch at n) e (None, batch_none)
-  short-one at condition ws k z = always-condition z
-  short-one at (unit depth) ws k z = (_, unit_always z)
-  short-one at (ands depth) ws k z = let e : at ≡ at + 0 = omega arith in subst (λ n. Means text ts (ands depth) at n) e (_, ands_none)
-  short-one at (ors depth) ws k z = let e : at ≡ at + 0 = omega arith in subst (λ n. Means text ts (ors depth) at n) e (_, ors_none)
+  short-one at (level before) ws k z =
+      let three : at + 3 ≡ at + 2 + 1 = omega arith in
+      let four : at + 4 ≡ at + 2 + 1 + 1 = omega arith in
+      let five : at + 2 + 1 + 1 + 1 ≡ at + 5 = omega arith in
+      subst (λ n. LevelChain text ts at n) five
+      (level-short z (k 1) (k 2) (subst (λ n. kind_at ts n ≡ code Filter) three (k 3)) (subst (λ n. kind_at ts n ≡ code Always) four (k 4)))
+  short-one at (levels before) ws k z = let e : at ≡ at + 0 = omega arith in subst (λ n. Means text ts (levels before) at n) e ([], levels_none)
+  short-one at within ws k z = (_, within_always z)
+  short-one at (condition most) ws k z = always-condition z
+  short-one at (unit most depth) ws k z = (_, unit_always z)
+  short-one at (ands most depth) ws k z = let e : at ≡ at + 0 = omega arith in subst (λ n. Means text ts (ands most depth) at n) e (_, ands_none)
+  short-one at (ors most depth) ws k z = let e : at ≡ at + 0 = omega arith in subst (λ n. Means text ts (ors most depth) at n) e (_, ors_none)
   short-one at close ws k z = token z
-  short-one at (compare depth) ws k z =
+  short-one at (compare most depth) ws k z =
       let two : at + 1 + 1 ≡ at + 2 = omega arith in
       subst (λ n. Compared text ts at n) two
       (record { by = cmp.Eq; right = _; sign = z; is = (number-expr (k 1)).1 })
@@ -136,7 +152,7 @@ module _ (text : List ℕ) (ts : List Lexeme) where
   short-one at (operators base before) ws k z = let e : at ≡ at + 0 = omega arith in subst (λ n. Further text ts at n) e (nothing-further at)
 
 -- each stack can be completed
-completes : (text : List ℕ) (stack : List Symbol) → (ys : List Lexeme) × ((xs : List Lexeme) → Are text (xs ++ ys) stack (length xs) (length (xs ++ ys)))
+pub completes : (text : List ℕ) (stack : List Symbol) → (ys : List Lexeme) × ((xs : List Lexeme) → Are text (xs ++ ys) stack (length xs) (length (xs ++ ys)))
 completes text [] = ([], λ xs. subst (λ n. Are text (xs ++ []) [] (length xs) n) (sym (ap length (append-nil xs))) are_none)
 completes text (s ∷ below) =
     let c = completes text below in
@@ -151,31 +167,18 @@ completes text (s ∷ below) =
         are_more (length (xs ++ short s))
         (subst (λ n. Means text (xs ++ (short s ++ ys)) s (length xs) n) (sym (length-append xs (short s))) one) later
 
--- what completes the stack behind these tokens is a policy with them
-abbrev pub Reach : List ℕ → List Lexeme → List Symbol → Type 0
-Reach text ps stack = (ts rest : List Lexeme) (to : ℕ) → ts ≡ ps ++ rest → Are text ts stack (length ps) to → Are text ts start 0 to
+-- what completes the stack behind these tokens is all that was to come at first
+abbrev pub Reach : List Symbol → List ℕ → List Lexeme → List Symbol → Type 0
+Reach begin text ps stack = (ts rest : List Lexeme) (to : ℕ) → ts ≡ ps ++ rest → Are text ts stack (length ps) to → Are text ts begin 0 to
 
-pub reach-start : (text : List ℕ) → Reach text [] start
-reach-start text = λ ts rest to e means. means
+pub reach-start : (begin : List Symbol) (text : List ℕ) → Reach begin text [] begin
+reach-start begin text = λ ts rest to e means. means
 
-pub reach-step : (limits : Limits) (text : List ℕ) (ps : List Lexeme) (t : Lexeme) (count next : ℕ) (stack to : List Symbol) (o : Option ParseFault) →
-    Reach text ps stack → moves limits count (length ps) stack (kind_of t) ≡ goes o (state next to) → Reach text (ps ++ t ∷ []) to
-reach-step limits text ps t count next stack to o reach e = λ ts rest last same means.
+pub reach-step : (limits : Limits) (begin : List Symbol) (text : List ℕ) (ps : List Lexeme) (t : Lexeme) (count next : ℕ) (stack to : List Symbol) (o : Option ParseFault) →
+    Reach begin text ps stack → moves limits count (length ps) stack (kind_of t) ≡ goes o (state next to) → Reach begin text (ps ++ t ∷ []) to
+reach-step limits begin text ps t count next stack to o reach e = λ ts rest last same means.
     let split : ts ≡ ps ++ (t ∷ rest) = same ∙ append_assoc ps (t ∷ []) rest in
     let kind : kind_at ts (length ps) ≡ kind_of t = ap (λ x. kind_at x (length ps)) split ∙ kind-first ps (t ∷ rest) in
     let one : length (ps ++ t ∷ []) ≡ length ps + 1 = length-append ps (t ∷ []) in
     let pull = subst (Pulls text ts stack (length ps) last) (ap (moves limits count (length ps) stack) kind ∙ e) (pulls limits text ts (length ps) last count stack) in
     reach ts (t ∷ rest) last split (pull (subst (λ n. Are text ts to n last) one means))
-
--- the symbols of a whole policy are a policy
-pub policy-from : (text : List ℕ) (ts : List Lexeme) → Are text ts start 0 (length ts) → (s : SyntaxTree) × IsPolicy text ts s
-policy-from text ts
-    (are_more m0 (token k0) (are_more m1 (token k1) (are_more m2 (token kl) (are_more m3 load (are_more m4 us (are_more m5 p (are_more m6 e (are_more m7 hs
-    (are_more m8 (token kf) (are_more m9 f (are_more m10 (token kc) (are_more m11 c (are_more m12 (token ks) (are_more m13 s (are_more m14 b are_none))))))))))))))) =
-    (_, policy_of k0 k1 (load 2 (token kl)).1 us.1 p.1 e.1 hs.1 kf f.1 kc c.1 ks s.1 b.1)
-
-pub reach-begins : (text : List ℕ) (ps : List Lexeme) (stack : List Symbol) → Reach text ps stack → Begins text ps
-reach-begins text ps stack reach =
-    let c = completes text stack in
-    let w = policy-from text (ps ++ c.0) (reach (ps ++ c.0) c.0 (length (ps ++ c.0)) refl (c.1 ps)) in
-    record { rest = c.0; syntax = w.0; is = w.1 }

@@ -3,7 +3,7 @@ use Rattle.std.proofs.Common.{◌≡◌, refl}
 use denote.Enum.Declared.{tag_of}
 use Rattle.policy_grammar.specs.contracts.terminal.Terminal.{the_type}
 use Rattle.policy_grammar.specs.declared.terminal.Terminal.{Terminal}
-use Rattle.policy_grammar.specs.declared.terminal.Terminal.TheVariants.{End, Policy, Load, Count, Weight, Core, Thread, In, Start, Place, Here, Min, Max, Elect, Choose, Steal, First, On, Enqueue, Tick, Yield, Block, When, Queue, Keep, Filter, And, Or, Not, Always, Itself, Victim, Task, While, Limit, Prefer, Reserved, Name, Number, Dot, Range, Comma, Colon, Open, Close, Begin, Finish, Plus, Minus, Star, Gets, Equal, Unequal, Less, AtMost, More, AtLeast}
+use Rattle.policy_grammar.specs.declared.terminal.Terminal.TheVariants.{End, Policy, Load, Count, Weight, Core, Thread, In, Start, Place, Here, Min, Max, Elect, Choose, Steal, First, On, Enqueue, Tick, Yield, Block, When, Queue, Keep, Level, Filter, And, Or, Not, Always, Itself, Victim, Task, While, Limit, Prefer, Levels, Within, Reserved, Name, Number, Dot, Range, Comma, Colon, Open, Close, Begin, Finish, Plus, Minus, Star, Gets, Equal, Unequal, Less, AtMost, More, AtLeast}
 use Rattle.policy_grammar.specs.Terminals.{code}
 
 pub tag-is : (t : Terminal) → tag_of the_type t ≡ code t
@@ -32,6 +32,7 @@ tag-is Block = refl
 tag-is When = refl
 tag-is Queue = refl
 tag-is Keep = refl
+tag-is Level = refl
 tag-is Filter = refl
 tag-is And = refl
 tag-is Or = refl
@@ -43,6 +44,8 @@ tag-is Task = refl
 tag-is While = refl
 tag-is Limit = refl
 tag-is Prefer = refl
+tag-is Levels = refl
+tag-is Within = refl
 tag-is Reserved = refl
 tag-is Name = refl
 tag-is Number = refl

@@ -1,20 +1,24 @@
--- Reading comes to a policy or to a fault.
+-- Reading comes to a text of the language or to a fault.
 use Rattle.std.proofs.Common.{◌≡◌, ◌≢◌, ℕ, ◌+◌, inl, inr, List, [], ◌∷◌, ◌++◌, length, refl, sym, ap, subst, ◌∙◌, Bool, true, false, if◌then◌else◌, Option, Some, None, append-nil}
 use Rattle.policy_syntax.specs.SyntaxTrees.{SyntaxTree}
+use Rattle.policy_syntax.specs.LevelTrees.{LevelSyntaxTree}
 use Rattle.policy_grammar.specs.declared.terminal.Lexeme.{Lexeme}
 use Rattle.policy_grammar.specs.declared.limits.Limits.{Limits}
 use Rattle.policy_grammar.specs.declared.fault.ParseFault.{ParseFault}
 use Rattle.policy_grammar.specs.declared.fault.ParseFault.TheVariants.{Unexpected, Deep, Many, Memory}
-use Rattle.policy_grammar.specs.Answered.{HasAnswer}
+use Rattle.policy_grammar.specs.Answered.{HasAnswerIn, EachHasAnswer, EachHasLevelAnswer}
+use Rattle.policy_grammar.specs.Breaks.{breaks_policy}
+use Rattle.policy_grammar.specs.LevelBreaks.{breaks_levels}
+use Rattle.policy_grammar.specs.Levels.{IsLevels, levels_none}
 use Rattle.policy_grammar.specs.Conditions.{ands_none, ors_none}
 use Rattle.policy_grammar.specs.Expressions.{times_none, added_none}
-use Rattle.policy_grammar.specs.Machine.{Symbol, the, load_rule, int, attrs, place, place_rule, elect, handlers, event, case, cases, actions, field, order, key, keys, batch, condition, unit, ands, ors, close, compare, operand, dot, word, operators, state, Move, refuses, goes, moves, all_nothing, is_nothing, kind_of, after, run, go, start}
+use Rattle.policy_grammar.specs.Machine.{Symbol, the, load_rule, int, attrs, place, place_rule, elect, handlers, event, case, cases, actions, field, order, key, keys, batch, level, levels, within, condition, unit, ands, ors, close, compare, operand, dot, word, operators, state, Move, refuses, goes, moves, all_nothing, is_nothing, kind_of, after, run, go, start, level_start}
 use Rattle.policy_grammar.specs.Orders.{keys_none}
 use Rattle.policy_grammar.specs.Policies.{IsPolicy, attrs_none, batch_none, cases_none, elect_none, handlers_none, place_none}
-use Rattle.policy_grammar.proofs.CompletePolicies.{policy_read}
 use Rattle.policy_grammar.proofs.Exact.{Stops, at_end, refused, passed, course, fault-exact}
+use Rattle.policy_grammar.proofs.Languages.{IsLanguage, policies, level_texts}
 use Rattle.policy_grammar.proofs.Places.{IsHere, MovesHere, moves-here}
-use Rattle.policy_grammar.proofs.Reached.{Reach, policy-from, reach-start}
+use Rattle.policy_grammar.proofs.Reached.{Reach, reach-start}
 use Rattle.policy_grammar.proofs.Viable.{Are, are_none, are_more, Means}
 
 module _ (text : List ℕ) (ts : List Lexeme) where
@@ -33,16 +37,19 @@ module _ (text : List ℕ) (ts : List Lexeme) where
   nothing-one (cases before) at e = ([], cases_none)
   nothing-one (actions before) at e = absurd (cc)
   nothing-one field at e = absurd (cc)
-  nothing-one order at e = absurd (cc)
-  nothing-one (key before) at e = absurd (cc)
-  nothing-one (keys before) at e = ([], keys_none)
+  nothing-one (order most) at e = absurd (cc)
+  nothing-one (key most before) at e = absurd (cc)
+  nothing-one (keys most before) at e = ([], keys_none)
   nothing-one batch at e = (None, batch_none)
-  nothing-one condition at e = absurd (cc)
-  nothing-one (unit depth) at e = absurd (cc)
-  nothing-one (ands depth) at e = (_, ands_none)
-  nothing-one (ors depth) at e = (_, ors_none)
+  nothing-one (level before) at e = absurd (cc)
+  nothing-one (levels before) at e = ([], levels_none)
+  nothing-one within at e = absurd (cc)
+  nothing-one (condition most) at e = absurd (cc)
+  nothing-one (unit most depth) at e = absurd (cc)
+  nothing-one (ands most depth) at e = (_, ands_none)
+  nothing-one (ors most depth) at e = (_, ors_none)
   nothing-one close at e = absurd (cc)
-  nothing-one (compare depth) at e = absurd (cc)
+  nothing-one (compare most depth) at e = absurd (cc)
   nothing-one (operand base depth before) at e = absurd (cc)
   nothing-one (dot base before) at e = absurd (cc)
   nothing-one (word base before) at e = absurd (cc)
@@ -57,22 +64,7 @@ module _ (text : List ℕ) (ts : List Lexeme) where
       by true is others rest = are_more at (nothing-one s at is) (others rest)
       by false is others rest = absurd (cc)
 
-module _ (limits : Limits) (text : List ℕ) where
-  -- a run that finds no fault has read all tokens, and what was still to come may be nothing
-  ended : {ys : List Lexeme} (xs : List Lexeme) (next : ℕ) (to : List Symbol) → Reach text xs to → Stops limits text (length xs) next to ys →
-      run limits (length xs) (state next to) ys ≡ None → (s : SyntaxTree) × IsPolicy text (xs ++ ys) s
-  ended xs next to reach at_end e = by (all_nothing to) refl
-    where
-      by : (b : Bool) → all_nothing to ≡ b → (s : SyntaxTree) × IsPolicy text (xs ++ []) s
-      by true none =
-          subst (λ (ts : List Lexeme). (s : SyntaxTree) × IsPolicy text ts s) (sym (append-nil xs))
-          (policy-from text xs (reach xs [] (length xs) (sym (append-nil xs)) (nothing-all text xs to (length xs) none)))
-      by false none = let clash = sym (ap (λ (b : Bool). if b then None else Some (Unexpected (length xs))) none) ∙ e in absurd (cc)
-  ended xs next to reach (refused t ys m) e =
-      let clash = sym (ap (λ (w : Move). after (length xs) w (λ q. run limits (length xs + 1) q ys)) m) ∙ e in absurd (cc)
-  ended xs next to reach (passed t ys f later there m) e =
-      let clash = sym (ap (λ (w : Move). after (length xs) w (λ q. run limits (length xs + 1) q ys)) m) ∙ e in absurd (cc)
-
+module _ (limits : Limits) where
   -- want of memory isn't found in tokens
   end-real : (at : ℕ) (b : Bool) → (if b then None else Some (Unexpected at)) ≡ Some Memory → ⊥
   end-real at true e = cc
@@ -98,18 +90,45 @@ module _ (limits : Limits) (text : List ℕ) where
       by (goes None (state next to)) h go_on is = go_on next to is
       by (goes (Some g) q) h go_on is = here-real g h (some-is g Memory is)
 
-  read-all : (ts : List Lexeme) → run limits 0 (state 0 start) ts ≡ None → (s : SyntaxTree) × IsPolicy text ts s
-  read-all ts e =
-      let c = course limits text ts [] 0 start (reach-start text) in
-      let there = sym (c.same c.ys) ∙ subst (λ (x : List Lexeme). run limits 0 (state 0 start) x ≡ None) c.split e in
-      subst (λ (x : List Lexeme). (s : SyntaxTree) × IsPolicy text x s) (sym c.split) (ended c.xs c.next c.to c.reach c.stops there)
-
-  pub each_has_answer : (ts : List Lexeme) → HasAnswer limits text ts
-  unfolding go
-  each_has_answer ts = by (run limits 0 (state 0 start) ts) refl
+module _ (limits : Limits) (text : List ℕ) (Tree : Type 0) (Is : List Lexeme → Tree → Type 0) (breaks : Tree → Option ParseFault) (begin : List Symbol)
+    (language : IsLanguage limits text Tree Is breaks begin) where
+  -- a run that finds no fault has read all tokens, and what was still to come may be nothing
+  ended : {ys : List Lexeme} (xs : List Lexeme) (next : ℕ) (to : List Symbol) → Reach begin text xs to →
+      Stops limits text Tree Is breaks begin (length xs) next to ys →
+      run limits (length xs) (state next to) ys ≡ None → (s : Tree) × Is (xs ++ ys) s
+  ended xs next to reach at_end e = by (all_nothing to) refl
     where
-      by : (o : Option ParseFault) → run limits 0 (state 0 start) ts ≡ o → HasAnswer limits text ts
+      by : (b : Bool) → all_nothing to ≡ b → (s : Tree) × Is (xs ++ []) s
+      by true none =
+          subst (λ (ts : List Lexeme). (s : Tree) × Is ts s) (sym (append-nil xs))
+          (language.from xs (reach xs [] (length xs) (sym (append-nil xs)) (nothing-all text xs to (length xs) none)))
+      by false none = let clash = sym (ap (λ (b : Bool). if b then None else Some (Unexpected (length xs))) none) ∙ e in absurd (cc)
+  ended xs next to reach (refused t ys m) e =
+      let clash = sym (ap (λ (w : Move). after (length xs) w (λ q. run limits (length xs + 1) q ys)) m) ∙ e in absurd (cc)
+  ended xs next to reach (passed t ys f later there m) e =
+      let clash = sym (ap (λ (w : Move). after (length xs) w (λ q. run limits (length xs + 1) q ys)) m) ∙ e in absurd (cc)
+
+  read-all : (ts : List Lexeme) → run limits 0 (state 0 begin) ts ≡ None → (s : Tree) × Is ts s
+  read-all ts e =
+      let c = course limits text Tree Is breaks begin ts [] 0 begin (reach-start begin text) in
+      let there = sym (c.same c.ys) ∙ subst (λ (x : List Lexeme). run limits 0 (state 0 begin) x ≡ None) c.split e in
+      subst (λ (x : List Lexeme). (s : Tree) × Is x s) (sym c.split) (ended c.xs c.next c.to c.reach c.stops there)
+
+  pub has_answer : (ts : List Lexeme) → HasAnswerIn Tree Is breaks ts
+  unfolding go
+  has_answer ts = by (run limits 0 (state 0 begin) ts) refl
+    where
+      by : (o : Option ParseFault) → run limits 0 (state 0 begin) ts ≡ o → HasAnswerIn Tree Is breaks ts
       by None e =
           let read = read-all ts e in
-          inl (read.0, record { is = read.1; keeps = sym (policy_read limits text ts read.1) ∙ e })
-      by (Some f) e = inr (f, fault-exact limits text ts f e, λ is. run-real ts 0 0 start (e ∙ ap Some is))
+          inl (read.0, record { is = read.1; keeps = sym (language.read ts read.0 read.1) ∙ e })
+      by (Some f) e =
+          inr (f, fault-exact limits text Tree Is breaks begin language ts f e, λ is. run-real limits ts 0 0 begin (e ∙ ap Some is))
+
+pub each_has_answer : EachHasAnswer
+each_has_answer limits text ts =
+    has_answer limits text SyntaxTree (IsPolicy text) (breaks_policy limits) (start limits) (policies limits text) ts
+
+pub each_has_level_answer : EachHasLevelAnswer
+each_has_level_answer limits text ts =
+    has_answer limits text LevelSyntaxTree (IsLevels text) (breaks_levels limits) (level_start limits) (level_texts limits text) ts

@@ -19,9 +19,10 @@ use Rattle.policy_syntax.specs.declared.syntax.ExprSyntax.{ExprSyntax}
 use Rattle.policy_syntax.specs.declared.syntax.TimesSyntax.{TimesSyntax}
 use Rattle.policy_syntax.specs.declared.syntax.AddedSyntax.{AddedSyntax}
 use Rattle.policy_syntax.specs.declared.syntax.OperandSyntax.{OperandSyntax}
+use Rattle.policy_syntax.specs.LevelTrees.{OneLevelSyntaxTree}
 use Rattle.policy_syntax.specs.SyntaxTrees.{ConditionTree, ConditionTrees, KeySyntaxTree, OrderSyntaxTree, ElectSyntaxTree, BatchSyntaxTree, CaseSyntaxTree, HandlerSyntaxTree}
 use Rattle.policy_grammar.specs.declared.terminal.Lexeme.{Lexeme}
-use Rattle.policy_grammar.specs.declared.terminal.Terminal.TheVariants.{Load, Count, Weight, Core, In, Start, Place, Here, Min, Max, Elect, On, Enqueue, Tick, Yield, Block, When, Queue, Keep, And, Or, Not, Itself, Victim, Task, While, Limit, Prefer, Name, Number, Dot, Range, Comma, Colon, Open, Close, Begin, Finish, Plus, Minus, Star, Gets, Equal, Unequal, Less, AtMost, More, AtLeast}
+use Rattle.policy_grammar.specs.declared.terminal.Terminal.TheVariants.{Load, Count, Weight, Core, In, Start, Place, Here, Min, Max, Elect, On, Enqueue, Tick, Yield, Block, When, Queue, Keep, Within, Filter, And, Or, Not, Itself, Victim, Task, While, Limit, Prefer, Name, Number, Dot, Range, Comma, Colon, Open, Close, Begin, Finish, Plus, Minus, Star, Gets, Equal, Unequal, Less, AtMost, More, AtLeast}
 use Rattle.policy_grammar.specs.declared.terminal.Terminal.TheVariants as terminal_is
 use Rattle.policy_grammar.specs.declared.limits.Limits.{Limits}
 use Rattle.policy_grammar.specs.Terminals.{code, kind_at, is_word}
@@ -30,7 +31,8 @@ use Rattle.policy_grammar.specs.Expressions.{IsInt, int_plain, int_signed, range
 use Rattle.policy_grammar.specs.Conditions.{IsUnit, unit_always, unit_not, unit_group, unit_test, IsAnds, ands_none, ands_more, conjunction_of, IsOrs, ors_none, ors_more, IsCondition, condition_of}
 use Rattle.policy_grammar.specs.Orders.{IsKey, key_ranked, key_preferring, IsKeys, keys_none, keys_more, IsOrder, order_first, order_keys}
 use Rattle.policy_grammar.specs.Policies.{IsLoad, load_count, load_weight, attr_of, IsAttrs, attrs_none, attrs_more, IsPlace, place_none, place_here, place_least, IsElect, elect_none, elect_some, IsBatch, batch_none, batch_some, IsSets, sets_none, sets_more, IsCase, case_of, IsCases, cases_none, cases_more, handler_of, IsHandlers, handlers_none, handlers_more}
-use Rattle.policy_grammar.specs.Machine.{Symbol, count_behind, the, load_rule, int, attrs, place, place_rule, elect, handlers, event, case, cases, actions, field, order, key, keys, batch, condition, unit, ands, ors, close, compare, operand, dot, word, operators, state, Move, refuses, goes, is_compare, factor_move, unit_move, key_move, case_move, attr_move, symbol_move, moves}
+use Rattle.policy_grammar.specs.Levels.{IsLevelWithin, within_always, within_test, IsLevel, level_of, IsLevelList, levels_none, levels_more}
+use Rattle.policy_grammar.specs.Machine.{Symbol, count_behind, the, load_rule, int, attrs, place, place_rule, elect, handlers, event, case, cases, actions, field, order, key, keys, batch, level, levels, within, condition, unit, ands, ors, close, compare, operand, dot, word, operators, state, Move, refuses, goes, is_compare, factor_move, unit_move, key_move, case_move, level_move, attr_move, symbol_move, moves}
 
 module _ (text : List ℕ) (ts : List Lexeme) where
   -- a token of that kind stands there
@@ -57,6 +59,13 @@ module _ (text : List ℕ) (ts : List Lexeme) where
     pub mid : ℕ
     pub is : IsKey text ts at first mid
     pub are : IsKeys text ts mid rest to
+
+  pub record LevelChain (at to : ℕ) : Type 0 where
+    pub first : OneLevelSyntaxTree
+    pub rest : List OneLevelSyntaxTree
+    pub mid : ℕ
+    pub is : IsLevel text ts at first mid
+    pub are : IsLevelList text ts mid rest to
 
   pub record Compared (at to : ℕ) : Type 0 where
     pub by : Cmp
@@ -86,16 +95,19 @@ module _ (text : List ℕ) (ts : List Lexeme) where
   Means (cases before) at to = (cs : List CaseSyntaxTree) × IsCases text ts at cs to
   Means (actions before) at to = Actions at to
   Means field at to = Word at to
-  Means order at to = (o : OrderSyntaxTree) × IsOrder text ts at o to
-  Means (key before) at to = Keys at to
-  Means (keys before) at to = (ks : List KeySyntaxTree) × IsKeys text ts at ks to
+  Means (order most) at to = (o : OrderSyntaxTree) × IsOrder text ts at o to
+  Means (key most before) at to = Keys at to
+  Means (keys most before) at to = (ks : List KeySyntaxTree) × IsKeys text ts at ks to
   Means batch at to = (b : Option BatchSyntaxTree) × IsBatch text ts at b to
-  Means condition at to = (v : ConditionTree) × IsCondition text ts at v to
-  Means (unit depth) at to = (v : ConditionTree) × IsUnit text ts at v to
-  Means (ands depth) at to = (us : ConditionTrees) × IsAnds text ts at us to
-  Means (ors depth) at to = (cs : ConditionTrees) × IsOrs text ts at cs to
+  Means (level before) at to = LevelChain at to
+  Means (levels before) at to = (ls : List OneLevelSyntaxTree) × IsLevelList text ts at ls to
+  Means within at to = (v : ConditionTree) × IsLevelWithin text ts at v to
+  Means (condition most) at to = (v : ConditionTree) × IsCondition text ts at v to
+  Means (unit most depth) at to = (v : ConditionTree) × IsUnit text ts at v to
+  Means (ands most depth) at to = (us : ConditionTrees) × IsAnds text ts at us to
+  Means (ors most depth) at to = (cs : ConditionTrees) × IsOrs text ts at cs to
   Means close at to = Token (code Close) at to
-  Means (compare depth) at to = Compared at to
+  Means (compare most depth) at to = Compared at to
   Means (operand base depth before) at to = (e : ExprSyntax) × IsExpr text ts at e to
   Means (dot base before) at to = (from : ℕ) (o : Owner) → Token (owner_word o) from at → (e : ExprSyntax) × IsExpr text ts from e to
   Means (word base before) at to = (from mid : ℕ) (o : Owner) → Token (owner_word o) from mid → Token (code Dot) mid at → (e : ExprSyntax) × IsExpr text ts from e to
@@ -291,37 +303,37 @@ module _ (limits : Limits) (text : List ℕ) (ts : List Lexeme) where
       refers : ((o : Owner) × (kind_at ts at ≡ owner_word o)) → Are text ts (dot base before ∷ below) (at + 1) to → Are text ts stack at to
       refers o (are_more mid f rest) = let w = f at o.0 (token o.1) in whole w.0 mid w.1 rest
 
-  unit-pulls : (at to count depth : ℕ) (below stack : List Symbol) →
+  unit-pulls : (at to count most depth : ℕ) (below stack : List Symbol) →
       ((v : ConditionTree) (mid : ℕ) → IsUnit text ts at v mid → Are text ts below mid to → Are text ts stack at to) →
-      Pulls text ts stack at to (unit_move limits count depth at below (kind_at ts at))
-  unit-pulls at to count depth below stack whole =
+      Pulls text ts stack at to (unit_move limits count most depth at below (kind_at ts at))
+  unit-pulls at to count most depth below stack whole =
       takes text ts stack below at to _ _ (code terminal_is.Always) _ (λ k rest. whole _ (at + 1) (unit_always k) rest)
       (if-pulls text ts stack at to _ (code terminal_is.Not) _ _ (λ k. negates k)
       (if-pulls text ts stack at to _ (code terminal_is.Open) _ _ (λ k. groups k)
-      (factor-pulls at to count depth depth 0 (compare depth ∷ below) stack (λ e mid d. tests e mid d))))
+      (factor-pulls at to count depth depth 0 (compare most depth ∷ below) stack (λ e mid d. tests e mid d))))
     where
-      negates : kind_at ts at ≡ code Not → Are text ts (unit (depth + 1) ∷ below) (at + 1) to → Are text ts stack at to
+      negates : kind_at ts at ≡ code Not → Are text ts (unit most (depth + 1) ∷ below) (at + 1) to → Are text ts stack at to
       negates k (are_more mid f rest) = whole _ mid (unit_not k f.1) rest
 
-      groups : kind_at ts at ≡ code Open → Are text ts (unit (depth + 1) ∷ ands (depth + 1) ∷ ors (depth + 1) ∷ close ∷ below) (at + 1) to → Are text ts stack at to
+      groups : kind_at ts at ≡ code Open → Are text ts (unit most (depth + 1) ∷ ands most (depth + 1) ∷ ors most (depth + 1) ∷ close ∷ below) (at + 1) to → Are text ts stack at to
       groups k (are_more m1 u (are_more m2 us (are_more m3 cs (are_more m4 (token c) rest)))) =
           whole _ m4 (unit_group k (condition_of _ cs.0 (conjunction_of u.0 us.0 u.1 us.1) cs.1) c) rest
 
-      tests : (e : ExprSyntax) (mid : ℕ) → IsExpr text ts at e mid → Are text ts (compare depth ∷ below) mid to → Are text ts stack at to
+      tests : (e : ExprSyntax) (mid : ℕ) → IsExpr text ts at e mid → Are text ts (compare most depth ∷ below) mid to → Are text ts stack at to
       tests e mid d (are_more m1 r rest) = whole _ m1 (unit_test r.by d r.sign r.is) rest
 
-  key-pulls : (at to before : ℕ) (below stack : List Symbol) →
+  key-pulls : (at to most before : ℕ) (below stack : List Symbol) →
       ((mid : ℕ) → Keys text ts at mid → Are text ts below mid to → Are text ts stack at to) →
-      Pulls text ts stack at to (key_move limits before at below (kind_at ts at))
-  key-pulls at to before below stack whole =
+      Pulls text ts stack at to (key_move limits most before at below (kind_at ts at))
+  key-pulls at to most before below stack whole =
       any-pulls text ts stack at to _ _ _ (λ e. keyed (key-by _ e))
       (if-pulls text ts stack at to _ (code terminal_is.Prefer) _ _ (λ k. prefers k) tt)
     where
-      keyed : ((g : Bool) × (kind_at ts at ≡ key_word g)) → Are text ts (operand 0 0 0 ∷ keys (before + 1) ∷ below) (at + 1) to → Are text ts stack at to
+      keyed : ((g : Bool) × (kind_at ts at ≡ key_word g)) → Are text ts (operand 0 0 0 ∷ keys most (before + 1) ∷ below) (at + 1) to → Are text ts stack at to
       keyed g (are_more m1 e (are_more m2 ks rest)) =
           whole m2 (record { first = _; rest = ks.0; mid = m1; is = key_ranked g.0 g.1 e.1; are = ks.1 }) rest
 
-      prefers : kind_at ts at ≡ code Prefer → Are text ts (condition ∷ keys (before + 1) ∷ below) (at + 1) to → Are text ts stack at to
+      prefers : kind_at ts at ≡ code Prefer → Are text ts (condition limits.comparisons ∷ keys most (before + 1) ∷ below) (at + 1) to → Are text ts stack at to
       prefers k (are_more m1 v (are_more m2 ks rest)) =
           whole m2 (record { first = _; rest = ks.0; mid = m1; is = key_preferring k v.1; are = ks.1 }) rest
 
@@ -331,9 +343,27 @@ module _ (limits : Limits) (text : List ℕ) (ts : List Lexeme) where
   case-pulls at to before below stack outer out whole =
       if-pulls text ts stack at to _ (code terminal_is.When) _ _ (λ k. cased k) out
     where
-      cased : kind_at ts at ≡ code When → Are text ts (condition ∷ the Colon ∷ actions 0 ∷ cases (before + 1) ∷ below) (at + 1) to → Are text ts stack at to
+      cased : kind_at ts at ≡ code When → Are text ts (condition limits.comparisons ∷ the Colon ∷ actions 0 ∷ cases (before + 1) ∷ below) (at + 1) to → Are text ts stack at to
       cased k (are_more m1 g (are_more m2 (token c) (are_more m3 (acts p s q) (are_more m4 cs rest)))) =
           whole m4 (record { first = _; rest = cs.0; mid = _; is = case_of p k g.1 c s q; are = cs.1 }) rest
+
+  level-pulls : (at to before : ℕ) (below stack : List Symbol) (outer : Move) → Pulls text ts stack at to outer →
+      ((mid : ℕ) → LevelChain text ts at mid → Are text ts below mid to → Are text ts stack at to) →
+      Pulls text ts stack at to (level_move limits before at below (kind_at ts at) outer)
+  level-pulls at to before below stack outer out whole =
+      if-pulls text ts stack at to _ (code terminal_is.Level) _ _ (λ k. leveled k) out
+    where
+      leveled : kind_at ts at ≡ code terminal_is.Level →
+          Are text ts (the Within ∷ within ∷ the Filter ∷ condition limits.level_comparisons ∷ levels (before + 1) ∷ below) (at + 1) to → Are text ts stack at to
+      leveled k (are_more m1 (token w) (are_more m2 d (are_more m3 (token f) (are_more m4 c (are_more m5 ls rest))))) =
+          let there : at + 1 + 1 ≡ at + 2 = omega arith in
+          whole m5 (record {
+            first = _;
+            rest = ls.0;
+            mid = m4;
+            is = level_of k w (subst (λ n. IsLevelWithin text ts n d.0 m2) there d.1) f c.1;
+            are = ls.1;
+          }) rest
 
   attr-pulls : (at to cores threads : ℕ) (below stack : List Symbol) (outer : Move) → Pulls text ts stack at to outer →
       ((us : List AttrSyntax) (mid : ℕ) → IsAttrs text ts at us mid → Are text ts below mid to → Are text ts stack at to) →
@@ -392,7 +422,7 @@ module _ (limits : Limits) (text : List ℕ) (ts : List Lexeme) where
   symbol-pulls at to count elect below outer out =
       if-pulls text ts _ at to _ (code terminal_is.Elect) _ _ (λ k. elects k) (lift-pulls text ts _ below at to outer (λ rest. are_more at (None, elect_none) rest) out)
     where
-      elects : kind_at ts at ≡ code Elect → Are text ts (order ∷ below) (at + 1) to → Are text ts (elect ∷ below) at to
+      elects : kind_at ts at ≡ code Elect → Are text ts (order limits.keys ∷ below) (at + 1) to → Are text ts (elect ∷ below) at to
       elects k (are_more m1 o rest) = are_more m1 (_, elect_some k o.1) rest
   symbol-pulls at to count handlers below outer out =
       if-pulls text ts _ at to _ (code terminal_is.On) _ _ (λ k. handles k) (lift-pulls text ts _ below at to outer (λ rest. are_more at ([], handlers_none) rest) out)
@@ -436,44 +466,54 @@ module _ (limits : Limits) (text : List ℕ) (ts : List Lexeme) where
   symbol-pulls at to count field below outer out =
       any-takes text ts (field ∷ below) below at to 0 (is_word (kind_at ts at)) refuses
       (λ e rest. are_more {symbol = field} (at + 1) (any_word e) rest) tt
-  symbol-pulls at to count order below outer out =
+  symbol-pulls at to count (order most) below outer out =
       takes text ts _ below at to _ _ (code terminal_is.First) _ (λ k rest. are_more (at + 1) (_, order_first k) rest)
-      (key-pulls at to 0 below _ (λ mid k rest. are_more mid (_, order_keys k.is k.are) rest))
-  symbol-pulls at to count (key before) below outer out = key-pulls at to before below _ (λ mid k rest. are_more mid k rest)
-  symbol-pulls at to count (keys before) below outer out =
+      (key-pulls at to most 0 below _ (λ mid k rest. are_more mid (_, order_keys k.is k.are) rest))
+  symbol-pulls at to count (key most before) below outer out = key-pulls at to most before below _ (λ mid k rest. are_more mid k rest)
+  symbol-pulls at to count (keys most before) below outer out =
       if-pulls text ts _ at to _ (code terminal_is.Comma) _ _ (λ k. follows k) (lift-pulls text ts _ below at to outer (λ rest. are_more at ([], keys_none) rest) out)
     where
-      follows : kind_at ts at ≡ code Comma → Are text ts (key before ∷ below) (at + 1) to → Are text ts (keys before ∷ below) at to
+      follows : kind_at ts at ≡ code Comma → Are text ts (key most before ∷ below) (at + 1) to → Are text ts (keys most before ∷ below) at to
       follows k (are_more m1 ks rest) = are_more m1 (_, keys_more k ks.is ks.are) rest
   symbol-pulls at to count batch below outer out =
       if-pulls text ts _ at to _ (code terminal_is.While) _ _ (λ k. goes_on k) (lift-pulls text ts _ below at to outer (λ rest. are_more at (None, batch_none) rest) out)
     where
-      goes_on : kind_at ts at ≡ code While → Are text ts (condition ∷ the Limit ∷ the Number ∷ below) (at + 1) to → Are text ts (batch ∷ below) at to
+      goes_on : kind_at ts at ≡ code While → Are text ts (condition limits.comparisons ∷ the Limit ∷ the Number ∷ below) (at + 1) to → Are text ts (batch ∷ below) at to
       goes_on k (are_more m1 v (are_more m2 (token l) (are_more m3 (token n) rest))) =
           let there : m1 + 2 ≡ m1 + 1 + 1 = omega arith in
           are_more (m1 + 1 + 1) (subst (λ n. (b : Option BatchSyntaxTree) × IsBatch text ts at b n) there (_, batch_some k v.1 l n)) rest
-  symbol-pulls at to count condition below outer out = unit-pulls at to 0 0 (ands 0 ∷ ors 0 ∷ below) _ (λ v mid d. joins v mid d)
+  symbol-pulls at to count (level before) below outer out = level-pulls at to before below _ refuses tt (λ mid l rest. are_more mid l rest)
+  symbol-pulls at to count (levels before) below outer out =
+      level-pulls at to before below _ outer (lift-pulls text ts _ below at to outer (λ rest. are_more at ([], levels_none) rest) out)
+      (λ mid l rest. are_more mid (_, levels_more l.is l.are) rest)
+  symbol-pulls at to count within below outer out =
+      takes text ts _ below at to _ _ (code terminal_is.Always) _ (λ k rest. are_more (at + 1) (_, within_always k) rest)
+      (factor-pulls at to 0 0 0 0 (compare 1 0 ∷ below) _ (λ e mid d. tests e mid d))
     where
-      joins : (v : ConditionTree) (mid : ℕ) → IsUnit text ts at v mid → Are text ts (ands 0 ∷ ors 0 ∷ below) mid to → Are text ts (condition ∷ below) at to
+      tests : (e : ExprSyntax) (mid : ℕ) → IsExpr text ts at e mid → Are text ts (compare 1 0 ∷ below) mid to → Are text ts (within ∷ below) at to
+      tests e mid d (are_more m1 r rest) = are_more m1 (_, within_test r.by d r.sign r.is) rest
+  symbol-pulls at to count (condition most) below outer out = unit-pulls at to 0 most 0 (ands most 0 ∷ ors most 0 ∷ below) _ (λ v mid d. joins v mid d)
+    where
+      joins : (v : ConditionTree) (mid : ℕ) → IsUnit text ts at v mid → Are text ts (ands most 0 ∷ ors most 0 ∷ below) mid to → Are text ts (condition most ∷ below) at to
       joins v mid d (are_more m1 us (are_more m2 cs rest)) = are_more m2 (_, condition_of _ cs.0 (conjunction_of v us.0 d us.1) cs.1) rest
-  symbol-pulls at to count (unit depth) below outer out = unit-pulls at to count depth below _ (λ v mid d rest. are_more mid (v, d) rest)
-  symbol-pulls at to count (ands depth) below outer out =
+  symbol-pulls at to count (unit most depth) below outer out = unit-pulls at to count most depth below _ (λ v mid d rest. are_more mid (v, d) rest)
+  symbol-pulls at to count (ands most depth) below outer out =
       if-pulls text ts _ at to _ (code terminal_is.And) _ _ (λ k. follows k) (lift-pulls text ts _ below at to outer (λ rest. are_more at (_, ands_none) rest) out)
     where
-      follows : kind_at ts at ≡ code And → Are text ts (unit depth ∷ ands depth ∷ below) (at + 1) to → Are text ts (ands depth ∷ below) at to
+      follows : kind_at ts at ≡ code And → Are text ts (unit most depth ∷ ands most depth ∷ below) (at + 1) to → Are text ts (ands most depth ∷ below) at to
       follows k (are_more m1 u (are_more m2 us rest)) = are_more m2 (_, ands_more k u.1 us.1) rest
-  symbol-pulls at to count (ors depth) below outer out =
+  symbol-pulls at to count (ors most depth) below outer out =
       if-pulls text ts _ at to _ (code terminal_is.Or) _ _ (λ k. follows k) (lift-pulls text ts _ below at to outer (λ rest. are_more at (_, ors_none) rest) out)
     where
-      follows : kind_at ts at ≡ code Or → Are text ts (unit depth ∷ ands depth ∷ ors depth ∷ below) (at + 1) to → Are text ts (ors depth ∷ below) at to
+      follows : kind_at ts at ≡ code Or → Are text ts (unit most depth ∷ ands most depth ∷ ors most depth ∷ below) (at + 1) to → Are text ts (ors most depth ∷ below) at to
       follows k (are_more m1 u (are_more m2 us (are_more m3 cs rest))) = are_more m3 (_, ors_more k (conjunction_of u.0 us.0 u.1 us.1) cs.1) rest
   symbol-pulls at to count close below outer out =
       takes text ts (close ∷ below) below at to count (kind_at ts at) (code terminal_is.Close) refuses
       (λ k rest. are_more {symbol = close} (at + 1) (token k) rest) tt
-  symbol-pulls at to count (compare depth) below outer out =
+  symbol-pulls at to count (compare most depth) below outer out =
       any-pulls text ts _ at to _ _ _ (λ e. compares (compare-by _ e)) tt
     where
-      compares : ((c : Cmp) × (kind_at ts at ≡ compare_word c)) → Are text ts (operand depth depth 0 ∷ below) (at + 1) to → Are text ts (compare depth ∷ below) at to
+      compares : ((c : Cmp) × (kind_at ts at ≡ compare_word c)) → Are text ts (operand depth depth 0 ∷ below) (at + 1) to → Are text ts (compare most depth ∷ below) at to
       compares c (are_more m1 e rest) = are_more m1 (record { by = c.0; right = e.0; sign = c.1; is = e.1 }) rest
   symbol-pulls at to count (operand base depth before) below outer out =
       factor-pulls at to count base depth before below _ (λ e mid d rest. are_more mid (e, d) rest)

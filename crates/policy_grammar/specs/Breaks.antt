@@ -92,24 +92,25 @@ abbrev mutual
   comparisons_of no_more = 0
   comparisons_of (more v rest) = comparisons v + comparisons_of rest
 
--- a condition where so many are open, behind so many comparisons
+-- a condition of at most so many comparisons, where so many are open, behind so many comparisons
 abbrev mutual
-  pub breaks_condition : Limits → ℕ → ℕ → ConditionTree → Option ParseFault
-  breaks_condition limits depth count (always at) = None
-  breaks_condition limits depth count (negated at v) =
-      first_of (deep limits at depth) (breaks_condition limits (depth + 1) count v)
-  breaks_condition limits depth count (grouped at v) =
-      first_of (deep limits at depth) (breaks_condition limits (depth + 1) count v)
-  breaks_condition limits depth count (all at parts) = breaks_parts limits depth count parts
-  breaks_condition limits depth count (any at parts) = breaks_parts limits depth count parts
-  breaks_condition limits depth count (test at compare left right) =
+  pub breaks_condition : Limits → ℕ → ℕ → ℕ → ConditionTree → Option ParseFault
+  breaks_condition limits most depth count (always at) = None
+  breaks_condition limits most depth count (negated at v) =
+      first_of (deep limits at depth) (breaks_condition limits most (depth + 1) count v)
+  breaks_condition limits most depth count (grouped at v) =
+      first_of (deep limits at depth) (breaks_condition limits most (depth + 1) count v)
+  breaks_condition limits most depth count (all at parts) = breaks_parts limits most depth count parts
+  breaks_condition limits most depth count (any at parts) = breaks_parts limits most depth count parts
+  breaks_condition limits most depth count (test at compare left right) =
       first_of (breaks_expr limits depth left)
-      (first_of (many limits.comparisons at count) (breaks_expr limits depth right))
+      (first_of (many most at count) (breaks_expr limits depth right))
 
-  pub breaks_parts : Limits → ℕ → ℕ → ConditionTrees → Option ParseFault
-  breaks_parts limits depth count no_more = None
-  breaks_parts limits depth count (more v rest) =
-      first_of (breaks_condition limits depth count v) (breaks_parts limits depth (count + comparisons v) rest)
+  pub breaks_parts : Limits → ℕ → ℕ → ℕ → ConditionTrees → Option ParseFault
+  breaks_parts limits most depth count no_more = None
+  breaks_parts limits most depth count (more v rest) =
+      first_of (breaks_condition limits most depth count v)
+      (breaks_parts limits most depth (count + comparisons v) rest)
 
 -- the first token of a key
 abbrev pub key_at : KeySyntaxTree → ℕ
@@ -118,16 +119,16 @@ key_at (preferring at v) = at
 
 abbrev pub breaks_key : Limits → KeySyntaxTree → Option ParseFault
 breaks_key limits (ranked at greatest v) = breaks_expr limits 0 v
-breaks_key limits (preferring at v) = breaks_condition limits 0 0 v
+breaks_key limits (preferring at v) = breaks_condition limits limits.comparisons 0 0 v
 
--- keys behind so many
-abbrev pub breaks_keys : Limits → ℕ → List KeySyntaxTree → Option ParseFault
-breaks_keys limits count [] = None
-breaks_keys limits count (k ∷ rest) =
-    first_of (many limits.keys (key_at k) count) (first_of (breaks_key limits k) (breaks_keys limits (count + 1) rest))
+-- keys of an order of at most so many, behind so many
+abbrev pub breaks_keys : Limits → ℕ → ℕ → List KeySyntaxTree → Option ParseFault
+breaks_keys limits most count [] = None
+breaks_keys limits most count (k ∷ rest) =
+    first_of (many most (key_at k) count) (first_of (breaks_key limits k) (breaks_keys limits most (count + 1) rest))
 
-abbrev pub breaks_order : Limits → OrderSyntaxTree → Option ParseFault
-breaks_order limits order = breaks_keys limits 0 order.keys
+abbrev pub breaks_order : Limits → ℕ → OrderSyntaxTree → Option ParseFault
+breaks_order limits most order = breaks_keys limits most 0 order.keys
 
 -- assignments behind so many
 abbrev pub breaks_sets : Limits → ℕ → List SetSyntax → Option ParseFault
@@ -141,7 +142,7 @@ abbrev pub breaks_cases : Limits → ℕ → List CaseSyntaxTree → Option Pars
 breaks_cases limits count [] = None
 breaks_cases limits count (c ∷ rest) =
     first_of (many limits.cases c.at count)
-    (first_of (breaks_condition limits 0 0 c.guard)
+    (first_of (breaks_condition limits limits.comparisons 0 0 c.guard)
     (first_of (breaks_sets limits 0 c.sets) (breaks_cases limits (count + 1) rest)))
 
 abbrev pub breaks_handlers : Limits → List HandlerSyntaxTree → Option ParseFault
@@ -174,11 +175,11 @@ breaks_place limits (Some (place.Least at v)) = breaks_expr limits 0 v
 
 abbrev pub breaks_elect : Limits → Option ElectSyntaxTree → Option ParseFault
 breaks_elect limits None = None
-breaks_elect limits (Some elect) = breaks_order limits elect.order
+breaks_elect limits (Some elect) = breaks_order limits limits.keys elect.order
 
 abbrev pub breaks_batch : Limits → Option BatchSyntaxTree → Option ParseFault
 breaks_batch limits None = None
-breaks_batch limits (Some batch) = breaks_condition limits 0 0 batch.condition
+breaks_batch limits (Some batch) = breaks_condition limits limits.comparisons 0 0 batch.condition
 
 -- the first limit that a policy passes
 abbrev pub breaks_policy : Limits → SyntaxTree → Option ParseFault
@@ -187,6 +188,6 @@ breaks_policy limits s =
     (first_of (breaks_place limits s.place)
     (first_of (breaks_elect limits s.elect)
     (first_of (breaks_handlers limits s.handlers)
-    (first_of (breaks_condition limits 0 0 s.filter)
-    (first_of (breaks_order limits s.choose)
-    (first_of (breaks_order limits s.steal) (breaks_batch limits s.batch)))))))
+    (first_of (breaks_condition limits limits.comparisons 0 0 s.filter)
+    (first_of (breaks_order limits limits.keys s.choose)
+    (first_of (breaks_order limits limits.keys s.steal) (breaks_batch limits s.batch)))))))

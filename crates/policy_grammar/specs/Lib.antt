@@ -5,7 +5,9 @@ pub mod Expressions
 pub mod Conditions
 pub mod Orders
 pub mod Policies
+pub mod Levels
 pub mod Breaks
+pub mod LevelBreaks
 pub mod Lexemes
 pub mod OneTree
 pub mod Machine

@@ -6,9 +6,9 @@ use Rattle.policy_grammar.specs.declared.terminal.Terminal.{Terminal}
 use Rattle.policy_grammar.specs.declared.terminal.Terminal.TheVariants.{Policy, Load, Count, Weight, Core, Thread, In}
 use Rattle.policy_grammar.specs.declared.terminal.Terminal.TheVariants.{Start, Place, Here, Min, Max, Elect, Choose}
 use Rattle.policy_grammar.specs.declared.terminal.Terminal.TheVariants.{Steal, First, On, Enqueue, Tick, Yield, Block}
-use Rattle.policy_grammar.specs.declared.terminal.Terminal.TheVariants.{When, Queue, Keep, Filter, And, Or, Not, Always}
-use Rattle.policy_grammar.specs.declared.terminal.Terminal.TheVariants.{Itself, Victim, Task, While, Limit, Prefer}
-use Rattle.policy_grammar.specs.declared.terminal.Terminal.TheVariants.{Name}
+use Rattle.policy_grammar.specs.declared.terminal.Terminal.TheVariants.{When, Queue, Keep, Level, Filter, And, Or, Not}
+use Rattle.policy_grammar.specs.declared.terminal.Terminal.TheVariants.{Always, Itself, Victim, Task, While, Limit}
+use Rattle.policy_grammar.specs.declared.terminal.Terminal.TheVariants.{Prefer, Levels, Within, Name}
 use Rattle.policy_grammar.specs.declared.terminal.Terminal.TheVariants.{Number, Dot, Range}
 use Rattle.policy_grammar.specs.declared.terminal.Terminal.TheVariants.{Comma, Colon, Open, Close, Begin, Finish, Plus}
 use Rattle.policy_grammar.specs.declared.terminal.Terminal.TheVariants.{Minus, Star, Gets, Equal, Unequal, Less, AtMost}
@@ -35,16 +35,19 @@ pub data Symbol : Type 0 where
   cases : ℕ → Symbol  -- further cases, behind so many
   actions : ℕ → Symbol  -- assignments, behind so many, and where the thread is put
   field : Symbol  -- the word that an assignment names
-  order : Symbol
-  key : ℕ → Symbol  -- a key, behind so many
-  keys : ℕ → Symbol  -- further keys, behind so many
+  order : ℕ → Symbol  -- an order of at most so many keys
+  key : ℕ → ℕ → Symbol  -- a key of such an order, behind so many
+  keys : ℕ → ℕ → Symbol  -- further keys, behind so many
   batch : Symbol  -- what follows the order of `steal`, or nothing
-  condition : Symbol
-  unit : ℕ → Symbol  -- a unit, where so many are open
-  ands : ℕ → Symbol  -- further units
-  ors : ℕ → Symbol  -- further conjunctions
+  level : ℕ → Symbol  -- a level, behind so many
+  levels : ℕ → Symbol  -- further levels, behind so many
+  within : Symbol  -- what follows the `within` of a level
+  condition : ℕ → Symbol  -- a condition of at most so many comparisons
+  unit : ℕ → ℕ → Symbol  -- a unit of such a condition, where so many are open
+  ands : ℕ → ℕ → Symbol  -- further units
+  ors : ℕ → ℕ → Symbol  -- further conjunctions
   close : Symbol
-  compare : ℕ → Symbol  -- the symbol of a comparison, and its right side
+  compare : ℕ → ℕ → Symbol  -- the symbol of a comparison, and its right side
   -- an expression's next factor, where so many are open around the expression, and so many here, behind so many
   -- operators
   operand : ℕ → ℕ → ℕ → Symbol
@@ -81,7 +84,8 @@ is_compare kind =
     (kind == code Equal || kind == code Unequal || kind == code Less) ||
     (kind == code AtMost || kind == code More || kind == code AtLeast)
 
--- the comparisons that are counted on where the symbol is nothing: a key's condition has ended before further keys
+-- the comparisons that are counted on where the symbol is nothing: a key's condition has ended before further keys,
+-- and a level's before further levels
 abbrev pub count_behind : Symbol → ℕ → ℕ
 count_behind (the terminal) count = count
 count_behind load_rule count = count
@@ -96,16 +100,19 @@ count_behind (case before) count = count
 count_behind (cases before) count = count
 count_behind (actions before) count = count
 count_behind field count = count
-count_behind order count = count
-count_behind (key before) count = count
-count_behind (keys before) count = 0
+count_behind (order most) count = count
+count_behind (key most before) count = count
+count_behind (keys most before) count = 0
 count_behind batch count = count
-count_behind condition count = count
-count_behind (unit depth) count = count
-count_behind (ands depth) count = count
-count_behind (ors depth) count = count
+count_behind (level before) count = count
+count_behind (levels before) count = 0
+count_behind within count = count
+count_behind (condition most) count = count
+count_behind (unit most depth) count = count
+count_behind (ands most depth) count = count
+count_behind (ors most depth) count = count
 count_behind close count = count
-count_behind (compare depth) count = count
+count_behind (compare most depth) count = count
 count_behind (operand base depth before) count = count
 count_behind (dot base before) count = count
 count_behind (word base before) count = count
@@ -121,27 +128,33 @@ module _ (limits : Limits) where
       if is_owner kind then
       goes None (state count (dot base operators_before ∷ below)) else refuses
 
-  abbrev pub unit_move : ℕ → ℕ → ℕ → List Symbol → ℕ → Move
-  unit_move count depth at below kind =
+  abbrev pub unit_move : ℕ → ℕ → ℕ → ℕ → List Symbol → ℕ → Move
+  unit_move count most depth at below kind =
       if kind == code Always then goes None (state count below) else
-      if kind == code Not then goes (deep limits at depth) (state count (unit (depth + 1) ∷ below)) else
+      if kind == code Not then goes (deep limits at depth) (state count (unit most (depth + 1) ∷ below)) else
       if kind == code Open then
-      goes (deep limits at depth) (state count (unit (depth + 1) ∷ ands (depth + 1) ∷ ors (depth + 1) ∷ close ∷
-      below)) else
-      factor_move count depth depth 0 at (compare depth ∷ below) kind
+      goes (deep limits at depth) (state count (unit most (depth + 1) ∷ ands most (depth + 1) ∷ ors most (depth + 1) ∷
+      close ∷ below)) else
+      factor_move count depth depth 0 at (compare most depth ∷ below) kind
 
-  abbrev pub key_move : ℕ → ℕ → List Symbol → ℕ → Move
-  key_move before at below kind =
+  abbrev pub key_move : ℕ → ℕ → ℕ → List Symbol → ℕ → Move
+  key_move most before at below kind =
       if is_key kind then
-      goes (many limits.keys at before) (state 0 (operand 0 0 0 ∷ keys (before + 1) ∷ below)) else
+      goes (many most at before) (state 0 (operand 0 0 0 ∷ keys most (before + 1) ∷ below)) else
       if kind == code Prefer then
-      goes (many limits.keys at before) (state 0 (condition ∷ keys (before + 1) ∷ below)) else refuses
+      goes (many most at before) (state 0 (condition limits.comparisons ∷ keys most (before + 1) ∷ below)) else refuses
 
   abbrev pub case_move : ℕ → ℕ → List Symbol → ℕ → Move → Move
   case_move before at below kind outer =
       if kind == code When then
-      goes (many limits.cases at before) (state 0 (condition ∷ the Colon ∷ actions 0 ∷ cases (before + 1)
-      ∷ below)) else outer
+      goes (many limits.cases at before) (state 0 (condition limits.comparisons ∷ the Colon ∷ actions 0 ∷
+      cases (before + 1) ∷ below)) else outer
+
+  abbrev pub level_move : ℕ → ℕ → List Symbol → ℕ → Move → Move
+  level_move before at below kind outer =
+      if kind == code Level then
+      goes (many limits.levels at before) (state 0 (the Within ∷ within ∷ the Filter ∷
+      condition limits.level_comparisons ∷ levels (before + 1) ∷ below)) else outer
 
   abbrev pub attr_move : ℕ → ℕ → ℕ → List Symbol → ℕ → Move → Move
   attr_move cores threads at below kind outer =
@@ -169,7 +182,7 @@ module _ (limits : Limits) where
       if kind == code Here then goes None (state 0 below) else
       if kind == code Min then goes None (state 0 (operand 0 0 0 ∷ below)) else refuses
   symbol_move count at elect below kind outer = if kind == code Elect then goes None
-      (state 0 (order ∷ below)) else outer
+      (state 0 (order limits.keys ∷ below)) else outer
   symbol_move count at handlers below kind outer =
       if kind == code On then
       goes None (state 0 (event ∷ the Begin ∷ case 0 ∷ the Finish ∷ handlers ∷ below)) else outer
@@ -184,23 +197,30 @@ module _ (limits : Limits) where
       (state 0 (the Dot ∷ field ∷ the Gets ∷ operand 0 0 0 ∷ the Comma ∷ actions (before + 1) ∷ below)) else
       if is_put kind then goes None (state 0 below) else refuses
   symbol_move count at field below kind outer = if is_word kind then goes None (state 0 below) else refuses
-  symbol_move count at order below kind outer =
-      if kind == code First then goes None (state 0 below) else key_move 0 at below kind
-  symbol_move count at (key before) below kind outer = key_move before at below kind
-  symbol_move count at (keys before) below kind outer =
-      if kind == code Comma then goes None (state 0 (key before ∷ below)) else outer
+  symbol_move count at (order most) below kind outer =
+      if kind == code First then goes None (state 0 below) else key_move most 0 at below kind
+  symbol_move count at (key most before) below kind outer = key_move most before at below kind
+  symbol_move count at (keys most before) below kind outer =
+      if kind == code Comma then goes None (state 0 (key most before ∷ below)) else outer
   symbol_move count at batch below kind outer =
-      if kind == code While then goes None (state 0 (condition ∷ the Limit ∷ the Number ∷ below)) else outer
-  symbol_move count at condition below kind outer = unit_move 0 0 at (ands 0 ∷ ors 0 ∷ below) kind
-  symbol_move count at (unit depth) below kind outer = unit_move count depth at below kind
-  symbol_move count at (ands depth) below kind outer =
-      if kind == code And then goes None (state count (unit depth ∷ ands depth ∷ below)) else outer
-  symbol_move count at (ors depth) below kind outer =
-      if kind == code Or then goes None (state count (unit depth ∷ ands depth ∷ ors depth ∷ below)) else outer
+      if kind == code While then
+      goes None (state 0 (condition limits.comparisons ∷ the Limit ∷ the Number ∷ below)) else outer
+  symbol_move count at (level before) below kind outer = level_move before at below kind refuses
+  symbol_move count at (levels before) below kind outer = level_move before at below kind outer
+  symbol_move count at within below kind outer =
+      if kind == code Always then goes None (state 0 below) else
+      factor_move 0 0 0 0 at (compare 1 0 ∷ below) kind
+  symbol_move count at (condition most) below kind outer = unit_move 0 most 0 at (ands most 0 ∷ ors most 0 ∷ below) kind
+  symbol_move count at (unit most depth) below kind outer = unit_move count most depth at below kind
+  symbol_move count at (ands most depth) below kind outer =
+      if kind == code And then goes None (state count (unit most depth ∷ ands most depth ∷ below)) else outer
+  symbol_move count at (ors most depth) below kind outer =
+      if kind == code Or then
+      goes None (state count (unit most depth ∷ ands most depth ∷ ors most depth ∷ below)) else outer
   symbol_move count at close below kind outer = if kind == code Close then goes None (state count below) else refuses
-  symbol_move count at (compare depth) below kind outer =
+  symbol_move count at (compare most depth) below kind outer =
       if is_compare kind then
-      goes (many limits.comparisons at count) (state (count + 1) (operand depth depth 0 ∷ below)) else refuses
+      goes (many most at count) (state (count + 1) (operand depth depth 0 ∷ below)) else refuses
   symbol_move count at (operand base depth before) below kind outer = factor_move count base depth before at below kind
   symbol_move count at (dot base before) below kind outer =
       if kind == code Dot then goes None (state count (word base before ∷ below)) else refuses
@@ -231,16 +251,19 @@ is_nothing (case before) = false
 is_nothing (cases before) = true
 is_nothing (actions before) = false
 is_nothing field = false
-is_nothing order = false
-is_nothing (key before) = false
-is_nothing (keys before) = true
+is_nothing (order most) = false
+is_nothing (key most before) = false
+is_nothing (keys most before) = true
 is_nothing batch = true
-is_nothing condition = false
-is_nothing (unit depth) = false
-is_nothing (ands depth) = true
-is_nothing (ors depth) = true
+is_nothing (level before) = false
+is_nothing (levels before) = true
+is_nothing within = false
+is_nothing (condition most) = false
+is_nothing (unit most depth) = false
+is_nothing (ands most depth) = true
+is_nothing (ors most depth) = true
 is_nothing close = false
-is_nothing (compare depth) = false
+is_nothing (compare most depth) = false
 is_nothing (operand base depth before) = false
 is_nothing (dot base before) = false
 is_nothing (word base before) = false
@@ -275,6 +298,11 @@ module _ (limits : Limits) where
   go ts at count stack = run at (state count stack) (drop at ts)
 
 -- a policy
-abbrev pub start : List Symbol
-start = the Policy ∷ the Name ∷ the Load ∷ load_rule ∷ attrs 0 0 ∷ place ∷ elect ∷ handlers ∷ the Filter ∷ condition ∷
-    the Choose ∷ order ∷ the Steal ∷ order ∷ batch ∷ []
+abbrev pub start : Limits → List Symbol
+start limits = the Policy ∷ the Name ∷ the Load ∷ load_rule ∷ attrs 0 0 ∷ place ∷ elect ∷ handlers ∷ the Filter ∷
+    condition limits.comparisons ∷ the Choose ∷ order limits.keys ∷ the Steal ∷ order limits.keys ∷ batch ∷ []
+
+-- a level text
+abbrev pub level_start : Limits → List Symbol
+level_start limits = the Levels ∷ the Name ∷ the Load ∷ load_rule ∷ attrs 0 0 ∷ place ∷ elect ∷ handlers ∷ level 0 ∷
+    the Choose ∷ order limits.level_keys ∷ the Steal ∷ order limits.keys ∷ batch ∷ []

@@ -1,4 +1,4 @@
--- The limits of policies, said a second time, so that none is changed by a slip.
+-- The limits of policies and of level texts, said a second time, so that none is changed by a slip.
 use Rattle.std.specs.Prelude.{◌≡◌}
 use Rattle.policy_grammar.specs.declared.limits.TheConstants.{POLICY_LIMITS}
 
@@ -11,3 +11,6 @@ pub record PolicyLimitsAreSaid : Type 0 where
   pub comparisons : POLICY_LIMITS.comparisons ≡ 16
   pub operators : POLICY_LIMITS.operators ≡ 32
   pub nesting : POLICY_LIMITS.nesting ≡ 32
+  pub levels : POLICY_LIMITS.levels ≡ 3
+  pub level_comparisons : POLICY_LIMITS.level_comparisons ≡ 3
+  pub level_keys : POLICY_LIMITS.level_keys ≡ 2

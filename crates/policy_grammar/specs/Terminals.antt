@@ -4,9 +4,9 @@ use Rattle.policy_grammar.specs.declared.terminal.Terminal.{Terminal}
 use Rattle.policy_grammar.specs.declared.terminal.Terminal.TheVariants.{End, Policy, Load, Count, Weight, Core, Thread}
 use Rattle.policy_grammar.specs.declared.terminal.Terminal.TheVariants.{In, Start, Place, Here, Min, Max, Elect, Choose}
 use Rattle.policy_grammar.specs.declared.terminal.Terminal.TheVariants.{Steal, First, On, Enqueue, Tick, Yield, Block}
-use Rattle.policy_grammar.specs.declared.terminal.Terminal.TheVariants.{When, Queue, Keep, Filter, And, Or, Not, Always}
-use Rattle.policy_grammar.specs.declared.terminal.Terminal.TheVariants.{Itself, Victim, Task, While, Limit, Prefer}
-use Rattle.policy_grammar.specs.declared.terminal.Terminal.TheVariants.{Reserved}
+use Rattle.policy_grammar.specs.declared.terminal.Terminal.TheVariants.{When, Queue, Keep, Level, Filter, And, Or, Not}
+use Rattle.policy_grammar.specs.declared.terminal.Terminal.TheVariants.{Always, Itself, Victim, Task, While, Limit}
+use Rattle.policy_grammar.specs.declared.terminal.Terminal.TheVariants.{Prefer, Levels, Within, Reserved}
 use Rattle.policy_grammar.specs.declared.terminal.Terminal.TheVariants.{Name, Number}
 use Rattle.policy_grammar.specs.declared.terminal.Terminal.TheVariants.{Dot, Range, Comma, Colon, Open, Close, Begin}
 use Rattle.policy_grammar.specs.declared.terminal.Terminal.TheVariants.{Finish, Plus, Minus, Star, Gets, Equal, Unequal}
@@ -40,38 +40,41 @@ code Block = 21
 code When = 22
 code Queue = 23
 code Keep = 24
-code Filter = 25
-code And = 26
-code Or = 27
-code Not = 28
-code Always = 29
-code Itself = 30
-code Victim = 31
-code Task = 32
-code While = 33
-code Limit = 34
-code Prefer = 35
-code Reserved = 36
-code Name = 37
-code Number = 38
-code Dot = 39
-code Range = 40
-code Comma = 41
-code Colon = 42
-code Open = 43
-code Close = 44
-code Begin = 45
-code Finish = 46
-code Plus = 47
-code Minus = 48
-code Star = 49
-code Gets = 50
-code Equal = 51
-code Unequal = 52
-code Less = 53
-code AtMost = 54
-code More = 55
-code AtLeast = 56
+code Level = 25
+code Filter = 26
+code And = 27
+code Or = 28
+code Not = 29
+code Always = 30
+code Itself = 31
+code Victim = 32
+code Task = 33
+code While = 34
+code Limit = 35
+code Prefer = 36
+code Levels = 37
+code Within = 38
+code Reserved = 39
+code Name = 40
+code Number = 41
+code Dot = 42
+code Range = 43
+code Comma = 44
+code Colon = 45
+code Open = 46
+code Close = 47
+code Begin = 48
+code Finish = 49
+code Plus = 50
+code Minus = 51
+code Star = 52
+code Gets = 53
+code Equal = 54
+code Unequal = 55
+code Less = 56
+code AtMost = 57
+code More = 58
+code AtLeast = 59
 
 -- the lexeme in that place, and one that is no token past the last
 abbrev pub or_end : Option Lexeme → Lexeme

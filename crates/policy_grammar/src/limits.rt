@@ -1,7 +1,8 @@
-//! The limits of a language.
+//! The limits of the two languages: that of policies and that of level texts.
 
 use sched_base::{
-    MAX_ATTRIBUTES, MAX_CASES, MAX_COMPARISONS, MAX_KEYS, MAX_NESTING, MAX_OPERATORS, MAX_SETS,
+    MAX_ATTRIBUTES, MAX_CASES, MAX_COMPARISONS, MAX_KEYS, MAX_LEVEL_COMPARISONS, MAX_LEVEL_KEYS,
+    MAX_LEVELS, MAX_NESTING, MAX_OPERATORS, MAX_SETS,
 };
 
 /// How much of each thing a text may have.
@@ -21,9 +22,15 @@ pub struct Limits {
     pub operators: u32,
     /// Parentheses, `not` and unary `-` that are open at a place.
     pub nesting: u32,
+    /// Levels of a level text.
+    pub levels: u32,
+    /// Comparisons of a level's filter, in place of those of a condition.
+    pub level_comparisons: u32,
+    /// Keys of a level text's `choose`, in place of those of an order.
+    pub level_keys: u32,
 }
 
-/// The limits of policies.
+/// The limits of policies and of level texts.
 pub const POLICY_LIMITS: Limits = Limits {
     attrs: MAX_ATTRIBUTES as u32,
     cases: MAX_CASES as u32,
@@ -32,4 +39,7 @@ pub const POLICY_LIMITS: Limits = Limits {
     comparisons: MAX_COMPARISONS as u32,
     operators: MAX_OPERATORS as u32,
     nesting: MAX_NESTING as u32,
+    levels: MAX_LEVELS as u32,
+    level_comparisons: MAX_LEVEL_COMPARISONS as u32,
+    level_keys: MAX_LEVEL_KEYS as u32,
 };

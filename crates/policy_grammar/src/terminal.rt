@@ -56,6 +56,8 @@ pub enum Terminal {
     Queue,
     /// `keep`
     Keep,
+    /// `level`, which is a name in a policy
+    Level,
     /// `filter`
     Filter,
     /// `and`
@@ -78,6 +80,10 @@ pub enum Terminal {
     Limit,
     /// `prefer`
     Prefer,
+    /// `levels`, which is a name in a policy
+    Levels,
+    /// `within`, which is a name in a policy
+    Within,
     /// A reserved word with no place of its own in the grammar.
     Reserved,
     /// A word that isn't reserved.

@@ -1,55 +1,52 @@
--- What is read is what the grammar and the limits say.
-use Rattle.std.proofs.Common.{◌≡◌, ◌∙◌, ℕ, List, sym, subst, None, Result, Ok, Err, IfOk, IfErr}
-use Rattle.policy_syntax.specs.declared.syntax.Syntax.{Syntax}
-use Rattle.policy_syntax.specs.SyntaxTrees.{SyntaxTree, syntax_tree}
+-- What is read is what the grammar and the limits say, in either language.
+use Rattle.std.proofs.Common.{◌≡◌, ◌∙◌, List, ℕ, sym, subst, Option, None, Result, Ok, Err, IfOk, IfErr}
 use Rattle.policy_grammar.specs.declared.terminal.Lexeme.{Lexeme}
 use Rattle.policy_grammar.specs.declared.limits.Limits.{Limits}
 use Rattle.policy_grammar.specs.declared.fault.ParseFault.{ParseFault}
 use Rattle.policy_grammar.specs.declared.fault.ParseFault.TheVariants.{Unexpected, Deep, Many, Memory}
-use Rattle.policy_grammar.specs.Policies.{IsPolicy}
-use Rattle.policy_grammar.specs.Machine.{go, start}
-use Rattle.policy_grammar.specs.Correct.{IsWithin, IsParseFault}
-use Rattle.policy_grammar.specs.OneTree.{IsOnlySyntax}
-use Rattle.policy_grammar.proofs.CompletePolicies.{policy_read}
+use Rattle.policy_grammar.specs.Machine.{Symbol, go}
+use Rattle.policy_grammar.specs.Correct.{IsWithinIn, IsFaultIn}
 use Rattle.policy_grammar.proofs.Exact.{fault-exact}
-use Rattle.policy_grammar.proofs.OnePolicies.{policy-one}
+use Rattle.policy_grammar.proofs.Languages.{IsLanguage}
 use Rattle.policy_parser.specs.Answers.{Answers, IsReadUnlessMemory}
 
-module _ (limits : Limits) (text : List ℕ) (ts : List Lexeme) where
-  within-one : (r : Result Syntax ParseFault) → IfOk r (λ s. IsPolicy text ts (syntax_tree s)) → Answers (go limits ts 0 0 start) (λ s. None) r →
-      IfOk r (λ s. IsWithin limits text ts (syntax_tree s))
-  within-one (Ok s) is e = record { is = is; keeps = sym (policy_read limits text ts is) ∙ e }
-  within-one (Err f) is e = tt
+module _ (limits : Limits) (text : List ℕ) (Tree : Type 0) (Is : List Lexeme → Tree → Type 0) (breaks : Tree → Option ParseFault) (begin : List Symbol)
+    (language : IsLanguage limits text Tree Is breaks begin) (X : Type 0) (tree : X → Tree) where
+  within-one : (ts : List Lexeme) (r : Result X ParseFault) → IfOk r (λ s. Is ts (tree s)) → Answers (go limits ts 0 0 begin) (λ s. None) r →
+      IfOk r (λ s. IsWithinIn Tree Is breaks ts (tree s))
+  within-one ts (Ok s) is e = record { is = is; keeps = sym (language.read ts (tree s) is) ∙ e }
+  within-one ts (Err f) is e = tt
 
-  only-one : (r : Result Syntax ParseFault) → IfOk r (λ s. IsPolicy text ts (syntax_tree s)) → IfOk r (λ s. IsOnlySyntax text ts (syntax_tree s))
-  only-one (Ok s) is = λ other too. policy-one text ts too is
-  only-one (Err f) is = tt
+  only-one : (one : (us : List Lexeme) (s t : Tree) → Is us s → Is us t → s ≡ t) (ts : List Lexeme) (r : Result X ParseFault) → IfOk r (λ s. Is ts (tree s)) →
+      IfOk r (λ s. (other : Tree) → Is ts other → other ≡ tree s)
+  only-one one ts (Ok s) is = λ other too. one ts other (tree s) too is
+  only-one one ts (Err f) is = tt
 
-  fault-one : (r : Result Syntax ParseFault) → Answers (go limits ts 0 0 start) (λ s. None) r → IfErr r (IsParseFault limits text ts)
-  fault-one (Ok s) e = tt
-  fault-one (Err (Unexpected at)) e = fault-exact limits text ts (Unexpected at) e
-  fault-one (Err (Deep at)) e = fault-exact limits text ts (Deep at) e
-  fault-one (Err (Many at limit)) e = fault-exact limits text ts (Many at limit) e
-  fault-one (Err Memory) e = tt
+  fault-one : (ts : List Lexeme) (r : Result X ParseFault) → Answers (go limits ts 0 0 begin) (λ s. None) r → IfErr r (IsFaultIn Tree Is breaks ts)
+  fault-one ts (Ok s) e = tt
+  fault-one ts (Err (Unexpected at)) e = fault-exact limits text Tree Is breaks begin language ts (Unexpected at) e
+  fault-one ts (Err (Deep at)) e = fault-exact limits text Tree Is breaks begin language ts (Deep at) e
+  fault-one ts (Err (Many at limit)) e = fault-exact limits text Tree Is breaks begin language ts (Many at limit) e
+  fault-one ts (Err Memory) e = tt
 
-  read-one : (r : Result Syntax ParseFault) → Answers (go limits ts 0 0 start) (λ s. None) r → (s : SyntaxTree) → IsWithin limits text ts s → IsReadUnlessMemory r
-  read-one (Ok s) e syntax within = tt
-  read-one (Err (Unexpected at)) e syntax within = let clash = sym e ∙ policy_read limits text ts within.is ∙ within.keeps in cc
-  read-one (Err (Deep at)) e syntax within = let clash = sym e ∙ policy_read limits text ts within.is ∙ within.keeps in cc
-  read-one (Err (Many at limit)) e syntax within = let clash = sym e ∙ policy_read limits text ts within.is ∙ within.keeps in cc
-  read-one (Err Memory) e syntax within = tt
+  read-one : (ts : List Lexeme) (r : Result X ParseFault) → Answers (go limits ts 0 0 begin) (λ s. None) r → (s : Tree) → IsWithinIn Tree Is breaks ts s → IsReadUnlessMemory r
+  read-one ts (Ok s) e syntax within = tt
+  read-one ts (Err (Unexpected at)) e syntax within = let clash = sym e ∙ language.read ts syntax within.is ∙ within.keeps in cc
+  read-one ts (Err (Deep at)) e syntax within = let clash = sym e ∙ language.read ts syntax within.is ∙ within.keeps in cc
+  read-one ts (Err (Many at limit)) e syntax within = let clash = sym e ∙ language.read ts syntax within.is ∙ within.keeps in cc
+  read-one ts (Err Memory) e syntax within = tt
 
--- the tokens that are read are those of the text
-module _ (limits : Limits) (text : List ℕ) (us ts : List Lexeme) (same : us ≡ ts) (r : Result Syntax ParseFault) where
-  pub within-exact : IfOk r (λ s. IsPolicy text us (syntax_tree s)) → Answers (go limits us 0 0 start) (λ s. None) r →
-      IfOk r (λ s. IsWithin limits text ts (syntax_tree s))
-  within-exact is e = subst (λ xs. IfOk r (λ s. IsWithin limits text xs (syntax_tree s))) same (within-one limits text us r is e)
+  -- the tokens that are read are those of the text
+  module _ (us ts : List Lexeme) (same : us ≡ ts) (r : Result X ParseFault) where
+    pub within-exact : IfOk r (λ s. Is us (tree s)) → Answers (go limits us 0 0 begin) (λ s. None) r → IfOk r (λ s. IsWithinIn Tree Is breaks ts (tree s))
+    within-exact is e = subst (λ xs. IfOk r (λ s. IsWithinIn Tree Is breaks xs (tree s))) same (within-one us r is e)
 
-  pub only-exact : IfOk r (λ s. IsPolicy text us (syntax_tree s)) → IfOk r (λ s. IsOnlySyntax text ts (syntax_tree s))
-  only-exact is = subst (λ xs. IfOk r (λ s. IsOnlySyntax text xs (syntax_tree s))) same (only-one limits text us r is)
+    pub only-exact : (one : (us : List Lexeme) (s t : Tree) → Is us s → Is us t → s ≡ t) → IfOk r (λ s. Is us (tree s)) →
+        IfOk r (λ s. (other : Tree) → Is ts other → other ≡ tree s)
+    only-exact one is = subst (λ xs. IfOk r (λ s. (other : Tree) → Is xs other → other ≡ tree s)) same (only-one one us r is)
 
-  pub faults-exact : Answers (go limits us 0 0 start) (λ s. None) r → IfErr r (IsParseFault limits text ts)
-  faults-exact e = subst (λ xs. IfErr r (IsParseFault limits text xs)) same (fault-one limits text us r e)
+    pub faults-exact : Answers (go limits us 0 0 begin) (λ s. None) r → IfErr r (IsFaultIn Tree Is breaks ts)
+    faults-exact e = subst (λ xs. IfErr r (IsFaultIn Tree Is breaks xs)) same (fault-one us r e)
 
-  pub reads-exact : Answers (go limits us 0 0 start) (λ s. None) r → (s : SyntaxTree) → IsWithin limits text ts s → IsReadUnlessMemory r
-  reads-exact e s within = read-one limits text us r e s (subst (λ xs. IsWithin limits text xs s) (sym same) within)
+    pub reads-exact : Answers (go limits us 0 0 begin) (λ s. None) r → (s : Tree) → IsWithinIn Tree Is breaks ts s → IsReadUnlessMemory r
+    reads-exact e s within = read-one us r e s (subst (λ xs. IsWithinIn Tree Is breaks xs s) (sym same) within)

@@ -4,3 +4,5 @@ pub mod Chains
 pub mod Lexed
 pub mod Exactly
 pub mod Whole
+pub mod LevelMoves
+pub mod LevelParts

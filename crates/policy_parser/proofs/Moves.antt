@@ -160,72 +160,72 @@ module _ (limits : Limits) (ts : List Lexeme) (at : ℕ) where
       go-same limits ts at count count (operators base before ∷ below) below refl (rw (star, plus, minus) refl)
 
   -- keys of an order
-  key-move : (before : ℕ) (below : List Symbol) (greatest : Bool) → kind_at ts at ≡ key_word greatest →
-      go limits ts at 0 (key before ∷ below) ≡ judged (many limits.keys at before) (go limits ts (at + 1) 0 (operand 0 0 0 ∷ keys (before + 1) ∷ below))
-  key-move before below true k = go-move limits ts at (code terminal.Max) 0 0 (key before ∷ below) _ (many limits.keys at before) k (lit< tt) refl
-  key-move before below false k = go-move limits ts at (code terminal.Min) 0 0 (key before ∷ below) _ (many limits.keys at before) k (lit< tt) refl
+  key-move : (bound before : ℕ) (below : List Symbol) (greatest : Bool) → kind_at ts at ≡ key_word greatest →
+      go limits ts at 0 (key bound before ∷ below) ≡ judged (many bound at before) (go limits ts (at + 1) 0 (operand 0 0 0 ∷ keys bound (before + 1) ∷ below))
+  key-move bound before below true k = go-move limits ts at (code terminal.Max) 0 0 (key bound before ∷ below) _ (many bound at before) k (lit< tt) refl
+  key-move bound before below false k = go-move limits ts at (code terminal.Min) 0 0 (key bound before ∷ below) _ (many bound at before) k (lit< tt) refl
 
-  pub key-goes : (before : ℕ) (below : List Symbol) (greatest : Bool) → kind_at ts at ≡ key_word greatest → before < limits.keys →
-      go limits ts at 0 (key before ∷ below) ≡ go limits ts (at + 1) 0 (operand 0 0 0 ∷ keys (before + 1) ∷ below)
-  key-goes before below greatest k few = kept _ (key-move before below greatest k) (within-many limits.keys at before few)
+  pub key-goes : (bound before : ℕ) (below : List Symbol) (greatest : Bool) → kind_at ts at ≡ key_word greatest → before < bound →
+      go limits ts at 0 (key bound before ∷ below) ≡ go limits ts (at + 1) 0 (operand 0 0 0 ∷ keys bound (before + 1) ∷ below)
+  key-goes bound before below greatest k few = kept _ (key-move bound before below greatest k) (within-many bound at before few)
 
-  pub key-many : (before : ℕ) (below : List Symbol) (greatest : Bool) → kind_at ts at ≡ key_word greatest → limits.keys ≤ before →
-      go limits ts at 0 (key before ∷ below) ≡ Some (Many at limits.keys)
-  key-many before below greatest k most = broken _ (key-move before below greatest k) (past-many limits.keys at before most)
+  pub key-many : (bound before : ℕ) (below : List Symbol) (greatest : Bool) → kind_at ts at ≡ key_word greatest → bound ≤ before →
+      go limits ts at 0 (key bound before ∷ below) ≡ Some (Many at bound)
+  key-many bound before below greatest k most = broken _ (key-move bound before below greatest k) (past-many bound at before most)
 
-  pub key-none : (before : ℕ) (below : List Symbol) → is_key (kind_at ts at) ≡ false → (kind_at ts at == code Prefer) ≡ false → go limits ts at 0 (key before ∷ below) ≡ Some (Unexpected at)
-  key-none before below isnt not_it = go-stuck limits ts at 0 (key before ∷ below) refl (rw (isnt, not_it) refl)
+  pub key-none : (bound before : ℕ) (below : List Symbol) → is_key (kind_at ts at) ≡ false → (kind_at ts at == code Prefer) ≡ false → go limits ts at 0 (key bound before ∷ below) ≡ Some (Unexpected at)
+  key-none bound before below isnt not_it = go-stuck limits ts at 0 (key bound before ∷ below) refl (rw (isnt, not_it) refl)
 
-  prefer-move : (before : ℕ) (below : List Symbol) → kind_at ts at ≡ code Prefer →
-      go limits ts at 0 (key before ∷ below) ≡ judged (many limits.keys at before) (go limits ts (at + 1) 0 (condition ∷ keys (before + 1) ∷ below))
-  prefer-move before below k = go-move limits ts at (code terminal.Prefer) 0 0 (key before ∷ below) _ (many limits.keys at before) k (lit< tt) refl
+  prefer-move : (bound before : ℕ) (below : List Symbol) → kind_at ts at ≡ code Prefer →
+      go limits ts at 0 (key bound before ∷ below) ≡ judged (many bound at before) (go limits ts (at + 1) 0 (condition limits.comparisons ∷ keys bound (before + 1) ∷ below))
+  prefer-move bound before below k = go-move limits ts at (code terminal.Prefer) 0 0 (key bound before ∷ below) _ (many bound at before) k (lit< tt) refl
 
-  pub prefer-goes : (before : ℕ) (below : List Symbol) → kind_at ts at ≡ code Prefer → before < limits.keys →
-      go limits ts at 0 (key before ∷ below) ≡ go limits ts (at + 1) 0 (unit 0 ∷ ands 0 ∷ ors 0 ∷ keys (before + 1) ∷ below)
-  prefer-goes before below k few =
-      kept _ (prefer-move before below k) (within-many limits.keys at before few)
-      ∙ go-same limits ts (at + 1) 0 0 (condition ∷ keys (before + 1) ∷ below) (unit 0 ∷ ands 0 ∷ ors 0 ∷ keys (before + 1) ∷ below) refl refl
+  pub prefer-goes : (bound before : ℕ) (below : List Symbol) → kind_at ts at ≡ code Prefer → before < bound →
+      go limits ts at 0 (key bound before ∷ below) ≡ go limits ts (at + 1) 0 (unit limits.comparisons 0 ∷ ands limits.comparisons 0 ∷ ors limits.comparisons 0 ∷ keys bound (before + 1) ∷ below)
+  prefer-goes bound before below k few =
+      kept _ (prefer-move bound before below k) (within-many bound at before few)
+      ∙ go-same limits ts (at + 1) 0 0 (condition limits.comparisons ∷ keys bound (before + 1) ∷ below) (unit limits.comparisons 0 ∷ ands limits.comparisons 0 ∷ ors limits.comparisons 0 ∷ keys bound (before + 1) ∷ below) refl refl
 
-  pub prefer-many : (before : ℕ) (below : List Symbol) → kind_at ts at ≡ code Prefer → limits.keys ≤ before →
-      go limits ts at 0 (key before ∷ below) ≡ Some (Many at limits.keys)
-  prefer-many before below k most = broken _ (prefer-move before below k) (past-many limits.keys at before most)
+  pub prefer-many : (bound before : ℕ) (below : List Symbol) → kind_at ts at ≡ code Prefer → bound ≤ before →
+      go limits ts at 0 (key bound before ∷ below) ≡ Some (Many at bound)
+  prefer-many bound before below k most = broken _ (prefer-move bound before below k) (past-many bound at before most)
 
-  pub order-key : (below : List Symbol) → (kind_at ts at == code First) ≡ false → go limits ts at 0 (order ∷ below) ≡ go limits ts at 0 (key 0 ∷ below)
-  order-key below isnt = go-same limits ts at 0 0 (order ∷ below) (key 0 ∷ below) refl (rw isnt refl)
+  pub order-key : (bound : ℕ) (below : List Symbol) → (kind_at ts at == code First) ≡ false → go limits ts at 0 (order bound ∷ below) ≡ go limits ts at 0 (key bound 0 ∷ below)
+  order-key bound below isnt = go-same limits ts at 0 0 (order bound ∷ below) (key bound 0 ∷ below) refl (rw isnt refl)
 
-  pub keys-goes : (before : ℕ) (below : List Symbol) → kind_at ts at ≡ code Comma → go limits ts at 0 (keys before ∷ below) ≡ go limits ts (at + 1) 0 (key before ∷ below)
-  keys-goes before below k = go-move limits ts at (code terminal.Comma) 0 0 (keys before ∷ below) (key before ∷ below) None k (lit< tt) refl
+  pub keys-goes : (bound before : ℕ) (below : List Symbol) → kind_at ts at ≡ code Comma → go limits ts at 0 (keys bound before ∷ below) ≡ go limits ts (at + 1) 0 (key bound before ∷ below)
+  keys-goes bound before below k = go-move limits ts at (code terminal.Comma) 0 0 (keys bound before ∷ below) (key bound before ∷ below) None k (lit< tt) refl
 
-  pub keys-over : (before : ℕ) (below : List Symbol) → (kind_at ts at == code Comma) ≡ false → go limits ts at 0 (keys before ∷ below) ≡ go limits ts at 0 below
-  keys-over before below isnt = go-same limits ts at 0 0 (keys before ∷ below) below refl (rw isnt refl)
+  pub keys-over : (bound before : ℕ) (below : List Symbol) → (kind_at ts at == code Comma) ≡ false → go limits ts at 0 (keys bound before ∷ below) ≡ go limits ts at 0 below
+  keys-over bound before below isnt = go-same limits ts at 0 0 (keys bound before ∷ below) below refl (rw isnt refl)
 
   -- units of a condition
-  not-move : (count depth : ℕ) (below : List Symbol) → kind_at ts at ≡ code Not →
-      go limits ts at count (unit depth ∷ below) ≡ judged (deep limits at depth) (go limits ts (at + 1) count (unit (depth + 1) ∷ below))
-  not-move count depth below k = go-move limits ts at (code terminal.Not) count count (unit depth ∷ below) _ (deep limits at depth) k (lit< tt) refl
+  not-move : (count bound depth : ℕ) (below : List Symbol) → kind_at ts at ≡ code Not →
+      go limits ts at count (unit bound depth ∷ below) ≡ judged (deep limits at depth) (go limits ts (at + 1) count (unit bound (depth + 1) ∷ below))
+  not-move count bound depth below k = go-move limits ts at (code terminal.Not) count count (unit bound depth ∷ below) _ (deep limits at depth) k (lit< tt) refl
 
-  pub not-goes : (count depth : ℕ) (below : List Symbol) → kind_at ts at ≡ code Not → depth < limits.nesting →
-      go limits ts at count (unit depth ∷ below) ≡ go limits ts (at + 1) count (unit (depth + 1) ∷ below)
-  not-goes count depth below k few = kept _ (not-move count depth below k) (within-deep limits at depth few)
+  pub not-goes : (count bound depth : ℕ) (below : List Symbol) → kind_at ts at ≡ code Not → depth < limits.nesting →
+      go limits ts at count (unit bound depth ∷ below) ≡ go limits ts (at + 1) count (unit bound (depth + 1) ∷ below)
+  not-goes count bound depth below k few = kept _ (not-move count bound depth below k) (within-deep limits at depth few)
 
-  pub not-deep : (count depth : ℕ) (below : List Symbol) → kind_at ts at ≡ code Not → limits.nesting ≤ depth → go limits ts at count (unit depth ∷ below) ≡ Some (Deep at)
-  not-deep count depth below k most = broken _ (not-move count depth below k) (past-deep limits at depth most)
+  pub not-deep : (count bound depth : ℕ) (below : List Symbol) → kind_at ts at ≡ code Not → limits.nesting ≤ depth → go limits ts at count (unit bound depth ∷ below) ≡ Some (Deep at)
+  not-deep count bound depth below k most = broken _ (not-move count bound depth below k) (past-deep limits at depth most)
 
-  open-move : (count depth : ℕ) (below : List Symbol) → kind_at ts at ≡ code Open →
-      go limits ts at count (unit depth ∷ below)
-      ≡ judged (deep limits at depth) (go limits ts (at + 1) count (unit (depth + 1) ∷ ands (depth + 1) ∷ ors (depth + 1) ∷ close ∷ below))
-  open-move count depth below k = go-move limits ts at (code terminal.Open) count count (unit depth ∷ below) _ (deep limits at depth) k (lit< tt) refl
+  open-move : (count bound depth : ℕ) (below : List Symbol) → kind_at ts at ≡ code Open →
+      go limits ts at count (unit bound depth ∷ below)
+      ≡ judged (deep limits at depth) (go limits ts (at + 1) count (unit bound (depth + 1) ∷ ands bound (depth + 1) ∷ ors bound (depth + 1) ∷ close ∷ below))
+  open-move count bound depth below k = go-move limits ts at (code terminal.Open) count count (unit bound depth ∷ below) _ (deep limits at depth) k (lit< tt) refl
 
-  pub open-goes : (count depth : ℕ) (below : List Symbol) → kind_at ts at ≡ code Open → depth < limits.nesting →
-      go limits ts at count (unit depth ∷ below) ≡ go limits ts (at + 1) count (unit (depth + 1) ∷ ands (depth + 1) ∷ ors (depth + 1) ∷ close ∷ below)
-  open-goes count depth below k few = kept _ (open-move count depth below k) (within-deep limits at depth few)
+  pub open-goes : (count bound depth : ℕ) (below : List Symbol) → kind_at ts at ≡ code Open → depth < limits.nesting →
+      go limits ts at count (unit bound depth ∷ below) ≡ go limits ts (at + 1) count (unit bound (depth + 1) ∷ ands bound (depth + 1) ∷ ors bound (depth + 1) ∷ close ∷ below)
+  open-goes count bound depth below k few = kept _ (open-move count bound depth below k) (within-deep limits at depth few)
 
-  pub open-deep : (count depth : ℕ) (below : List Symbol) → kind_at ts at ≡ code Open → limits.nesting ≤ depth → go limits ts at count (unit depth ∷ below) ≡ Some (Deep at)
-  open-deep count depth below k most = broken _ (open-move count depth below k) (past-deep limits at depth most)
+  pub open-deep : (count bound depth : ℕ) (below : List Symbol) → kind_at ts at ≡ code Open → limits.nesting ≤ depth → go limits ts at count (unit bound depth ∷ below) ≡ Some (Deep at)
+  open-deep count bound depth below k most = broken _ (open-move count bound depth below k) (past-deep limits at depth most)
 
-  pub always-goes : (count depth : ℕ) (below : List Symbol) → kind_at ts at ≡ code Always → go limits ts at count (unit depth ∷ below) ≡ go limits ts (at + 1) count below
-  always-goes count depth below k =
-      go-move limits ts at (code terminal.Always) count count (unit depth ∷ below) below None k (lit< tt) refl
+  pub always-goes : (count bound depth : ℕ) (below : List Symbol) → kind_at ts at ≡ code Always → go limits ts at count (unit bound depth ∷ below) ≡ go limits ts (at + 1) count below
+  always-goes count bound depth below k =
+      go-move limits ts at (code terminal.Always) count count (unit bound depth ∷ below) below None k (lit< tt) refl
 
   pub close-goes : (count : ℕ) (below : List Symbol) → kind_at ts at ≡ code Close → go limits ts at count (close ∷ below) ≡ go limits ts (at + 1) count below
   close-goes count below k =
@@ -234,38 +234,38 @@ module _ (limits : Limits) (ts : List Lexeme) (at : ℕ) where
   pub close-none : (count : ℕ) (below : List Symbol) → (kind_at ts at == code Close) ≡ false → go limits ts at count (close ∷ below) ≡ Some (Unexpected at)
   close-none count below isnt = go-stuck limits ts at count (close ∷ below) refl (rw isnt refl)
 
-  pub test-begins : (count depth : ℕ) (below : List Symbol) → (kind_at ts at == code Always) ≡ false → (kind_at ts at == code Not) ≡ false → (kind_at ts at == code Open) ≡ false →
-      go limits ts at count (unit depth ∷ below) ≡ go limits ts at count (operand depth depth 0 ∷ compare depth ∷ below)
-  test-begins count depth below a n o =
-      go-same limits ts at count count (unit depth ∷ below) (operand depth depth 0 ∷ compare depth ∷ below) refl (rw (a, n, o) refl)
+  pub test-begins : (count bound depth : ℕ) (below : List Symbol) → (kind_at ts at == code Always) ≡ false → (kind_at ts at == code Not) ≡ false → (kind_at ts at == code Open) ≡ false →
+      go limits ts at count (unit bound depth ∷ below) ≡ go limits ts at count (operand depth depth 0 ∷ compare bound depth ∷ below)
+  test-begins count bound depth below a n o =
+      go-same limits ts at count count (unit bound depth ∷ below) (operand depth depth 0 ∷ compare bound depth ∷ below) refl (rw (a, n, o) refl)
 
-  pub compare-goes : (text : List ℕ) (count depth : ℕ) (below : List Symbol) (c : Cmp) → kind_at ts at ≡ compare_word c → count < limits.comparisons →
-      go limits ts at count (compare depth ∷ below) ≡ go limits ts (at + 1) (count + 1) (operand depth depth 0 ∷ below)
-  compare-goes text count depth below c k few = kept _ (compares limits text ts at count depth below c k) (within-many limits.comparisons at count few)
+  pub compare-goes : (text : List ℕ) (count bound depth : ℕ) (below : List Symbol) (c : Cmp) → kind_at ts at ≡ compare_word c → count < bound →
+      go limits ts at count (compare bound depth ∷ below) ≡ go limits ts (at + 1) (count + 1) (operand depth depth 0 ∷ below)
+  compare-goes text count bound depth below c k few = kept _ (compares limits text ts at count bound depth below c k) (within-many bound at count few)
 
-  pub compare-many : (text : List ℕ) (count depth : ℕ) (below : List Symbol) (c : Cmp) → kind_at ts at ≡ compare_word c → limits.comparisons ≤ count →
-      go limits ts at count (compare depth ∷ below) ≡ Some (Many at limits.comparisons)
-  compare-many text count depth below c k most = broken _ (compares limits text ts at count depth below c k) (past-many limits.comparisons at count most)
+  pub compare-many : (text : List ℕ) (count bound depth : ℕ) (below : List Symbol) (c : Cmp) → kind_at ts at ≡ compare_word c → bound ≤ count →
+      go limits ts at count (compare bound depth ∷ below) ≡ Some (Many at bound)
+  compare-many text count bound depth below c k most = broken _ (compares limits text ts at count bound depth below c k) (past-many bound at count most)
 
-  pub compare-none : (count depth : ℕ) (below : List Symbol) → is_compare (kind_at ts at) ≡ false → go limits ts at count (compare depth ∷ below) ≡ Some (Unexpected at)
-  compare-none count depth below isnt = go-stuck limits ts at count (compare depth ∷ below) refl (rw isnt refl)
+  pub compare-none : (count bound depth : ℕ) (below : List Symbol) → is_compare (kind_at ts at) ≡ false → go limits ts at count (compare bound depth ∷ below) ≡ Some (Unexpected at)
+  compare-none count bound depth below isnt = go-stuck limits ts at count (compare bound depth ∷ below) refl (rw isnt refl)
 
-  pub ands-goes : (count depth : ℕ) (below : List Symbol) → kind_at ts at ≡ code And → go limits ts at count (ands depth ∷ below) ≡ go limits ts (at + 1) count (unit depth ∷ ands depth ∷ below)
-  ands-goes count depth below k =
-      go-move limits ts at (code terminal.And) count count (ands depth ∷ below) _ None k (lit< tt) refl
+  pub ands-goes : (count bound depth : ℕ) (below : List Symbol) → kind_at ts at ≡ code And → go limits ts at count (ands bound depth ∷ below) ≡ go limits ts (at + 1) count (unit bound depth ∷ ands bound depth ∷ below)
+  ands-goes count bound depth below k =
+      go-move limits ts at (code terminal.And) count count (ands bound depth ∷ below) _ None k (lit< tt) refl
 
-  pub ors-goes : (count depth : ℕ) (below : List Symbol) → kind_at ts at ≡ code Or → go limits ts at count (ors depth ∷ below) ≡ go limits ts (at + 1) count (unit depth ∷ ands depth ∷ ors depth ∷ below)
-  ors-goes count depth below k =
-      go-move limits ts at (code terminal.Or) count count (ors depth ∷ below) _ None k (lit< tt) refl
+  pub ors-goes : (count bound depth : ℕ) (below : List Symbol) → kind_at ts at ≡ code Or → go limits ts at count (ors bound depth ∷ below) ≡ go limits ts (at + 1) count (unit bound depth ∷ ands bound depth ∷ ors bound depth ∷ below)
+  ors-goes count bound depth below k =
+      go-move limits ts at (code terminal.Or) count count (ors bound depth ∷ below) _ None k (lit< tt) refl
 
-  pub order-first : (below : List Symbol) → kind_at ts at ≡ code First → go limits ts at 0 (order ∷ below) ≡ go limits ts (at + 1) 0 below
-  order-first below k = go-move limits ts at (code terminal.First) 0 0 (order ∷ below) below None k (lit< tt) refl
+  pub order-first : (bound : ℕ) (below : List Symbol) → kind_at ts at ≡ code First → go limits ts at 0 (order bound ∷ below) ≡ go limits ts (at + 1) 0 below
+  order-first bound below k = go-move limits ts at (code terminal.First) 0 0 (order bound ∷ below) below None k (lit< tt) refl
 
-  pub ands-over : (count depth : ℕ) (below : List Symbol) → (kind_at ts at == code And) ≡ false → go limits ts at count (ands depth ∷ below) ≡ go limits ts at count below
-  ands-over count depth below isnt = go-same limits ts at count count (ands depth ∷ below) below refl (rw isnt refl)
+  pub ands-over : (count bound depth : ℕ) (below : List Symbol) → (kind_at ts at == code And) ≡ false → go limits ts at count (ands bound depth ∷ below) ≡ go limits ts at count below
+  ands-over count bound depth below isnt = go-same limits ts at count count (ands bound depth ∷ below) below refl (rw isnt refl)
 
-  pub ors-over : (count depth : ℕ) (below : List Symbol) → (kind_at ts at == code Or) ≡ false → go limits ts at count (ors depth ∷ below) ≡ go limits ts at count below
-  ors-over count depth below isnt = go-same limits ts at count count (ors depth ∷ below) below refl (rw isnt refl)
+  pub ors-over : (count bound depth : ℕ) (below : List Symbol) → (kind_at ts at == code Or) ≡ false → go limits ts at count (ors bound depth ∷ below) ≡ go limits ts at count below
+  ors-over count bound depth below isnt = go-same limits ts at count count (ors bound depth ∷ below) below refl (rw isnt refl)
 
   -- a number with a sign
   pub int-none : (below : List Symbol) → (kind_at ts at == code Number) ≡ false → (kind_at ts at == code Minus) ≡ false → go limits ts at 0 (int ∷ below) ≡ Some (Unexpected at)
@@ -314,19 +314,19 @@ module _ (limits : Limits) (ts : List Lexeme) (at : ℕ) where
   pub elect-over : (below : List Symbol) → (kind_at ts at == code Elect) ≡ false → go limits ts at 0 (elect ∷ below) ≡ go limits ts at 0 below
   elect-over below isnt = go-same limits ts at 0 0 (elect ∷ below) below refl (rw isnt refl)
 
-  pub elect-goes : (below : List Symbol) → kind_at ts at ≡ code Elect → go limits ts at 0 (elect ∷ below) ≡ go limits ts (at + 1) 0 (order ∷ below)
+  pub elect-goes : (below : List Symbol) → kind_at ts at ≡ code Elect → go limits ts at 0 (elect ∷ below) ≡ go limits ts (at + 1) 0 (order limits.keys ∷ below)
   elect-goes below k =
-      go-move limits ts at (code terminal.Elect) 0 0 (elect ∷ below) (order ∷ below) None k (lit< tt) refl
+      go-move limits ts at (code terminal.Elect) 0 0 (elect ∷ below) (order limits.keys ∷ below) None k (lit< tt) refl
 
   -- the batch
   pub batch-over : (below : List Symbol) → (kind_at ts at == code While) ≡ false → go limits ts at 0 (batch ∷ below) ≡ go limits ts at 0 below
   batch-over below isnt = go-same limits ts at 0 0 (batch ∷ below) below refl (rw isnt refl)
 
   pub batch-goes : (below : List Symbol) → kind_at ts at ≡ code While →
-      go limits ts at 0 (batch ∷ below) ≡ go limits ts (at + 1) 0 (unit 0 ∷ ands 0 ∷ ors 0 ∷ the Limit ∷ the Number ∷ below)
+      go limits ts at 0 (batch ∷ below) ≡ go limits ts (at + 1) 0 (unit limits.comparisons 0 ∷ ands limits.comparisons 0 ∷ ors limits.comparisons 0 ∷ the Limit ∷ the Number ∷ below)
   batch-goes below k =
-      go-move limits ts at (code terminal.While) 0 0 (batch ∷ below) (condition ∷ the Limit ∷ the Number ∷ below) None k (lit< tt) refl
-      ∙ go-same limits ts (at + 1) 0 0 (condition ∷ the Limit ∷ the Number ∷ below) (unit 0 ∷ ands 0 ∷ ors 0 ∷ the Limit ∷ the Number ∷ below) refl refl
+      go-move limits ts at (code terminal.While) 0 0 (batch ∷ below) (condition limits.comparisons ∷ the Limit ∷ the Number ∷ below) None k (lit< tt) refl
+      ∙ go-same limits ts (at + 1) 0 0 (condition limits.comparisons ∷ the Limit ∷ the Number ∷ below) (unit limits.comparisons 0 ∷ ands limits.comparisons 0 ∷ ors limits.comparisons 0 ∷ the Limit ∷ the Number ∷ below) refl refl
 
   -- attributes
   attr-move : (cores threads : ℕ) (below : List Symbol) (of_cores : Bool) → kind_at ts at ≡ attr_word of_cores →
@@ -373,14 +373,14 @@ module _ (limits : Limits) (ts : List Lexeme) (at : ℕ) where
 
   -- cases
   case-move : (before : ℕ) (below : List Symbol) → kind_at ts at ≡ code When →
-      go limits ts at 0 (case before ∷ below) ≡ judged (many limits.cases at before) (go limits ts (at + 1) 0 (condition ∷ the Colon ∷ actions 0 ∷ cases (before + 1) ∷ below))
+      go limits ts at 0 (case before ∷ below) ≡ judged (many limits.cases at before) (go limits ts (at + 1) 0 (condition limits.comparisons ∷ the Colon ∷ actions 0 ∷ cases (before + 1) ∷ below))
   case-move before below k = go-move limits ts at (code terminal.When) 0 0 (case before ∷ below) _ (many limits.cases at before) k (lit< tt) refl
 
   pub case-goes : (before : ℕ) (below : List Symbol) → kind_at ts at ≡ code When → before < limits.cases →
-      go limits ts at 0 (case before ∷ below) ≡ go limits ts (at + 1) 0 (unit 0 ∷ ands 0 ∷ ors 0 ∷ the Colon ∷ actions 0 ∷ cases (before + 1) ∷ below)
+      go limits ts at 0 (case before ∷ below) ≡ go limits ts (at + 1) 0 (unit limits.comparisons 0 ∷ ands limits.comparisons 0 ∷ ors limits.comparisons 0 ∷ the Colon ∷ actions 0 ∷ cases (before + 1) ∷ below)
   case-goes before below k few =
       kept _ (case-move before below k) (within-many limits.cases at before few)
-      ∙ go-same limits ts (at + 1) 0 0 (condition ∷ the Colon ∷ actions 0 ∷ cases (before + 1) ∷ below) (unit 0 ∷ ands 0 ∷ ors 0 ∷ the Colon ∷ actions 0 ∷ cases (before + 1) ∷ below) refl refl
+      ∙ go-same limits ts (at + 1) 0 0 (condition limits.comparisons ∷ the Colon ∷ actions 0 ∷ cases (before + 1) ∷ below) (unit limits.comparisons 0 ∷ ands limits.comparisons 0 ∷ ors limits.comparisons 0 ∷ the Colon ∷ actions 0 ∷ cases (before + 1) ∷ below) refl refl
 
   pub case-many : (before : ℕ) (below : List Symbol) → kind_at ts at ≡ code When → limits.cases ≤ before → go limits ts at 0 (case before ∷ below) ≡ Some (Many at limits.cases)
   case-many before below k most = broken _ (case-move before below k) (past-many limits.cases at before most)
@@ -390,7 +390,7 @@ module _ (limits : Limits) (ts : List Lexeme) (at : ℕ) where
 
   pub cases-case : (before : ℕ) (below : List Symbol) → kind_at ts at ≡ code When → go limits ts at 0 (cases before ∷ below) ≡ go limits ts at 0 (case before ∷ below)
   cases-case before below k =
-      go-move limits ts at (code terminal.When) 0 0 (cases before ∷ below) (condition ∷ the Colon ∷ actions 0 ∷ cases (before + 1) ∷ below) (many limits.cases at before) k (lit< tt) refl ∙ sym (case-move before below k)
+      go-move limits ts at (code terminal.When) 0 0 (cases before ∷ below) (condition limits.comparisons ∷ the Colon ∷ actions 0 ∷ cases (before + 1) ∷ below) (many limits.cases at before) k (lit< tt) refl ∙ sym (case-move before below k)
 
   pub cases-over : (before : ℕ) (below : List Symbol) → (kind_at ts at == code When) ≡ false → go limits ts at 0 (cases before ∷ below) ≡ go limits ts at 0 below
   cases-over before below isnt = go-same limits ts at 0 0 (cases before ∷ below) below refl (rw isnt refl)
@@ -417,8 +417,8 @@ module _ (limits : Limits) (ts : List Lexeme) (at : ℕ) where
   event-none below isnt = go-stuck limits ts at 0 (event ∷ below) refl (rw isnt refl)
 
   -- a whole condition
-  pub condition-begins : (count : ℕ) (below : List Symbol) → go limits ts at count (condition ∷ below) ≡ go limits ts at 0 (unit 0 ∷ ands 0 ∷ ors 0 ∷ below)
-  condition-begins count below = go-same limits ts at count 0 (condition ∷ below) (unit 0 ∷ ands 0 ∷ ors 0 ∷ below) refl refl
+  pub condition-begins : (count bound : ℕ) (below : List Symbol) → go limits ts at count (condition bound ∷ below) ≡ go limits ts at 0 (unit bound 0 ∷ ands bound 0 ∷ ors bound 0 ∷ below)
+  condition-begins count bound below = go-same limits ts at count 0 (condition bound ∷ below) (unit bound 0 ∷ ands bound 0 ∷ ors bound 0 ∷ below) refl refl
 
 -- one attribute more of its kind
 pub cores-more : (b : Bool) {n r : ℕ} → (IsTrue b → r ≡ n + 1) → (b ≡ false → r ≡ n) → r ≡ of_cores_more b n

@@ -5,6 +5,7 @@ use Rattle.policy_syntax.specs.declared.syntax.AttrSyntax.{AttrSyntax}
 use Rattle.policy_syntax.specs.declared.syntax.PlaceSyntax.{PlaceSyntax}
 use Rattle.policy_syntax.specs.SyntaxTrees.{ConditionTree, OrderSyntaxTree, ElectSyntaxTree, BatchSyntaxTree, HandlerSyntaxTree}
 use Rattle.policy_grammar.specs.declared.terminal.Lexeme.{Lexeme}
+use Rattle.policy_grammar.specs.declared.terminal.Terminal.{Terminal}
 use Rattle.policy_grammar.specs.declared.terminal.Terminal.TheVariants.{Policy, Name, While, Limit, Number}
 use Rattle.policy_grammar.specs.Terminals.{code, kind_at, value_at, word_at}
 use Rattle.policy_grammar.specs.Conditions.{IsCondition}
@@ -12,14 +13,14 @@ use Rattle.policy_grammar.specs.Policies.{IsLoad, IsBatch, batch_some, IsPolicy,
 use Rattle.policy_parser.specs.Sections.{IsHeader, IsFront, IsBack}
 
 -- the name and the load, from the places that the parser has
-pub header-parts : {text : List ℕ} {ts : List Lexeme} {name_at load_at to : ℕ} {name : List ℕ} {load : LoadSyntax} → kind_at ts 0 ≡ code Policy → name_at ≡ 0 + 1 →
-    kind_at ts name_at ≡ code Name → name ≡ word_at text ts name_at → load_at ≡ name_at + 1 → IsLoad ts load_at load to → IsHeader text ts name load to
+pub header-parts : {text : List ℕ} {ts : List Lexeme} {name_at load_at to : ℕ} {word : Terminal} {name : List ℕ} {load : LoadSyntax} → kind_at ts 0 ≡ code word → name_at ≡ 0 + 1 →
+    kind_at ts name_at ≡ code Name → name ≡ word_at text ts name_at → load_at ≡ name_at + 1 → IsLoad ts load_at load to → IsHeader text ts word name load to
 header-parts {text = text} {ts = ts} {to = to} {load = load} k e1 n w e2 d =
     let two : _ ≡ 2 = omega (arith, e1, e2) in
     record {
       begins = k;
       named = subst (λ m. kind_at ts m ≡ code Name) e1 n;
-      word = w ∙ ap (word_at text ts) e1;
+      called = w ∙ ap (word_at text ts) e1;
       loads = subst (λ m. IsLoad ts m load to) two d;
     }
 
@@ -35,7 +36,7 @@ batch-parts {text = text} {ts = ts} {at = at} {mid = mid} {limit = limit} {condi
 -- a whole policy
 pub policy-parts : {text : List ℕ} {ts : List Lexeme} {at filter_at choose_at steal_at : ℕ} {name : List ℕ} {load : LoadSyntax} {attrs : List AttrSyntax}
     {place : Option PlaceSyntax} {elect : Option ElectSyntaxTree} {handlers : List HandlerSyntaxTree} {filter : ConditionTree} {choose steal : OrderSyntaxTree} {batch : Option BatchSyntaxTree} →
-    IsFront text ts name load attrs place elect at → IsBack text ts at handlers filter_at filter choose_at choose steal_at steal batch →
+    IsFront text ts Policy name load attrs place elect at → IsBack text ts at handlers filter_at filter choose_at choose steal_at steal batch →
     IsPolicy text ts (record {
       name = name;
       load = load;
@@ -68,6 +69,6 @@ policy-parts {text = text} {ts = ts} {filter_at = filter_at} {choose_at = choose
       steal = steal;
       batch = batch;
     }))
-    (sym f.header.word)
+    (sym f.header.called)
     (policy_of f.header.begins f.header.named f.header.loads f.are f.rules.places f.rules.elects b.are b.begins b.filters b.choices.begins b.choices.chooses
     b.choices.follows.begins b.choices.follows.steals b.choices.follows.goes_on)

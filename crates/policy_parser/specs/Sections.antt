@@ -6,17 +6,19 @@ use Rattle.policy_syntax.specs.declared.syntax.PlaceSyntax.{PlaceSyntax}
 use Rattle.policy_syntax.specs.SyntaxTrees.{ConditionTree, OrderSyntaxTree, ElectSyntaxTree, BatchSyntaxTree}
 use Rattle.policy_syntax.specs.SyntaxTrees.{HandlerSyntaxTree}
 use Rattle.policy_grammar.specs.declared.terminal.Lexeme.{Lexeme}
-use Rattle.policy_grammar.specs.declared.terminal.Terminal.TheVariants.{Policy, Name, Filter, Choose, Steal, Colon}
+use Rattle.policy_grammar.specs.declared.terminal.Terminal.{Terminal}
+use Rattle.policy_grammar.specs.declared.terminal.Terminal.TheVariants.{Name, Filter, Choose, Steal, Colon}
 use Rattle.policy_grammar.specs.Terminals.{code, kind_at, word_at}
 use Rattle.policy_grammar.specs.Conditions.{IsCondition}
 use Rattle.policy_grammar.specs.Orders.{IsOrder}
 use Rattle.policy_grammar.specs.Policies.{IsLoad, IsAttrs, IsPlace, IsElect, IsHandlers, IsBatch}
 
--- the name and the load
-pub record IsHeader (text : List ℕ) (ts : List Lexeme) (name : List ℕ) (load : LoadSyntax) (to : ℕ) : Type 0 where
-  pub begins : kind_at ts 0 ≡ code Policy
+-- that word, the name and the load
+pub record IsHeader (text : List ℕ) (ts : List Lexeme) (word : Terminal) (name : List ℕ) (load : LoadSyntax)
+    (to : ℕ) : Type 0 where
+  pub begins : kind_at ts 0 ≡ code word
   pub named : kind_at ts 1 ≡ code Name
-  pub word : name ≡ word_at text ts 1
+  pub called : name ≡ word_at text ts 1
   pub loads : IsLoad ts 2 load to
 
 -- the rules that may be left out
@@ -27,11 +29,11 @@ pub record IsRules (text : List ℕ) (ts : List Lexeme) (at : ℕ) (place : Opti
   pub elects : IsElect text ts mid elect to
 
 -- all before the handlers
-pub record IsFront (text : List ℕ) (ts : List Lexeme) (name : List ℕ) (load : LoadSyntax) (attrs : List AttrSyntax)
-    (place : Option PlaceSyntax) (elect : Option ElectSyntaxTree) (to : ℕ) : Type 0 where
+pub record IsFront (text : List ℕ) (ts : List Lexeme) (word : Terminal) (name : List ℕ) (load : LoadSyntax)
+    (attrs : List AttrSyntax) (place : Option PlaceSyntax) (elect : Option ElectSyntaxTree) (to : ℕ) : Type 0 where
   pub attrs_at : ℕ
   pub rules_at : ℕ
-  pub header : IsHeader text ts name load attrs_at
+  pub header : IsHeader text ts word name load attrs_at
   pub are : IsAttrs text ts attrs_at attrs rules_at
   pub rules : IsRules text ts rules_at place elect to
 

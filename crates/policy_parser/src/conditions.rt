@@ -6,6 +6,7 @@ ghost use Rattle.policy_grammar.specs.Terminals.{code, kind_at};
 ghost use Rattle.policy_grammar.specs.declared.terminal.Terminal.TheVariants.{Not, Open};
 ghost use Rattle.policy_grammar.specs.Words.{compare_word};
 ghost use Rattle.policy_grammar.specs.Conditions.{IsUnit, IsConjunction, IsCondition};
+ghost use Rattle.policy_grammar.specs.Levels.{IsLevelWithin};
 ghost use Rattle.policy_grammar.specs.Machine.{Symbol, unit, ands, ors, compare, operand, is_compare, go};
 ghost use Rattle.policy_parser.specs.Answers.{Answers};
 
@@ -15,11 +16,13 @@ use policy_syntax::ConditionSyntax;
 use policy_tree::Cmp;
 
 impl<'a> Source<'a> {
-    /// A condition where so many are open, behind so many comparisons, and how many it has had then.
+    /// A condition of at most so many comparisons, where so many are open, behind so many comparisons, and how many it
+    /// has had then.
     #[cycle(nested)]
     pub(crate) fn condition(
         &self,
         at: u32,
+        most: u32,
         depth: u32,
         count: u32,
     ) -> Result<(ConditionSyntax, u32, u32), ParseFault>
@@ -28,17 +31,17 @@ impl<'a> Source<'a> {
         ensures later { IfOk result (λ x. (at < x.1) × (x.1 ≤ length self.now.lexemes.now)) }
         ensures is { IfOk result (λ x. IsCondition self.now.text.now self.now.lexemes.now at (condition_tree x.0) x.1) }
         ensures reads { (below : List Symbol) →
-            Answers (go self.now.limits self.now.lexemes.now at count (unit depth ∷ ands depth ∷ ors depth ∷ below))
+            Answers (go self.now.limits self.now.lexemes.now at count (unit most depth ∷ ands most depth ∷ ors most depth ∷ below))
             (λ x. go self.now.limits self.now.lexemes.now x.1 x.2 below) result }
     {
-        let (first, mut next, mut counted) = self.conjunction(at, depth, count)?;
+        let (first, mut next, mut counted) = self.conjunction(at, most, depth, count)?;
         if !self.has(next, Terminal::Or) {
             return Ok((first, next, counted));
         }
         let mut parts = Vec::new(self.alloc);
         parts.push(first)?;
         'ors: loop {
-            let (part, after, more) = self.conjunction(next + 1, depth, counted)?;
+            let (part, after, more) = self.conjunction(next + 1, most, depth, counted)?;
             parts.push(part)?;
             next = after;
             counted = more;
@@ -53,6 +56,7 @@ impl<'a> Source<'a> {
     fn conjunction(
         &self,
         at: u32,
+        most: u32,
         depth: u32,
         count: u32,
     ) -> Result<(ConditionSyntax, u32, u32), ParseFault>
@@ -62,17 +66,17 @@ impl<'a> Source<'a> {
         ensures is { IfOk result (λ x. IsConjunction self.now.text.now self.now.lexemes.now at
             (condition_tree x.0) x.1) }
         ensures reads { (below : List Symbol) →
-            Answers (go self.now.limits self.now.lexemes.now at count (unit depth ∷ ands depth ∷ below))
+            Answers (go self.now.limits self.now.lexemes.now at count (unit most depth ∷ ands most depth ∷ below))
             (λ x. go self.now.limits self.now.lexemes.now x.1 x.2 below) result }
     {
-        let (first, mut next, mut counted) = self.unit(at, depth, count)?;
+        let (first, mut next, mut counted) = self.unit(at, most, depth, count)?;
         if !self.has(next, Terminal::And) {
             return Ok((first, next, counted));
         }
         let mut parts = Vec::new(self.alloc);
         parts.push(first)?;
         'ands: loop {
-            let (part, after, more) = self.unit(next + 1, depth, counted)?;
+            let (part, after, more) = self.unit(next + 1, most, depth, counted)?;
             parts.push(part)?;
             next = after;
             counted = more;
@@ -87,6 +91,7 @@ impl<'a> Source<'a> {
     fn unit(
         &self,
         at: u32,
+        most: u32,
         depth: u32,
         count: u32,
     ) -> Result<(ConditionSyntax, u32, u32), ParseFault>
@@ -95,17 +100,17 @@ impl<'a> Source<'a> {
         ensures later { IfOk result (λ x. (at < x.1) × (x.1 ≤ length self.now.lexemes.now)) }
         ensures is { IfOk result (λ x. IsUnit self.now.text.now self.now.lexemes.now at (condition_tree x.0) x.1) }
         ensures reads { (below : List Symbol) →
-            Answers (go self.now.limits self.now.lexemes.now at count (unit depth ∷ below))
+            Answers (go self.now.limits self.now.lexemes.now at count (unit most depth ∷ below))
             (λ x. go self.now.limits self.now.lexemes.now x.1 x.2 below) result }
     {
         if self.has(at, Terminal::Always) {
             Ok((ConditionSyntax::Always { at }, at + 1, count))
         } else if self.has(at, Terminal::Not) {
-            self.negation(at, depth, count)
+            self.negation(at, most, depth, count)
         } else if self.has(at, Terminal::Open) {
-            self.group(at, depth, count)
+            self.group(at, most, depth, count)
         } else {
-            self.comparison(at, depth, count)
+            self.comparison(at, most, depth, count)
         }
     }
 
@@ -114,6 +119,7 @@ impl<'a> Source<'a> {
     fn negation(
         &self,
         at: u32,
+        most: u32,
         depth: u32,
         count: u32,
     ) -> Result<(ConditionSyntax, u32, u32), ParseFault>
@@ -123,13 +129,13 @@ impl<'a> Source<'a> {
         ensures later { IfOk result (λ x. (at < x.1) × (x.1 ≤ length self.now.lexemes.now)) }
         ensures is { IfOk result (λ x. IsUnit self.now.text.now self.now.lexemes.now at (condition_tree x.0) x.1) }
         ensures reads { (below : List Symbol) →
-            Answers (go self.now.limits self.now.lexemes.now at count (unit depth ∷ below))
+            Answers (go self.now.limits self.now.lexemes.now at count (unit most depth ∷ below))
             (λ x. go self.now.limits self.now.lexemes.now x.1 x.2 below) result }
     {
         if depth >= self.limits.nesting {
             return Err(ParseFault::Deep(at));
         }
-        let (inner, next, counted) = self.unit(at + 1, depth + 1, count)?;
+        let (inner, next, counted) = self.unit(at + 1, most, depth + 1, count)?;
         let whole = ConditionSyntax::not_of(self.alloc, at, inner)?;
         Ok((whole, next, counted))
     }
@@ -139,6 +145,7 @@ impl<'a> Source<'a> {
     fn group(
         &self,
         at: u32,
+        most: u32,
         depth: u32,
         count: u32,
     ) -> Result<(ConditionSyntax, u32, u32), ParseFault>
@@ -148,22 +155,23 @@ impl<'a> Source<'a> {
         ensures later { IfOk result (λ x. (at < x.1) × (x.1 ≤ length self.now.lexemes.now)) }
         ensures is { IfOk result (λ x. IsUnit self.now.text.now self.now.lexemes.now at (condition_tree x.0) x.1) }
         ensures reads { (below : List Symbol) →
-            Answers (go self.now.limits self.now.lexemes.now at count (unit depth ∷ below))
+            Answers (go self.now.limits self.now.lexemes.now at count (unit most depth ∷ below))
             (λ x. go self.now.limits self.now.lexemes.now x.1 x.2 below) result }
     {
         if depth >= self.limits.nesting {
             return Err(ParseFault::Deep(at));
         }
-        let (inner, end, counted) = self.condition(at + 1, depth + 1, count)?;
+        let (inner, end, counted) = self.condition(at + 1, most, depth + 1, count)?;
         let (inner, next) = both(inner, self.expect(end, Terminal::Close))?;
         let whole = ConditionSyntax::group_of(self.alloc, at, inner)?;
         Ok((whole, next, counted))
     }
 
     /// A comparison.
-    fn comparison(
+    pub(crate) fn comparison(
         &self,
         at: u32,
+        most: u32,
         depth: u32,
         count: u32,
     ) -> Result<(ConditionSyntax, u32, u32), ParseFault>
@@ -171,8 +179,10 @@ impl<'a> Source<'a> {
         requires opens { depth ≤ self.now.limits.nesting }
         ensures later { IfOk result (λ x. (at < x.1) × (x.1 ≤ length self.now.lexemes.now)) }
         ensures is { IfOk result (λ x. IsUnit self.now.text.now self.now.lexemes.now at (condition_tree x.0) x.1) }
+        ensures test { IfOk result (λ x. IsLevelWithin self.now.text.now self.now.lexemes.now at
+            (condition_tree x.0) x.1) }
         ensures reads { (below : List Symbol) →
-            Answers (go self.now.limits self.now.lexemes.now at count (operand depth depth 0 ∷ compare depth ∷ below))
+            Answers (go self.now.limits self.now.lexemes.now at count (operand depth depth 0 ∷ compare most depth ∷ below))
             (λ x. go self.now.limits self.now.lexemes.now x.1 x.2 below) result }
     {
         let (left, sign_at) = self.expression(at, depth)?;
@@ -180,8 +190,8 @@ impl<'a> Source<'a> {
             Some(compare) => compare,
             None => return Err(ParseFault::Unexpected(sign_at)),
         };
-        if count >= self.limits.comparisons {
-            return Err(ParseFault::Many(sign_at, self.limits.comparisons));
+        if count >= most {
+            return Err(ParseFault::Many(sign_at, most));
         }
         let (right, next) = self.expression(sign_at + 1, depth)?;
         Ok((

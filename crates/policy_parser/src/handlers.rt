@@ -118,10 +118,12 @@ impl<'a> Source<'a> {
         ensures later { IfOk result (λ x. (at < x.1) × (x.1 ≤ length self.now.lexemes.now)) }
         ensures is { IfOk result (λ x. IsGuard self.now.text.now self.now.lexemes.now at (condition_tree x.0) x.1) }
         ensures reads { (below : List Symbol) →
-            Answers (go self.now.limits self.now.lexemes.now at 0 (unit 0 ∷ ands 0 ∷ ors 0 ∷ the Colon ∷ below))
+            Answers (go self.now.limits self.now.lexemes.now at 0
+            (unit self.now.limits.comparisons 0 ∷ ands self.now.limits.comparisons 0 ∷ ors self.now.limits.comparisons 0 ∷
+            the Colon ∷ below))
             (λ x. go self.now.limits self.now.lexemes.now x.1 0 below) result }
     {
-        let (guard, colon_at, _count) = self.condition(at, 0, 0)?;
+        let (guard, colon_at, _count) = self.condition(at, self.limits.comparisons, 0, 0)?;
         let (guard, next) = both(guard, self.expect(colon_at, Terminal::Colon))?;
         Ok((guard, next))
     }

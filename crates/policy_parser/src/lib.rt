@@ -1,9 +1,10 @@
-//! Reads the syntax of a policy from its tokens.
+//! Reads the syntax of a policy, or of a level text, from its tokens.
 #![tactic(auto)]
 
 mod conditions;
 mod expressions;
 mod handlers;
+mod levels;
 mod orders;
 mod policies;
 mod reading;
@@ -11,5 +12,5 @@ mod sections;
 mod source;
 mod words;
 
-pub use policy_grammar::{Limits, POLICY_LIMITS, ParseFault};
-pub use reading::parse;
+pub use policy_grammar::{Language, Limits, POLICY_LIMITS, ParseFault};
+pub use reading::{language_of, parse, parse_levels};

@@ -15,13 +15,13 @@ use policy_grammar::{ParseFault, Terminal};
 use policy_syntax::{KeySyntax, OrderSyntax};
 
 impl<'a> Source<'a> {
-    /// An order.
-    pub(crate) fn order(&self, at: u32) -> Result<(OrderSyntax, u32), ParseFault>
+    /// An order of at most so many keys.
+    pub(crate) fn order(&self, at: u32, most: u32) -> Result<(OrderSyntax, u32), ParseFault>
         requires within { at ≤ length self.now.lexemes.now }
         ensures later { IfOk result (λ x. (at < x.1) × (x.1 ≤ length self.now.lexemes.now)) }
         ensures is { IfOk result (λ x. IsOrder self.now.text.now self.now.lexemes.now at (order_syntax_tree x.0) x.1) }
         ensures reads { (below : List Symbol) →
-            Answers (go self.now.limits self.now.lexemes.now at 0 (order ∷ below))
+            Answers (go self.now.limits self.now.lexemes.now at 0 (order most ∷ below))
             (λ x. go self.now.limits self.now.lexemes.now x.1 0 below) result }
     {
         if self.has(at, Terminal::First) {
@@ -33,12 +33,12 @@ impl<'a> Source<'a> {
                 at + 1,
             ));
         }
-        let (first, mut next) = self.key(at, 0)?;
+        let (first, mut next) = self.key(at, most, 0)?;
         let mut keys = Vec::new(self.alloc);
         keys.push(first)?;
         let mut count = 1;
         'keys: while self.has(next, Terminal::Comma) {
-            let (key, after) = self.key(next + 1, count)?;
+            let (key, after) = self.key(next + 1, most, count)?;
             keys.push(key)?;
             next = after;
             count += 1;
@@ -52,58 +52,58 @@ impl<'a> Source<'a> {
         ))
     }
 
-    /// A key of an order that has so many before it.
-    fn key(&self, at: u32, before: u32) -> Result<(KeySyntax, u32), ParseFault>
+    /// A key of such an order that has so many before it.
+    fn key(&self, at: u32, most: u32, before: u32) -> Result<(KeySyntax, u32), ParseFault>
         requires within { at ≤ length self.now.lexemes.now }
         ensures later { IfOk result (λ x. (at < x.1) × (x.1 ≤ length self.now.lexemes.now)) }
         ensures is { IfOk result (λ x.
             IsKey self.now.text.now self.now.lexemes.now at (key_syntax_tree x.0) x.1) }
         ensures reads { (below : List Symbol) →
-            Answers (go self.now.limits self.now.lexemes.now at 0 (key before ∷ below))
-            (λ x. go self.now.limits self.now.lexemes.now x.1 0 (keys (before + 1) ∷ below)) result }
+            Answers (go self.now.limits self.now.lexemes.now at 0 (key most before ∷ below))
+            (λ x. go self.now.limits self.now.lexemes.now x.1 0 (keys most (before + 1) ∷ below)) result }
     {
         if self.has(at, Terminal::Prefer) {
-            self.preference(at, before)
+            self.preference(at, most, before)
         } else {
-            self.rank(at, before)
+            self.rank(at, most, before)
         }
     }
 
     /// `prefer` and a condition, in the same way.
-    fn preference(&self, at: u32, before: u32) -> Result<(KeySyntax, u32), ParseFault>
+    fn preference(&self, at: u32, most: u32, before: u32) -> Result<(KeySyntax, u32), ParseFault>
         requires within { at < length self.now.lexemes.now }
         requires begins { kind_at self.now.lexemes.now at ≡ code Prefer }
         ensures later { IfOk result (λ x. (at < x.1) × (x.1 ≤ length self.now.lexemes.now)) }
         ensures is { IfOk result (λ x.
             IsKey self.now.text.now self.now.lexemes.now at (key_syntax_tree x.0) x.1) }
         ensures reads { (below : List Symbol) →
-            Answers (go self.now.limits self.now.lexemes.now at 0 (key before ∷ below))
-            (λ x. go self.now.limits self.now.lexemes.now x.1 0 (keys (before + 1) ∷ below)) result }
+            Answers (go self.now.limits self.now.lexemes.now at 0 (key most before ∷ below))
+            (λ x. go self.now.limits self.now.lexemes.now x.1 0 (keys most (before + 1) ∷ below)) result }
     {
-        if before >= self.limits.keys {
-            return Err(ParseFault::Many(at, self.limits.keys));
+        if before >= most {
+            return Err(ParseFault::Many(at, most));
         }
-        let (condition, next, _count) = self.condition(at + 1, 0, 0)?;
+        let (condition, next, _count) = self.condition(at + 1, self.limits.comparisons, 0, 0)?;
         Ok((KeySyntax::Preferring { at, condition }, next))
     }
 
     /// `min` or `max` and an expression, in the same way.
-    fn rank(&self, at: u32, before: u32) -> Result<(KeySyntax, u32), ParseFault>
+    fn rank(&self, at: u32, most: u32, before: u32) -> Result<(KeySyntax, u32), ParseFault>
         requires within { at ≤ length self.now.lexemes.now }
         requires ranks { (kind_at self.now.lexemes.now at == code Prefer) ≡ false }
         ensures later { IfOk result (λ x. (at < x.1) × (x.1 ≤ length self.now.lexemes.now)) }
         ensures is { IfOk result (λ x.
             IsKey self.now.text.now self.now.lexemes.now at (key_syntax_tree x.0) x.1) }
         ensures reads { (below : List Symbol) →
-            Answers (go self.now.limits self.now.lexemes.now at 0 (key before ∷ below))
-            (λ x. go self.now.limits self.now.lexemes.now x.1 0 (keys (before + 1) ∷ below)) result }
+            Answers (go self.now.limits self.now.lexemes.now at 0 (key most before ∷ below))
+            (λ x. go self.now.limits self.now.lexemes.now x.1 0 (keys most (before + 1) ∷ below)) result }
     {
         let greatest = match self.greatest(at) {
             Some(greatest) => greatest,
             None => return Err(ParseFault::Unexpected(at)),
         };
-        if before >= self.limits.keys {
-            return Err(ParseFault::Many(at, self.limits.keys));
+        if before >= most {
+            return Err(ParseFault::Many(at, most));
         }
         let (value, next) = self.expression(at + 1, 0)?;
         Ok((

@@ -168,7 +168,7 @@ impl<'a> Source<'a> {
         if !self.has(at, Terminal::Elect) {
             return Ok((None, at));
         }
-        let (order, next) = self.order(at + 1)?;
+        let (order, next) = self.order(at + 1, self.limits.keys)?;
         Ok((Some(ElectSyntax { at, order }), next))
     }
 

@@ -1,7 +1,7 @@
 //! Reads whole policies, section by section.
 
 ghost use Rattle.std.specs.Prelude.{None, ◌≡◌, ◌<◌, ◌≤◌, ◌+◌, ◌∷◌, [], ℕ, List, length, IfOk, map, option_map};
-ghost use Rattle.policy_grammar.specs.declared.terminal.Terminal.TheVariants.{Policy, Name, Load, Filter, Choose};
+ghost use Rattle.policy_grammar.specs.declared.terminal.Terminal.TheVariants.{Name, Load, Filter, Choose};
 ghost use Rattle.policy_grammar.specs.declared.terminal.Terminal.TheVariants.{Steal, Limit, Number};
 ghost use Rattle.policy_grammar.specs.Terminals.{code, kind_at, value_at};
 ghost use Rattle.policy_grammar.specs.Orders.{IsOrder};
@@ -24,12 +24,12 @@ use policy_tree::Name;
 
 /// What stands before the handlers.
 #[derive(Drop)]
-struct Front {
-    name: Name,
-    load: LoadSyntax,
-    attrs: Items<AttrSyntax>,
-    place: Option<PlaceSyntax>,
-    elect: Option<ElectSyntax>,
+pub(crate) struct Front {
+    pub(crate) name: Name,
+    pub(crate) load: LoadSyntax,
+    pub(crate) attrs: Items<AttrSyntax>,
+    pub(crate) place: Option<PlaceSyntax>,
+    pub(crate) elect: Option<ElectSyntax>,
 }
 
 /// The handlers, and what stands behind them.
@@ -49,9 +49,10 @@ impl<'a> Source<'a> {
     /// The policy that the tokens are.
     pub(crate) fn policy(&self) -> Result<Syntax, ParseFault>
         ensures is { IfOk result (λ s. IsPolicy self.now.text.now self.now.lexemes.now (syntax_tree s)) }
-        ensures reads { Answers (go self.now.limits self.now.lexemes.now 0 0 start) (λ s. None) result }
+        ensures reads { Answers (go self.now.limits self.now.lexemes.now 0 0 (start self.now.limits))
+            (λ s. None) result }
     {
-        let (front, handlers_at) = self.front()?;
+        let (front, handlers_at) = self.front(Terminal::Policy)?;
         let (front, back) = both(front, self.back(handlers_at))?;
         Ok(Syntax {
             name: front.name,
@@ -70,18 +71,19 @@ impl<'a> Source<'a> {
         })
     }
 
-    /// What stands before the handlers, and the place behind it.
-    fn front(&self) -> Result<(Front, u32), ParseFault>
+    /// What stands before the handlers, from that word on, and the place behind it.
+    pub(crate) fn front(&self, word: Terminal) -> Result<(Front, u32), ParseFault>
+        requires real { 0 < code word }
         ensures within { IfOk result (λ x. x.1 ≤ length self.now.lexemes.now) }
         ensures is { IfOk result (λ x.
-            IsFront self.now.text.now self.now.lexemes.now x.0.name x.0.load x.0.attrs x.0.place
+            IsFront self.now.text.now self.now.lexemes.now word x.0.name x.0.load x.0.attrs x.0.place
             (option_map elect_syntax_tree x.0.elect) x.1) }
         ensures reads { (below : List Symbol) →
             Answers (go self.now.limits self.now.lexemes.now 0 0
-            (the Policy ∷ the Name ∷ the Load ∷ load_rule ∷ attrs 0 0 ∷ place ∷ elect ∷ below))
+            (the word ∷ the Name ∷ the Load ∷ load_rule ∷ attrs 0 0 ∷ place ∷ elect ∷ below))
             (λ x. go self.now.limits self.now.lexemes.now x.1 0 below) result }
     {
-        let (name, load, attrs_at) = self.header()?;
+        let (name, load, attrs_at) = self.header(word)?;
         let (attrs, place_at) = self.attrs(attrs_at)?;
         let (place, elect, next) = self.rules(place_at)?;
         Ok((
@@ -96,15 +98,16 @@ impl<'a> Source<'a> {
         ))
     }
 
-    /// The name of the policy, what a thread adds to the load of its core, and the place behind both.
-    fn header(&self) -> Result<(Name, LoadSyntax, u32), ParseFault>
+    /// That word, the name, what a thread adds to the load of its core, and the place behind them.
+    fn header(&self, word: Terminal) -> Result<(Name, LoadSyntax, u32), ParseFault>
+        requires real { 0 < code word }
         ensures within { IfOk result (λ x. x.2 ≤ length self.now.lexemes.now) }
-        ensures is { IfOk result (λ x. IsHeader self.now.text.now self.now.lexemes.now x.0 x.1 x.2) }
+        ensures is { IfOk result (λ x. IsHeader self.now.text.now self.now.lexemes.now word x.0 x.1 x.2) }
         ensures reads { (below : List Symbol) →
-            Answers (go self.now.limits self.now.lexemes.now 0 0 (the Policy ∷ the Name ∷ the Load ∷ load_rule ∷ below))
+            Answers (go self.now.limits self.now.lexemes.now 0 0 (the word ∷ the Name ∷ the Load ∷ load_rule ∷ below))
             (λ x. go self.now.limits self.now.lexemes.now x.2 0 below) result }
     {
-        let name_at = self.expect(0, Terminal::Policy)?;
+        let name_at = self.expect(0, word)?;
         let (name, load_at) = self.name_at(name_at)?;
         let (load, next) = self.load(load_at)?;
         Ok((name, load, next))
@@ -133,13 +136,17 @@ impl<'a> Source<'a> {
             (condition_tree b.filter) b.choose_at (order_syntax_tree b.choose) b.steal_at (order_syntax_tree b.steal)
             (option_map batch_syntax_tree b.batch)) }
         ensures reads { Answers (go self.now.limits self.now.lexemes.now at 0
-            (handlers ∷ the Filter ∷ condition ∷ the Choose ∷ order ∷ the Steal ∷ order ∷ batch ∷ []))
+            (handlers ∷ the Filter ∷ condition self.now.limits.comparisons ∷ the Choose ∷ order self.now.limits.keys ∷
+            the Steal ∷ order self.now.limits.keys ∷ batch ∷ []))
             (λ b. None) result }
     {
         let (handlers, filter_at) = self.handlers(at)?;
         let guard_at = self.expect(filter_at, Terminal::Filter)?;
-        let (filter, choose_at, _count) = self.condition(guard_at, 0, 0)?;
-        let (filter, (choose, steal_at, steal, batch)) = both(filter, self.choices(choose_at))?;
+        let (filter, choose_at, _count) = self.condition(guard_at, self.limits.comparisons, 0, 0)?;
+        let (filter, (choose, steal_at, steal, batch)) = both(
+            filter,
+            self.choices(choose_at, self.limits.keys),
+        )?;
         Ok(Back {
             handlers,
             filter_at,
@@ -152,19 +159,21 @@ impl<'a> Source<'a> {
         })
     }
 
-    /// The order of the cores to steal from, the place of the other, the order of the threads to steal, and the batch.
-    fn choices(
+    /// The order of the cores to steal from, of at most so many keys, the place of the other, the order of the threads
+    /// to steal, and the batch.
+    pub(crate) fn choices(
         &self,
         at: u32,
+        most: u32,
     ) -> Result<(OrderSyntax, u32, OrderSyntax, Option<BatchSyntax>), ParseFault>
         ensures is { IfOk result (λ x. IsChoices self.now.text.now self.now.lexemes.now at (order_syntax_tree x.0) x.1
             (order_syntax_tree x.2) (option_map batch_syntax_tree x.3)) }
         ensures reads { (count : ℕ) →
             Answers (go self.now.limits self.now.lexemes.now at count
-            (the Choose ∷ order ∷ the Steal ∷ order ∷ batch ∷ []))
+            (the Choose ∷ order most ∷ the Steal ∷ order self.now.limits.keys ∷ batch ∷ []))
             (λ x. None) result }
     {
-        let (choose, steal_at) = self.order_behind(at, Terminal::Choose)?;
+        let (choose, steal_at) = self.order_behind(at, Terminal::Choose, most)?;
         let (choose, (steal, batch)) = both(choose, self.steals(steal_at))?;
         Ok((choose, steal_at, steal, batch))
     }
@@ -174,10 +183,11 @@ impl<'a> Source<'a> {
         ensures is { IfOk result (λ x. IsSteals self.now.text.now self.now.lexemes.now at (order_syntax_tree x.0)
             (option_map batch_syntax_tree x.1)) }
         ensures reads { (count : ℕ) →
-            Answers (go self.now.limits self.now.lexemes.now at count (the Steal ∷ order ∷ batch ∷ []))
+            Answers (go self.now.limits self.now.lexemes.now at count
+            (the Steal ∷ order self.now.limits.keys ∷ batch ∷ []))
             (λ x. None) result }
     {
-        let (steal, batch_at) = self.order_behind(at, Terminal::Steal)?;
+        let (steal, batch_at) = self.order_behind(at, Terminal::Steal, self.limits.keys)?;
         let (steal, (batch, end)) = both(steal, self.batch(batch_at))?;
         if (end as usize) < self.lexemes.len() {
             return Err(ParseFault::Unexpected(end));
@@ -198,7 +208,7 @@ impl<'a> Source<'a> {
         if !self.has(at, Terminal::While) {
             return Ok((None, at));
         }
-        let (condition, word_at, _count) = self.condition(at + 1, 0, 0)?;
+        let (condition, word_at, _count) = self.condition(at + 1, self.limits.comparisons, 0, 0)?;
         let (condition, (limit, next)) = both(condition, self.limit(word_at))?;
         Ok((
             Some(BatchSyntax {
@@ -226,19 +236,24 @@ impl<'a> Source<'a> {
         Ok((self.lexeme(number_at).value, next))
     }
 
-    /// An order behind that word.
-    fn order_behind(&self, at: u32, word: Terminal) -> Result<(OrderSyntax, u32), ParseFault>
+    /// An order of at most so many keys behind that word.
+    fn order_behind(
+        &self,
+        at: u32,
+        word: Terminal,
+        most: u32,
+    ) -> Result<(OrderSyntax, u32), ParseFault>
         requires real { 0 < code word }
         ensures within { IfOk result (λ x. x.1 ≤ length self.now.lexemes.now) }
         ensures begins { IfOk result (λ x. kind_at self.now.lexemes.now at ≡ code word) }
         ensures is { IfOk result (λ x. IsOrder self.now.text.now self.now.lexemes.now (at + 1)
             (order_syntax_tree x.0) x.1) }
         ensures reads { (count : ℕ) (below : List Symbol) →
-            Answers (go self.now.limits self.now.lexemes.now at count (the word ∷ order ∷ below))
+            Answers (go self.now.limits self.now.lexemes.now at count (the word ∷ order most ∷ below))
             (λ x. go self.now.limits self.now.lexemes.now x.1 0 below) result }
     {
         let order_at = self.expect(at, word)?;
-        let (order, next) = self.order(order_at)?;
+        let (order, next) = self.order(order_at, most)?;
         Ok((order, next))
     }
 }

@@ -2,14 +2,22 @@
 
 ghost use Rattle.std.specs.Prelude.{◌≡◌, ◌<◌, ◌^◌, length, All, IfOk};
 ghost use Rattle.policy_parser.specs.Answers.{LiesIn};
-ghost use Rattle.policy_grammar.specs.Lexemes.{lexeme_of, lexemes_of, symbol_terminal, terminal_among, word_terminal};
+ghost use Rattle.policy_grammar.specs.declared.language.Language.TheVariants.{LevelTexts};
+ghost use Rattle.policy_grammar.specs.Lexemes.{is_levels, lexeme_in, lexemes_in, symbol_terminal, terminal_among};
+ghost use Rattle.policy_grammar.specs.Lexemes.{word_terminal_in};
 
-use policy_grammar::{Lexeme, Terminal};
+use policy_grammar::{Language, Lexeme, Terminal};
 use policy_lexer::{Symbol, Token, TokenKind};
 use std::alloc::{AllocError, Global};
 
-/// The reserved words, and what each is to the grammar.
-const RESERVED: [(&str, Terminal); 37] = [
+/// How many words are reserved in level texts alone.
+const LEVEL_WORDS: usize = 3;
+
+/// The reserved words, first those of level texts alone, and what each is to the grammar.
+const RESERVED: [(&str, Terminal); 40] = [
+    ("levels", Terminal::Levels),
+    ("level", Terminal::Level),
+    ("within", Terminal::Within),
     ("policy", Terminal::Policy),
     ("load", Terminal::Load),
     ("count", Terminal::Count),
@@ -49,33 +57,44 @@ const RESERVED: [(&str, Terminal); 37] = [
     ("fresh", Terminal::Reserved),
 ];
 
-/// The tokens of the text, told apart.
+/// Whether the token is the word `levels`.
+pub(crate) fn is_levels(text: &[u8], token: Token) -> bool
+    requires lies { LiesIn text.now (lexeme_in LevelTexts text.now token) }
+    ensures { result ≡ is_levels text.now token }
+{
+    lexeme(Language::LevelTexts, text, token)
+        .terminal
+        .is(Terminal::Levels)
+}
+
+/// The tokens of the text in that language, told apart.
 pub(crate) fn lexemes(
     alloc: Global,
+    language: Language,
     text: &[u8],
     tokens: &[Token],
 ) -> Result<Vec<Lexeme>, AllocError>
-    requires lie { All (LiesIn text.now) (lexemes_of text.now tokens.now) }
+    requires lie { All (LiesIn text.now) (lexemes_in language text.now tokens.now) }
     requires few { length tokens.now < 2 ^ 32 }
-    ensures are { IfOk result (λ v. v.items ≡ lexemes_of text.now tokens.now) }
+    ensures are { IfOk result (λ v. v.items ≡ lexemes_in language text.now tokens.now) }
 {
     let mut lexemes = Vec::new(alloc);
     let mut at = 0;
     'tokens: while at < tokens.len() {
-        lexemes.push(lexeme(text, tokens[at]))?;
+        lexemes.push(lexeme(language, text, tokens[at]))?;
         at += 1;
     }
     Ok(lexemes)
 }
 
 /// The token, told apart.
-fn lexeme(text: &[u8], token: Token) -> Lexeme
-    requires lies { LiesIn text.now (lexeme_of text.now token) }
-    ensures { result ≡ lexeme_of text.now token }
+fn lexeme(language: Language, text: &[u8], token: Token) -> Lexeme
+    requires lies { LiesIn text.now (lexeme_in language text.now token) }
+    ensures { result ≡ lexeme_in language text.now token }
 {
     let (terminal, value) = match token.kind {
         TokenKind::Word => (
-            word_terminal(&text[token.start as usize..token.end as usize]),
+            word_terminal(language, &text[token.start as usize..token.end as usize]),
             0,
         ),
         TokenKind::Number(value) => (Terminal::Number, value),
@@ -89,11 +108,14 @@ fn lexeme(text: &[u8], token: Token) -> Lexeme
     }
 }
 
-/// What the word is to the grammar.
-fn word_terminal(word: &[u8]) -> Terminal
-    ensures { result ≡ word_terminal word.now }
+/// What the word is to the grammar of that language.
+fn word_terminal(language: Language, word: &[u8]) -> Terminal
+    ensures { result ≡ word_terminal_in language word.now }
 {
-    terminal_among(&RESERVED, word)
+    match language {
+        Language::Policies => terminal_among(&RESERVED[LEVEL_WORDS..], word),
+        Language::LevelTexts => terminal_among(&RESERVED, word),
+    }
 }
 
 /// What the word is where those are reserved.

@@ -7,31 +7,41 @@ use Rattle.policy_lexer.specs.Faults.{IsFault}
 use Rattle.policy_lexer.specs.Tokens.{SpellsTokens}
 use Rattle.policy_grammar.specs.declared.fault.ParseFault.{ParseFault}
 use Rattle.policy_grammar.specs.declared.limits.TheConstants.{POLICY_LIMITS}
-use Rattle.policy_grammar.specs.Correct.{IsParseFault}
-use Rattle.policy_grammar.specs.Lexemes.{lexeme_of, lexemes_of}
+use Rattle.policy_grammar.specs.declared.language.Language.TheVariants.{Policies, LevelTexts}
+use Rattle.policy_grammar.specs.Correct.{AreWithin, IsWithin}
+use Rattle.policy_grammar.specs.Lexemes.{language_of, lexeme_in, lexemes_in, lexemes_of}
 use Rattle.policy_parser.proofs.Lexed.{map-length, tokens-few}
 use Rattle.policy_tree.specs.declared.typed.Policy.{Policy}
 use Rattle.policy_tree.specs.Meaning.{Meaning, meaning_of}
+use Rattle.policy_syntax.specs.LevelTrees.{LevelSyntaxTree}
 use Rattle.policy_syntax.specs.SyntaxTrees.{SyntaxTree}
 use Rattle.policy_types.specs.declared.fault.TypeFault.{TypeFault}
-use Rattle.policy_types.specs.Correct.{IsLeast, IsOfGrammar}
+use Rattle.policy_types.specs.Correct.{IsLeast, IsOfGrammar, IsOfLevelGrammar}
 use Rattle.policy_types.specs.Faults.{IsFirst}
-use Rattle.policy_types.specs.Policies.{policy_faults}
 use Rattle.policy_reader.specs.declared.fault.PolicyFault.{PolicyFault}
 use Rattle.policy_reader.specs.declared.fault.PolicyFault.TheVariants.{Broken, Memory}
 use Rattle.policy_reader.specs.declared.fault.TextFault.{TextFault}
 use Rattle.policy_reader.specs.Answers.{IsFaultUnlessMemory, IsReadUnlessMemory, IsRefusedUnlessMemory}
 use Rattle.policy_reader.specs.Faults.{HasFault, no_tokens, no_syntax, no_policy}
+use Rattle.policy_reader.specs.Languages.{TextSyntax, IsFaultOf, rule_faults}
 use Rattle.policy_reader.specs.Spelled.{SpellsPolicy, SpellsSyntax}
 use Rattle.policy_reader.specs.Told.{lex_fault, offset_of, parse_fault, told_of, type_fault}
 use Rattle.policy_reader.proofs.OneFault.{one_fault, one_policy, never_both}
 
 -- the syntax of a text is one that the grammar has
-pub of_grammar : (text : List ℕ) (tokens : List Token) (s : SyntaxTree) → length text ≤ MAX_POLICY_BYTES → SpellsSyntax text tokens s → IsOfGrammar s
-of_grammar text tokens s small has =
-    let few = tokens-few text has.spells in
-    let size = map-length (lexeme_of text) tokens in
-    record { text = text; tokens = lexemes_of text tokens; is = has.is; few = omega (arith, few, size, small) }
+pub of_grammar : (text : List ℕ) (tokens : List Token) (s : SyntaxTree) → length text ≤ MAX_POLICY_BYTES → SpellsTokens text tokens →
+    IsWithin POLICY_LIMITS text (lexemes_of text tokens) s → IsOfGrammar s
+of_grammar text tokens s small spells is =
+    let few = tokens-few text spells in
+    let size = map-length (lexeme_in Policies text) tokens in
+    record { text = text; tokens = lexemes_of text tokens; is = is; few = omega (arith, few, size, small) }
+
+pub of_level_grammar : (text : List ℕ) (tokens : List Token) (s : LevelSyntaxTree) → length text ≤ MAX_POLICY_BYTES → SpellsTokens text tokens →
+    AreWithin POLICY_LIMITS text (lexemes_in LevelTexts text tokens) s → IsOfLevelGrammar s
+of_level_grammar text tokens s small spells is =
+    let few = tokens-few text spells in
+    let size = map-length (lexeme_in LevelTexts text) tokens in
+    record { text = text; tokens = lexemes_in LevelTexts text tokens; is = is; few = omega (arith, few, size, small) }
 
 -- a fault that is told is the text's
 pub told_of_tokens : (text : List ℕ) (answer : PolicyFault) (found : LexFault) → IsFault text found → told_of answer ≡ lex_fault found →
@@ -40,13 +50,13 @@ told_of_tokens text (Broken fault) found is told = no_tokens found is (sym told)
 told_of_tokens text Memory found is told = tt
 
 pub told_of_syntax : (text : List ℕ) (tokens : List Token) (answer : PolicyFault) (found : ParseFault) → SpellsTokens text tokens →
-    IsParseFault POLICY_LIMITS text (lexemes_of text tokens) found → told_of answer ≡ parse_fault (offset_of text tokens) found →
+    IsFaultOf (language_of text tokens) text tokens found → told_of answer ≡ parse_fault (offset_of text tokens) found →
     IsFaultUnlessMemory text answer
 told_of_syntax text tokens (Broken fault) found spells is told = no_syntax tokens found spells is (sym told)
 told_of_syntax text tokens Memory found spells is told = tt
 
-pub told_of_policy : (text : List ℕ) (tokens : List Token) (s : SyntaxTree) (answer : PolicyFault) (found : TypeFault) → SpellsSyntax text tokens s →
-    IsFirst (policy_faults s) found → IsLeast (policy_faults s) found → told_of answer ≡ type_fault (offset_of text tokens) found →
+pub told_of_policy : (text : List ℕ) (tokens : List Token) (s : TextSyntax) (answer : PolicyFault) (found : TypeFault) → SpellsSyntax text tokens s →
+    IsFirst (rule_faults s) found → IsLeast (rule_faults s) found → told_of answer ≡ type_fault (offset_of text tokens) found →
     IsFaultUnlessMemory text answer
 told_of_policy text tokens s (Broken fault) found has first least told = no_policy tokens s found has first least (sym told)
 told_of_policy text tokens s Memory found has first least told = tt

@@ -9,17 +9,24 @@ use Rattle.policy_lexer.proofs.Answered.{reads_it, refuses_it, tokens-same}
 use Rattle.policy_grammar.specs.declared.fault.ParseFault.{ParseFault}
 use Rattle.policy_grammar.specs.declared.fault.ParseFault.TheVariants as parse
 use Rattle.policy_grammar.specs.declared.limits.TheConstants.{POLICY_LIMITS}
-use Rattle.policy_grammar.specs.Correct.{IsParseFault, IsWithin}
-use Rattle.policy_grammar.specs.Lexemes.{lexemes_of}
+use Rattle.policy_grammar.specs.declared.language.Language.{Language}
+use Rattle.policy_grammar.specs.declared.language.Language.TheVariants.{Policies, LevelTexts}
+use Rattle.policy_grammar.specs.Breaks.{breaks_policy}
+use Rattle.policy_grammar.specs.LevelBreaks.{breaks_levels}
+use Rattle.policy_grammar.specs.Levels.{IsLevels}
+use Rattle.policy_grammar.specs.Lexemes.{language_of, lexemes_in, lexemes_of}
+use Rattle.policy_grammar.specs.Policies.{IsPolicy}
+use Rattle.policy_grammar.proofs.OneLevels.{level_text-one}
 use Rattle.policy_grammar.proofs.OnePolicies.{policy-one}
 use Rattle.policy_tree.specs.Meaning.{Meaning}
+use Rattle.policy_syntax.specs.LevelTrees.{LevelSyntaxTree}
 use Rattle.policy_syntax.specs.SyntaxTrees.{SyntaxTree}
 use Rattle.policy_types.specs.declared.fault.TypeFault.{TypeFault}
 use Rattle.policy_types.specs.declared.fault.TypeFault.TheVariants as type
 use Rattle.policy_types.specs.Faults.{IsFirst, first_of}
-use Rattle.policy_types.specs.Policies.{policy_faults, policy_meaning}
 use Rattle.policy_reader.specs.declared.fault.TextFault.{TextFault}
 use Rattle.policy_reader.specs.Faults.{HasFault, no_tokens, no_syntax, no_policy}
+use Rattle.policy_reader.specs.Languages.{TextSyntax, of_policy, of_levels, IsTextSyntax, IsFaultOf, rule_faults, meant}
 use Rattle.policy_reader.specs.Spelled.{SpellsPolicy, SpellsSyntax}
 use Rattle.policy_reader.specs.Told.{lex_fault, offset_of, parse_fault, type_fault}
 use Rattle.policy_reader.proofs.OneGrammarFault.{one-fault, no-fault}
@@ -73,32 +80,52 @@ first-is faults type.Memory e real = absurd (real refl)
 
 module _ (text : List ℕ) where
   -- a syntax is that of the tokens which the text has
-  within-of : (ts us : List Token) (s : SyntaxTree) → SpellsTokens text ts → SpellsSyntax text us s → IsWithin POLICY_LIMITS text (lexemes_of text ts) s
-  within-of ts us s spells has = subst (λ xs. IsWithin POLICY_LIMITS text (lexemes_of text xs) s) (tokens-same text us ts has.spells spells) has.is
+  is-of : (ts us : List Token) (s : TextSyntax) → SpellsTokens text ts → SpellsSyntax text us s → IsTextSyntax text ts s
+  is-of ts us s spells has = subst (λ xs. IsTextSyntax text xs s) (tokens-same text us ts has.spells spells) has.is
 
-  syntax-same : (ts us : List Token) (s r : SyntaxTree) → SpellsSyntax text ts s → SpellsSyntax text us r → s ≡ r
-  syntax-same ts us s r x y = policy-one text (lexemes_of text ts) x.is.is (within-of ts us r x.spells y).is
+  clash : {language : Language} → language ≡ Policies → language ≡ LevelTexts → ⊥
+  clash one other = let e = sym one ∙ other in cc
 
-  syntax-fault : (ts us : List Token) (s : SyntaxTree) (f : ParseFault) → SpellsTokens text ts → IsParseFault POLICY_LIMITS text (lexemes_of text ts) f →
+  syntax-one : (ts : List Token) (s r : TextSyntax) → IsTextSyntax text ts s → IsTextSyntax text ts r → s ≡ r
+  syntax-one ts (of_policy s) (of_policy r) x y = ap of_policy (policy-one text (lexemes_of text ts) x.1.is y.1.is)
+  syntax-one ts (of_policy s) (of_levels r) x y = absurd (clash x.0 y.0)
+  syntax-one ts (of_levels s) (of_policy r) x y = absurd (clash y.0 x.0)
+  syntax-one ts (of_levels s) (of_levels r) x y = ap of_levels (level_text-one text (lexemes_in LevelTexts text ts) x.1.is y.1.is)
+
+  syntax-same : (ts us : List Token) (s r : TextSyntax) → SpellsSyntax text ts s → SpellsSyntax text us r → s ≡ r
+  syntax-same ts us s r x y = syntax-one ts s r x.is (is-of ts us r x.spells y)
+
+  none-of : (ts : List Token) (s : TextSyntax) (f : ParseFault) → IsTextSyntax text ts s → IsFaultOf (language_of text ts) text ts f → (f ≡ parse.Memory → ⊥) → ⊥
+  none-of ts (of_policy s) f has is real =
+      no-fault SyntaxTree (IsPolicy text) (breaks_policy POLICY_LIMITS) (lexemes_of text ts) f s has.1 (subst (λ l. IsFaultOf l text ts f) has.0 is) real
+  none-of ts (of_levels s) f has is real =
+      no-fault LevelSyntaxTree (IsLevels text) (breaks_levels POLICY_LIMITS) (lexemes_in LevelTexts text ts) f s has.1 (subst (λ l. IsFaultOf l text ts f) has.0 is) real
+
+  syntax-fault : (ts us : List Token) (s : TextSyntax) (f : ParseFault) → SpellsTokens text ts → IsFaultOf (language_of text ts) text ts f →
       SpellsSyntax text us s → (f ≡ parse.Memory → ⊥) → ⊥
-  syntax-fault ts us s f spells is has real = no-fault POLICY_LIMITS text (lexemes_of text ts) f s (within-of ts us s spells has) is real
+  syntax-fault ts us s f spells is has real = none-of ts s f (is-of ts us s spells has) is real
+
+  fault-one : (language : Language) (ts : List Token) (f g : ParseFault) → IsFaultOf language text ts f → IsFaultOf language text ts g →
+      (f ≡ parse.Memory → ⊥) → (g ≡ parse.Memory → ⊥) → f ≡ g
+  fault-one Policies ts f g is other = one-fault SyntaxTree (IsPolicy text) (breaks_policy POLICY_LIMITS) (lexemes_of text ts) f g is other
+  fault-one LevelTexts ts f g is other = one-fault LevelSyntaxTree (IsLevels text) (breaks_levels POLICY_LIMITS) (lexemes_in LevelTexts text ts) f g is other
 
   parse-same : (ts us : List Token) (f g : ParseFault) (x y : TextFault) → ts ≡ us →
-      IsParseFault POLICY_LIMITS text (lexemes_of text ts) f → IsParseFault POLICY_LIMITS text (lexemes_of text us) g →
+      IsFaultOf (language_of text ts) text ts f → IsFaultOf (language_of text us) text us g →
       parse_fault (offset_of text ts) f ≡ Some x → parse_fault (offset_of text us) g ≡ Some y → x ≡ y
   parse-same ts us f g x y same is other told also =
-      let here = subst (λ xs. IsParseFault POLICY_LIMITS text (lexemes_of text xs) g) (sym same) other in
+      let here = subst (λ xs. IsFaultOf (language_of text xs) text xs g) (sym same) other in
       let said : parse_fault (offset_of text ts) g ≡ Some y = subst (λ xs. parse_fault (offset_of text xs) g ≡ Some y) (sym same) also in
-      let one = one-fault POLICY_LIMITS text (lexemes_of text ts) f g is here (parse-real _ f told) (parse-real _ g said) in
+      let one = fault-one (language_of text ts) ts f g is here (parse-real _ f told) (parse-real _ g said) in
       some-same (sym told ∙ ap (parse_fault (offset_of text ts)) one ∙ said)
 
-  type-same : (ts us : List Token) (s r : SyntaxTree) (f g : TypeFault) (x y : TextFault) → ts ≡ us → s ≡ r →
-      IsFirst (policy_faults s) f → IsFirst (policy_faults r) g →
+  type-same : (ts us : List Token) (s r : TextSyntax) (f g : TypeFault) (x y : TextFault) → ts ≡ us → s ≡ r →
+      IsFirst (rule_faults s) f → IsFirst (rule_faults r) g →
       type_fault (offset_of text ts) f ≡ Some x → type_fault (offset_of text us) g ≡ Some y → x ≡ y
   type-same ts us s r f g x y same tree first other told also =
       let said : type_fault (offset_of text ts) g ≡ Some y = subst (λ xs. type_fault (offset_of text xs) g ≡ Some y) (sym same) also in
-      let here : IsFirst (policy_faults s) g = subst (λ t. IsFirst (policy_faults t) g) (sym tree) other in
-      let one = some-same (sym (first-is (policy_faults s) f first (type-real _ f told)) ∙ first-is (policy_faults s) g here (type-real _ g said)) in
+      let here : IsFirst (rule_faults s) g = subst (λ t. IsFirst (rule_faults t) g) (sym tree) other in
+      let one = some-same (sym (first-is (rule_faults s) f first (type-real _ f told)) ∙ first-is (rule_faults s) g here (type-real _ g said)) in
       some-same (sym told ∙ ap (type_fault (offset_of text ts)) one ∙ said)
 
   pub one_fault : (x y : TextFault) → HasFault text x → HasFault text y → x ≡ y
@@ -118,11 +145,11 @@ module _ (text : List ℕ) where
       type-same ts us s r f g x y (tokens-same text ts us has.spells have.spells) (syntax-same ts us s r has have) first other told also
 
   pub one_policy : (p q : Meaning) → SpellsPolicy text p → SpellsPolicy text q → p ≡ q
-  one_policy p q x y = sym x.means ∙ ap policy_meaning (syntax-same x.tokens y.tokens x.syntax y.syntax x.has y.has) ∙ y.means
+  one_policy p q x y = sym x.means ∙ ap meant (syntax-same x.tokens y.tokens x.syntax y.syntax x.has y.has) ∙ y.means
 
   pub never_both : (p : Meaning) (x : TextFault) → SpellsPolicy text p → HasFault text x → ⊥
   never_both p x spelled (no_tokens f is told) = lex-none text f spelled.tokens is spelled.has.spells (lex-real f told)
   never_both p x spelled (no_syntax ts f spells is told) = syntax-fault ts spelled.tokens spelled.syntax f spells is spelled.has (parse-real _ f told)
   never_both p x spelled (no_policy ts s f has first least told) =
       let same = syntax-same ts spelled.tokens s spelled.syntax has spelled.has in
-      let clash = sym (first-is (policy_faults s) f first (type-real _ f told)) ∙ ap (λ t. first_of (policy_faults t)) same ∙ ap first_of spelled.keeps in cc
+      let clash = sym (first-is (rule_faults s) f first (type-real _ f told)) ∙ ap (λ t. first_of (rule_faults t)) same ∙ ap first_of spelled.keeps in cc

@@ -1,15 +1,12 @@
--- Tokens have one fault of the grammar, and none where they have a syntax within the limits.
-use Rattle.std.proofs.Common.{◌≡◌, ◌∙◌, ◌+◌, ◌-◌, ◌<◌, ◌≤◌, ◌⊎◌, inl, inr, ℕ, List, ◌++◌, take, drop, length, Some, refl, ap, sym, subst, arith, append_assoc}
+-- Tokens have one fault of a grammar, and none where they have a syntax within the limits.
+use Rattle.std.proofs.Common.{◌≡◌, ◌∙◌, ◌+◌, ◌-◌, ◌<◌, ◌≤◌, ◌⊎◌, inl, inr, ℕ, List, ◌++◌, take, drop, length, Option, Some, refl, ap, sym, subst, arith, append_assoc}
 use Rattle.std.proofs.lemmas.Bool.{cases_lt}
 use Rattle.std.proofs.lemmas.List.{take-append-drop}
 use Rattle.std.proofs.Math.Seq.{take-add}
-use Rattle.policy_syntax.specs.SyntaxTrees.{SyntaxTree}
 use Rattle.policy_grammar.specs.declared.terminal.Lexeme.{Lexeme}
-use Rattle.policy_grammar.specs.declared.limits.Limits.{Limits}
 use Rattle.policy_grammar.specs.declared.fault.ParseFault.{ParseFault}
 use Rattle.policy_grammar.specs.declared.fault.ParseFault.TheVariants.{Unexpected, Deep, Many, Memory}
-use Rattle.policy_grammar.specs.Policies.{IsPolicy}
-use Rattle.policy_grammar.specs.Correct.{Begins, NotBefore, IsUnexpected, IsExcess, IsParseFault, IsWithin}
+use Rattle.policy_grammar.specs.Correct.{BeginsIn, NotBefore, IsUnexpectedIn, IsExcessIn, IsFaultIn, IsWithinIn}
 use Rattle.policy_grammar.proofs.Places.{IsHere}
 
 -- a longer front is a shorter one and more
@@ -22,33 +19,33 @@ longer a b xs rest less =
 some-same : {X : Type 0} {x y : X} → Some x ≡ Some y → x ≡ y
 some-same e = cc
 
-module _ (limits : Limits) (text : List ℕ) (ts : List Lexeme) where
-  as-shorter : (a b : ℕ) (rest : List Lexeme) (s : SyntaxTree) → a ≤ b → IsPolicy text (take b ts ++ rest) s →
-      IsPolicy text (take a ts ++ (take (b - a) (drop a ts) ++ rest)) s
-  as-shorter a b rest s less is = subst (λ us. IsPolicy text us s) (longer a b ts rest less) is
+module _ (Tree : Type 0) (Is : List Lexeme → Tree → Type 0) (breaks : Tree → Option ParseFault) (ts : List Lexeme) where
+  as-shorter : (a b : ℕ) (rest : List Lexeme) (s : Tree) → a ≤ b → Is (take b ts ++ rest) s →
+      Is (take a ts ++ (take (b - a) (drop a ts) ++ rest)) s
+  as-shorter a b rest s less is = subst (λ us. Is us s) (longer a b ts rest less) is
 
-  begins-shorter : (a b : ℕ) → a ≤ b → Begins text (take b ts) → Begins text (take a ts)
+  begins-shorter : (a b : ℕ) → a ≤ b → BeginsIn Tree Is (take b ts) → BeginsIn Tree Is (take a ts)
   begins-shorter a b less x = record {
     rest = take (b - a) (drop a ts) ++ x.rest;
     syntax = x.syntax;
     is = as-shorter a b x.rest x.syntax less x.is;
   }
 
-  as-whole : (a : ℕ) (s : SyntaxTree) → IsPolicy text ts s → IsPolicy text (take a ts ++ drop a ts) s
-  as-whole a s is = subst (λ us. IsPolicy text us s) (sym (take-append-drop a ts)) is
+  as-whole : (a : ℕ) (s : Tree) → Is ts s → Is (take a ts ++ drop a ts) s
+  as-whole a s is = subst (λ us. Is us s) (sym (take-append-drop a ts)) is
 
   -- the two kinds of faults
   Found : ParseFault → Type 0
-  Found f = ((at : ℕ) × (Unexpected at ≡ f) × IsUnexpected limits text ts at) ⊎ ((at : ℕ) × IsHere at f × IsExcess limits text ts at f)
+  Found f = ((at : ℕ) × (Unexpected at ≡ f) × IsUnexpectedIn Tree Is breaks ts at) ⊎ ((at : ℕ) × IsHere at f × IsExcessIn Tree Is breaks ts at f)
 
-  found : (f : ParseFault) → IsParseFault limits text ts f → (f ≡ Memory → ⊥) → Found f
+  found : (f : ParseFault) → IsFaultIn Tree Is breaks ts f → (f ≡ Memory → ⊥) → Found f
   unfolding Found
   found (Unexpected at) is real = inl (at, refl, is)
   found (Deep at) is real = inr (at, refl, is)
   found (Many at limit) is real = inr (at, refl, is)
   found Memory is real = absurd (real refl)
 
-  unexpected-later : (a b : ℕ) → IsUnexpected limits text ts a → IsUnexpected limits text ts b → a < b → ⊥
+  unexpected-later : (a b : ℕ) → IsUnexpectedIn Tree Is breaks ts a → IsUnexpectedIn Tree Is breaks ts b → a < b → ⊥
   unexpected-later a b x y less =
       let within = y.within in
       x.after (omega arith) (begins-shorter (a + 1) b (omega arith) y.before)
@@ -60,7 +57,7 @@ module _ (limits : Limits) (text : List ℕ) (ts : List Lexeme) where
   here-after a at Memory here later = absurd here
 
   -- before the limit is passed all is expected, and before what is unexpected no limit is passed
-  not-both : (a at : ℕ) (f : ParseFault) → IsUnexpected limits text ts a → IsHere at f → IsExcess limits text ts at f → (at < a) ⊎ (a ≤ at) → ⊥
+  not-both : (a at : ℕ) (f : ParseFault) → IsUnexpectedIn Tree Is breaks ts a → IsHere at f → IsExcessIn Tree Is breaks ts at f → (at < a) ⊎ (a ≤ at) → ⊥
   not-both a at f x here y (inl less) =
       let begins = x.before in
       let passes = y.first _ begins.syntax (as-shorter (at + 1) a begins.rest begins.syntax (omega (arith, less)) begins.is) in
@@ -70,17 +67,17 @@ module _ (limits : Limits) (text : List ℕ) (ts : List Lexeme) where
       let within = y.within in
       x.after (omega (arith, within, less)) (begins-shorter (a + 1) (at + 1) (omega (arith, less)) y.begins)
 
-  excess-earlier : (a b : ℕ) (f g : ParseFault) → IsExcess limits text ts a f → IsExcess limits text ts b g → a ≤ b → f ≡ g
+  excess-earlier : (a b : ℕ) (f g : ParseFault) → IsExcessIn Tree Is breaks ts a f → IsExcessIn Tree Is breaks ts b g → a ≤ b → f ≡ g
   excess-earlier a b f g x y less =
       let begins = y.begins in
       some-same (sym (x.first _ begins.syntax (as-shorter (a + 1) (b + 1) begins.rest begins.syntax (omega (arith, less)) begins.is))
       ∙ y.first begins.rest begins.syntax begins.is)
 
-  excess-same : (a b : ℕ) (f g : ParseFault) → IsExcess limits text ts a f → IsExcess limits text ts b g → (a < b) ⊎ (b ≤ a) → f ≡ g
+  excess-same : (a b : ℕ) (f g : ParseFault) → IsExcessIn Tree Is breaks ts a f → IsExcessIn Tree Is breaks ts b g → (a < b) ⊎ (b ≤ a) → f ≡ g
   excess-same a b f g x y (inl less) = excess-earlier a b f g x y (omega (arith, less))
   excess-same a b f g x y (inr less) = sym (excess-earlier b a g f y x less)
 
-  unexpected-same : (a b : ℕ) → IsUnexpected limits text ts a → IsUnexpected limits text ts b → a ≡ b
+  unexpected-same : (a b : ℕ) → IsUnexpectedIn Tree Is breaks ts a → IsUnexpectedIn Tree Is breaks ts b → a ≡ b
   unexpected-same a b x y =
       let one = unexpected-later a b x y in
       let other = unexpected-later b a y x in
@@ -94,19 +91,19 @@ module _ (limits : Limits) (text : List ℕ) (ts : List Lexeme) where
   same-found f g (inr x) (inr y) = excess-same x.0 y.0 f g x.2 y.2 (cases_lt x.0 y.0)
 
   -- the fault of the tokens is one
-  pub one-fault : (f g : ParseFault) → IsParseFault limits text ts f → IsParseFault limits text ts g → (f ≡ Memory → ⊥) → (g ≡ Memory → ⊥) → f ≡ g
+  pub one-fault : (f g : ParseFault) → IsFaultIn Tree Is breaks ts f → IsFaultIn Tree Is breaks ts g → (f ≡ Memory → ⊥) → (g ≡ Memory → ⊥) → f ≡ g
   one-fault f g x y real also = same-found f g (found f x real) (found g y also)
 
-  none-unexpected : (at : ℕ) (s : SyntaxTree) → IsUnexpected limits text ts at → IsPolicy text ts s → (at < length ts) ⊎ (length ts ≤ at) → ⊥
+  none-unexpected : (at : ℕ) (s : Tree) → IsUnexpectedIn Tree Is breaks ts at → Is ts s → (at < length ts) ⊎ (length ts ≤ at) → ⊥
   none-unexpected at s x is (inl less) = x.after less (record { rest = drop (at + 1) ts; syntax = s; is = as-whole (at + 1) s is })
   none-unexpected at s x is (inr more) = let within = x.within in x.short (omega (arith, within, more)) s is
 
-  none-found : (f : ParseFault) (s : SyntaxTree) → IsWithin limits text ts s → Found f → ⊥
+  none-found : (f : ParseFault) (s : Tree) → IsWithinIn Tree Is breaks ts s → Found f → ⊥
   unfolding Found
   none-found f s within (inl x) = none-unexpected x.0 s x.2 within.is (cases_lt x.0 (length ts))
   none-found f s within (inr x) =
       let clash = sym within.keeps ∙ x.2.first (drop (x.0 + 1) ts) s (as-whole (x.0 + 1) s within.is) in cc
 
   -- tokens with a syntax within the limits have no fault
-  pub no-fault : (f : ParseFault) (s : SyntaxTree) → IsWithin limits text ts s → IsParseFault limits text ts f → (f ≡ Memory → ⊥) → ⊥
+  pub no-fault : (f : ParseFault) (s : Tree) → IsWithinIn Tree Is breaks ts s → IsFaultIn Tree Is breaks ts f → (f ≡ Memory → ⊥) → ⊥
   no-fault f s within is real = none-found f s within (found f is real)

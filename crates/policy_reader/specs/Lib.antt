@@ -1,3 +1,4 @@
+pub mod Languages
 pub mod Lines
 pub mod Told
 pub mod Spelled

@@ -1,7 +1,8 @@
-//! Reads a policy's text: the policy that it spells, or the one fault that it has.
+//! Reads the text of a policy, plain or by levels: the policy that it spells, or the one fault that it has.
 #![tactic(auto)]
 
 mod fault;
+mod languages;
 mod laws;
 mod places;
 mod reading;

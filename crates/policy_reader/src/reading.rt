@@ -12,9 +12,8 @@ ghost use Rattle.policy_reader.specs.Spelled.{SpellsPolicy};
 use crate::fault::PolicyFault;
 use crate::places::Places;
 use policy_lexer::lex;
-use policy_parser::parse;
+use policy_parser::{Language, language_of};
 use policy_tree::Policy;
-use policy_types::resolve;
 use std::alloc::Global;
 
 /// The policy that the text spells, or the fault that it has.
@@ -44,12 +43,8 @@ fn read(alloc: Global, text: &[u8]) -> Result<Policy, PolicyFault>
         text,
         tokens: tokens.as_slice(),
     };
-    let syntax = match parse(alloc, text, places.tokens) {
-        Ok(syntax) => syntax,
-        Err(fault) => return Err(places.grammar_fault(fault)),
-    };
-    match resolve(alloc, &syntax) {
-        Ok(policy) => Ok(policy),
-        Err(fault) => Err(places.rule_fault(fault)),
+    match language_of(text, places.tokens) {
+        Language::Policies => places.plain_policy(alloc),
+        Language::LevelTexts => places.level_policy(alloc),
     }
 }

@@ -1,1 +1,2 @@
+pub mod LevelTrees
 pub mod SyntaxTrees

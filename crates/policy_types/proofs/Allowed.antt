@@ -8,6 +8,7 @@ use Rattle.policy_syntax.specs.declared.syntax.Owner.TheVariants.{Itself, Victim
 use Rattle.policy_tree.specs.declared.typed.Attr.{Attr}
 use Rattle.policy_tree.specs.declared.typed.Event.TheVariants as event
 use Rattle.policy_tree.specs.Meaning.{Meaning}
+use Rattle.level_policy.specs.ResolvedLevels.{is_core_attribute}
 use Rattle.policy_eval.specs.Sites as eval
 use Rattle.policy_types.specs.declared.fault.TypeFault.TheVariants.{NotHere}
 use Rattle.policy_types.specs.declared.scope.Scope.{Scope}
@@ -15,13 +16,14 @@ use Rattle.policy_types.proofs.Firsts.{where_not}
 use Rattle.policy_types.specs.declared.sites.Feature.{Feature}
 use Rattle.policy_types.specs.declared.sites.Feature.TheVariants.{Nr, Load, Weight, Fresh, Attribute}
 use Rattle.policy_types.specs.declared.sites.Site.{Site}
-use Rattle.policy_types.specs.declared.sites.Site.TheVariants.{Filter, Choose, Placement, Elect, Steal, GoingOn, Handler}
+use Rattle.policy_types.specs.declared.sites.Site.TheVariants.{Filter, Within, Choose, Placement, Elect, Steal, GoingOn, Handler}
 use Rattle.policy_types.specs.Expressions.{feature_faults}
 use Rattle.policy_types.specs.References.{allows, attribute_from, attribute_named, attributes_of, feature_among, feature_of, reference_of, variable_of, variable_or_none}
 
 -- the same site in words of the evaluator
 abbrev pub site_of : Site → eval.Site
 site_of Filter = eval.filtering
+site_of Within = eval.filtering
 site_of Choose = eval.choosing
 site_of Placement = eval.placing
 site_of Elect = eval.electing
@@ -85,6 +87,8 @@ module _ (p : Meaning) (cores : length p.core_attrs ≤ 8) (threads : length p.t
   allowed Filter Victim Nr inside e = refl
   allowed Filter Victim Load inside e = refl
   allowed Filter Victim (Attribute at) inside e = grind (arith, nat_tests)
+  allowed Within Itself (Attribute at) inside e = grind (arith, nat_tests)
+  allowed Within Victim (Attribute at) inside e = grind (arith, nat_tests)
   allowed Choose Itself Nr inside e = refl
   allowed Choose Itself Load inside e = refl
   allowed Choose Itself (Attribute at) inside e = grind (arith, nat_tests)
@@ -135,6 +139,26 @@ module _ (p : Meaning) (cores : length p.core_attrs ≤ 8) (threads : length p.t
   reference_allowed site at owner word none =
       let attrs = attributes_of (declared p) owner in
       found_allowed site at owner (feature_among attrs word) (feature_inside attrs word) none
+
+  -- a reference of a `within` is to an attribute of one of the two cores
+  attribute_near : (owner : Owner) (feature : Feature) → IsInside (attributes_of (declared p) owner) feature → allows Within owner feature ≡ true → is_core_attribute p (variable_of owner feature) ≡ true
+  attribute_near Itself (Attribute at) inside e = grind (arith, nat_tests)
+  attribute_near Victim (Attribute at) inside e = grind (arith, nat_tests)
+  attribute_near owner feature inside e = absurd (cc)
+
+  found_near : (at : ℕ) (owner : Owner) (found : Option Feature) → IsFound 0 (attributes_of (declared p) owner) found → feature_faults Within at owner found ≡ [] → is_core_attribute p (variable_or_none owner found) ≡ true
+  found_near at owner None is none = absurd (cc)
+  found_near at owner (Some Nr) is none = attribute_near owner Nr tt (where_not (allows Within owner Nr) (NotHere at) none)
+  found_near at owner (Some Load) is none = attribute_near owner Load tt (where_not (allows Within owner Load) (NotHere at) none)
+  found_near at owner (Some Weight) is none = attribute_near owner Weight tt (where_not (allows Within owner Weight) (NotHere at) none)
+  found_near at owner (Some Fresh) is none = attribute_near owner Fresh tt (where_not (allows Within owner Fresh) (NotHere at) none)
+  found_near at owner (Some (Attribute number)) is none =
+      attribute_near owner (Attribute number) (omega arith) (where_not (allows Within owner (Attribute number)) (NotHere at) none)
+
+  pub reference_near : (at : ℕ) (owner : Owner) (word : List ℕ) → feature_faults Within at owner (feature_of (declared p) owner word) ≡ [] → is_core_attribute p (reference_of (declared p) owner word) ≡ true
+  reference_near at owner word none =
+      let attrs = attributes_of (declared p) owner in
+      found_near at owner (feature_among attrs word) (feature_inside attrs word) none
 
 attribute_known : (first at : ℕ) → first ≤ 22 → attribute_from first at ≤ MAX_VARIABLES
 attribute_known first at low = grind (arith, nat_tests)

@@ -15,9 +15,11 @@ pub mod SoundConditions
 pub mod SoundDeclarations
 pub mod SoundHandlers
 pub mod SoundPolicies
+pub mod SoundLevels
 pub mod Spans
 pub mod WalkExpressions
 pub mod WalkConditions
 pub mod WalkOrders
 pub mod WalkPolicies
+pub mod WalkLevels
 pub mod NumberedNames

@@ -58,26 +58,85 @@ mutual
       omega arith
 
 mutual
-  condition_few : (depth count : ℕ) (c : ConditionTree) → count ≤ 16 → breaks_condition POLICY_LIMITS depth count c ≡ None → count + comparisons c ≤ 16
-  condition_few depth count (always at) few keeps = omega arith
-  condition_few depth count (negated at inner) few keeps =
-      condition_few (depth + 1) count inner few (keeps_parts (deep POLICY_LIMITS at depth) (breaks_condition POLICY_LIMITS (depth + 1) count inner) keeps).1
-  condition_few depth count (grouped at inner) few keeps =
-      condition_few (depth + 1) count inner few (keeps_parts (deep POLICY_LIMITS at depth) (breaks_condition POLICY_LIMITS (depth + 1) count inner) keeps).1
-  condition_few depth count (all at parts) few keeps = parts_few depth count parts few keeps
-  condition_few depth count (any at parts) few keeps = parts_few depth count parts few keeps
-  condition_few depth count (test at compare left right) few keeps =
-      let later = (keeps_parts (breaks_expr POLICY_LIMITS depth left) (first_of (many 16 at count) (breaks_expr POLICY_LIMITS depth right)) keeps).1 in
-      let less = keeps_many 16 at count (keeps_parts (many 16 at count) (breaks_expr POLICY_LIMITS depth right) later).0 in
+  condition_few : (most depth count : ℕ) (c : ConditionTree) → count ≤ most → breaks_condition POLICY_LIMITS most depth count c ≡ None → count + comparisons c ≤ most
+  condition_few most depth count (always at) few keeps = omega arith
+  condition_few most depth count (negated at inner) few keeps =
+      condition_few most (depth + 1) count inner few (keeps_parts (deep POLICY_LIMITS at depth) (breaks_condition POLICY_LIMITS most (depth + 1) count inner) keeps).1
+  condition_few most depth count (grouped at inner) few keeps =
+      condition_few most (depth + 1) count inner few (keeps_parts (deep POLICY_LIMITS at depth) (breaks_condition POLICY_LIMITS most (depth + 1) count inner) keeps).1
+  condition_few most depth count (all at parts) few keeps = parts_few most depth count parts few keeps
+  condition_few most depth count (any at parts) few keeps = parts_few most depth count parts few keeps
+  condition_few most depth count (test at compare left right) few keeps =
+      let later = (keeps_parts (breaks_expr POLICY_LIMITS depth left) (first_of (many most at count) (breaks_expr POLICY_LIMITS depth right)) keeps).1 in
+      let less = keeps_many most at count (keeps_parts (many most at count) (breaks_expr POLICY_LIMITS depth right) later).0 in
       omega arith
 
-  parts_few : (depth count : ℕ) (parts : ConditionTrees) → count ≤ 16 → breaks_parts POLICY_LIMITS depth count parts ≡ None → count + breaks.comparisons_of parts ≤ 16
-  parts_few depth count no_more few keeps = omega arith
-  parts_few depth count (more part rest) few keeps =
-      let both = keeps_parts (breaks_condition POLICY_LIMITS depth count part) (breaks_parts POLICY_LIMITS depth (count + comparisons part) rest) keeps in
-      let here = condition_few depth count part few both.0 in
-      let later = parts_few depth (count + comparisons part) rest here both.1 in
+  parts_few : (most depth count : ℕ) (parts : ConditionTrees) → count ≤ most → breaks_parts POLICY_LIMITS most depth count parts ≡ None → count + breaks.comparisons_of parts ≤ most
+  parts_few most depth count no_more few keeps = omega arith
+  parts_few most depth count (more part rest) few keeps =
+      let both = keeps_parts (breaks_condition POLICY_LIMITS most depth count part) (breaks_parts POLICY_LIMITS most depth (count + comparisons part) rest) keeps in
+      let here = condition_few most depth count part few both.0 in
+      let later = parts_few most depth (count + comparisons part) rest here both.1 in
       omega arith
+
+-- so many comparisons has the condition at most
+pub resolved_few : (scope : Scope) (most : ℕ) (c : ConditionTree) → breaks_condition POLICY_LIMITS most 0 0 c ≡ None → eval.comparisons_of (condition_meaning scope c) ≤ most
+resolved_few scope most c keeps =
+    subst (λ n. n ≤ most) (zero_plus (comparisons c) ∙ sym (condition_count scope c)) (condition_few most 0 0 c (omega arith) keeps)
+
+-- so many keys has the order at most
+keys_few : (most count : ℕ) (keys : List KeySyntaxTree) → count ≤ most → breaks_keys POLICY_LIMITS most count keys ≡ None → count + length keys ≤ most
+keys_few most count [] few keeps = omega (arith, few)
+keys_few most count (k ∷ rest) few keeps =
+    let first = keeps_parts (many most (key_at k) count) (first_of (breaks_key POLICY_LIMITS k) (breaks_keys POLICY_LIMITS most (count + 1) rest)) keeps in
+    let less = keeps_many most (key_at k) count first.0 in
+    let later = keys_few most (count + 1) rest (omega (arith, less)) (keeps_parts (breaks_key POLICY_LIMITS k) (breaks_keys POLICY_LIMITS most (count + 1) rest) first.1).1 in
+    omega (arith, later)
+
+pub order_few : (scope : Scope) (most : ℕ) (order : OrderSyntaxTree) → breaks_order POLICY_LIMITS most order ≡ None → length (order_meaning scope order) ≤ most
+order_few scope most order keeps =
+    let few = keys_few most 0 order.keys (omega arith) keeps in let same = length-map order.keys (key_meaning scope) in
+    omega (arith, few, same)
+
+-- each side of a condition that breaks no rule and keeps the limits is what each such expression is
+module _ (scope : Scope) (site : Site) (P : ExprTree → Type 0)
+    (each : (depth : ℕ) (e : ExprSyntax) → expr_faults scope site e ≡ [] → breaks_expr POLICY_LIMITS depth e ≡ None → P (expr_meaning scope e)) where
+  abbrev ChainSides : Option CondTree → Type 0
+  ChainSides None = Unit {0}
+  ChainSides (Some c) = EachSide P c
+
+  linked_sides : (both : Bool) (chain : Option CondTree) (c : CondTree) → ChainSides chain → EachSide P c → EachSide P (linked both chain c)
+  linked_sides both None c sides right = right
+  linked_sides true (Some left) c sides right = (sides, right)
+  linked_sides false (Some left) c sides right = (sides, right)
+
+  mutual
+    condition_sides : (most depth count : ℕ) (c : ConditionTree) → condition_faults scope site c ≡ [] → breaks_condition POLICY_LIMITS most depth count c ≡ None → EachSide P (condition_meaning scope c)
+    condition_sides most depth count (always at) none keeps = tt
+    condition_sides most depth count (negated at inner) none keeps =
+        condition_sides most (depth + 1) count inner none (keeps_parts (deep POLICY_LIMITS at depth) (breaks_condition POLICY_LIMITS most (depth + 1) count inner) keeps).1
+    condition_sides most depth count (grouped at inner) none keeps =
+        condition_sides most (depth + 1) count inner none (keeps_parts (deep POLICY_LIMITS at depth) (breaks_condition POLICY_LIMITS most (depth + 1) count inner) keeps).1
+    condition_sides most depth count (all at parts) none keeps = chain_sides most depth count true None parts tt none keeps
+    condition_sides most depth count (any at parts) none keeps = chain_sides most depth count false None parts tt none keeps
+    condition_sides most depth count (test at compare left right) none keeps =
+        let both = none_parts (expr_faults scope site left) (expr_faults scope site right) none in
+        let first = keeps_parts (breaks_expr POLICY_LIMITS depth left) (first_of (many most at count) (breaks_expr POLICY_LIMITS depth right)) keeps in
+        let later = keeps_parts (many most at count) (breaks_expr POLICY_LIMITS depth right) first.1 in
+        (each depth left both.0 first.0, each depth right both.1 later.1)
+
+    chain_sides : (most depth count : ℕ) (both : Bool) (chain : Option CondTree) (parts : ConditionTrees) → ChainSides chain → parts_faults scope site parts ≡ [] → breaks_parts POLICY_LIMITS most depth count parts ≡ None → EachSide P (chain_meaning scope both chain parts)
+    chain_sides most depth count both None no_more sides none keeps = tt
+    chain_sides most depth count both (Some c) no_more sides none keeps = sides
+    chain_sides most depth count both chain (more part rest) sides none keeps =
+        let empty = none_parts (condition_faults scope site part) (parts_faults scope site rest) none in
+        let kept = keeps_parts (breaks_condition POLICY_LIMITS most depth count part) (breaks_parts POLICY_LIMITS most depth (count + comparisons part) rest) keeps in
+        let here = condition_sides most depth count part empty.0 kept.0 in
+        chain_sides most depth (count + comparisons part) both (Some (linked both chain (condition_meaning scope part))) rest
+        (linked_sides both chain (condition_meaning scope part) sides here) empty.1 kept.1
+
+  pub each_side : (most : ℕ) (c : ConditionTree) → condition_faults scope site c ≡ [] → breaks_condition POLICY_LIMITS most 0 0 c ≡ None → EachSide P (condition_meaning scope c)
+  each_side most c none keeps = condition_sides most 0 0 c none keeps
 
 module _ (p : Meaning) (cores : length p.core_attrs ≤ 8) (threads : length p.thread_attrs ≤ 8) (site : Site) where
   pub resolved_expr : (depth : ℕ) (e : ExprSyntax) → expr_faults (declared p) site e ≡ [] → breaks_expr POLICY_LIMITS depth e ≡ None → IsResolvedExpr p (site_of site) (expr_meaning (declared p) e)
@@ -85,44 +144,10 @@ module _ (p : Meaning) (cores : length p.core_attrs ≤ 8) (threads : length p.t
       let sound = sound_expr p cores threads site e none in
       record { linear = sound.linear; few = expr_few POLICY_LIMITS (declared p) depth e keeps; allowed = sound.allowed }
 
-  abbrev ChainSides : Option CondTree → Type 0
-  ChainSides None = Unit {0}
-  ChainSides (Some c) = EachSide (IsResolvedExpr p (site_of site)) c
-
-  linked_sides : (both : Bool) (chain : Option CondTree) (c : CondTree) → ChainSides chain → EachSide (IsResolvedExpr p (site_of site)) c → EachSide (IsResolvedExpr p (site_of site)) (linked both chain c)
-  linked_sides both None c sides right = right
-  linked_sides true (Some left) c sides right = (sides, right)
-  linked_sides false (Some left) c sides right = (sides, right)
-
-  mutual
-    condition_sides : (depth count : ℕ) (c : ConditionTree) → condition_faults (declared p) site c ≡ [] → breaks_condition POLICY_LIMITS depth count c ≡ None → EachSide (IsResolvedExpr p (site_of site)) (condition_meaning (declared p) c)
-    condition_sides depth count (always at) none keeps = tt
-    condition_sides depth count (negated at inner) none keeps =
-        condition_sides (depth + 1) count inner none (keeps_parts (deep POLICY_LIMITS at depth) (breaks_condition POLICY_LIMITS (depth + 1) count inner) keeps).1
-    condition_sides depth count (grouped at inner) none keeps =
-        condition_sides (depth + 1) count inner none (keeps_parts (deep POLICY_LIMITS at depth) (breaks_condition POLICY_LIMITS (depth + 1) count inner) keeps).1
-    condition_sides depth count (all at parts) none keeps = chain_sides depth count true None parts tt none keeps
-    condition_sides depth count (any at parts) none keeps = chain_sides depth count false None parts tt none keeps
-    condition_sides depth count (test at compare left right) none keeps =
-        let both = none_parts (expr_faults (declared p) site left) (expr_faults (declared p) site right) none in
-        let first = keeps_parts (breaks_expr POLICY_LIMITS depth left) (first_of (many 16 at count) (breaks_expr POLICY_LIMITS depth right)) keeps in
-        let later = keeps_parts (many 16 at count) (breaks_expr POLICY_LIMITS depth right) first.1 in
-        (resolved_expr depth left both.0 first.0, resolved_expr depth right both.1 later.1)
-
-    chain_sides : (depth count : ℕ) (both : Bool) (chain : Option CondTree) (parts : ConditionTrees) → ChainSides chain → parts_faults (declared p) site parts ≡ [] → breaks_parts POLICY_LIMITS depth count parts ≡ None → EachSide (IsResolvedExpr p (site_of site)) (chain_meaning (declared p) both chain parts)
-    chain_sides depth count both None no_more sides none keeps = tt
-    chain_sides depth count both (Some c) no_more sides none keeps = sides
-    chain_sides depth count both chain (more part rest) sides none keeps =
-        let empty = none_parts (condition_faults (declared p) site part) (parts_faults (declared p) site rest) none in
-        let kept = keeps_parts (breaks_condition POLICY_LIMITS depth count part) (breaks_parts POLICY_LIMITS depth (count + comparisons part) rest) keeps in
-        let here = condition_sides depth count part empty.0 kept.0 in
-        chain_sides depth (count + comparisons part) both (Some (linked both chain (condition_meaning (declared p) part))) rest
-        (linked_sides both chain (condition_meaning (declared p) part) sides here) empty.1 kept.1
-
-  pub resolved_condition : (c : ConditionTree) → condition_faults (declared p) site c ≡ [] → breaks_condition POLICY_LIMITS 0 0 c ≡ None → IsResolvedCond p (site_of site) (condition_meaning (declared p) c)
+  pub resolved_condition : (c : ConditionTree) → condition_faults (declared p) site c ≡ [] → breaks_condition POLICY_LIMITS 16 0 0 c ≡ None → IsResolvedCond p (site_of site) (condition_meaning (declared p) c)
   resolved_condition c none keeps = record {
-    few = subst (λ n. n ≤ 16) (zero_plus (comparisons c) ∙ sym (condition_count (declared p) c)) (condition_few 0 0 c (omega arith) keeps);
-    sides = condition_sides 0 0 c none keeps;
+    few = resolved_few (declared p) 16 c keeps;
+    sides = each_side (declared p) site (IsResolvedExpr p (site_of site)) resolved_expr 16 c none keeps;
   }
 
   resolved_key : (k : KeySyntaxTree) → key_faults (declared p) site k ≡ [] → breaks_key POLICY_LIMITS k ≡ None → IsResolvedKey p (site_of site) (key_meaning (declared p) k)
@@ -130,27 +155,19 @@ module _ (p : Meaning) (cores : length p.core_attrs ≤ 8) (threads : length p.t
       key_resolved p (site_of site) greatest (expr_meaning (declared p) e) (resolved_expr 0 e none keeps)
   resolved_key (preferring at c) none keeps = resolved_condition c none keeps
 
-  keys_few : (count : ℕ) (keys : List KeySyntaxTree) → count ≤ 4 → breaks_keys POLICY_LIMITS count keys ≡ None → count + length keys ≤ 4
-  keys_few count [] few keeps = omega arith
-  keys_few count (k ∷ rest) few keeps =
-      let first = keeps_parts (many 4 (key_at k) count) (first_of (breaks_key POLICY_LIMITS k) (breaks_keys POLICY_LIMITS (count + 1) rest)) keeps in
-      let less = keeps_many 4 (key_at k) count first.0 in
-      let later = keys_few (count + 1) rest (omega arith) (keeps_parts (breaks_key POLICY_LIMITS k) (breaks_keys POLICY_LIMITS (count + 1) rest) first.1).1 in
-      omega arith
-
-  keys_each : (count : ℕ) (keys : List KeySyntaxTree) → keys_faults (declared p) site keys ≡ [] → breaks_keys POLICY_LIMITS count keys ≡ None → All (IsResolvedKey p (site_of site)) (map (key_meaning (declared p)) keys)
-  keys_each count [] none keeps = All-nil (IsResolvedKey p (site_of site))
-  keys_each count (k ∷ rest) none keeps =
+  keys_each : (most count : ℕ) (keys : List KeySyntaxTree) → keys_faults (declared p) site keys ≡ [] → breaks_keys POLICY_LIMITS most count keys ≡ None → All (IsResolvedKey p (site_of site)) (map (key_meaning (declared p)) keys)
+  keys_each most count [] none keeps = All-nil (IsResolvedKey p (site_of site))
+  keys_each most count (k ∷ rest) none keeps =
       let empty = none_parts (key_faults (declared p) site k) (keys_faults (declared p) site rest) none in
-      let first = keeps_parts (many 4 (key_at k) count) (first_of (breaks_key POLICY_LIMITS k) (breaks_keys POLICY_LIMITS (count + 1) rest)) keeps in
-      let later = keeps_parts (breaks_key POLICY_LIMITS k) (breaks_keys POLICY_LIMITS (count + 1) rest) first.1 in
+      let first = keeps_parts (many most (key_at k) count) (first_of (breaks_key POLICY_LIMITS k) (breaks_keys POLICY_LIMITS most (count + 1) rest)) keeps in
+      let later = keeps_parts (breaks_key POLICY_LIMITS k) (breaks_keys POLICY_LIMITS most (count + 1) rest) first.1 in
       All-cons (IsResolvedKey p (site_of site)) (key_meaning (declared p) k) (map (key_meaning (declared p)) rest)
-      (resolved_key k empty.0 later.0) (keys_each (count + 1) rest empty.1 later.1)
+      (resolved_key k empty.0 later.0) (keys_each most (count + 1) rest empty.1 later.1)
 
-  pub resolved_order : (order : OrderSyntaxTree) → order_faults (declared p) site order ≡ [] → breaks_order POLICY_LIMITS order ≡ None → IsResolvedOrder p (site_of site) (order_meaning (declared p) order)
-  resolved_order order none keeps =
-      let few = keys_few 0 order.keys (omega arith) keeps in let same = length-map order.keys (key_meaning (declared p)) in
-      record { few = omega arith; keys = keys_each 0 order.keys none keeps }
+  pub resolved_order : (most : ℕ) → most ≤ 4 → (order : OrderSyntaxTree) → order_faults (declared p) site order ≡ [] → breaks_order POLICY_LIMITS most order ≡ None → IsResolvedOrder p (site_of site) (order_meaning (declared p) order)
+  resolved_order most less order none keeps =
+      let few = order_few (declared p) most order keeps in
+      record { few = omega (arith, few, less); keys = keys_each most 0 order.keys none keeps }
 
 -- an order without keys
 pub no_keys : (p : Meaning) (at : Sites.Site) → IsResolvedOrder p at []

@@ -94,7 +94,7 @@ module _ (p : Meaning) (cores : length p.core_attrs ≤ 8) (threads : length p.t
         All-cons (IsResolvedSet p e) (set_meaning (declared p) s) (map (set_meaning (declared p)) rest)
         (resolved_set s empty.0 later.0) (sets_each (count + 1) rest empty.1 later.1)
 
-    resolved_case : (c : CaseSyntaxTree) → case_faults (declared p) e c ≡ [] → breaks_condition POLICY_LIMITS 0 0 c.guard ≡ None → breaks_sets POLICY_LIMITS 0 c.sets ≡ None → IsResolvedCase p e (case_meaning (declared p) c)
+    resolved_case : (c : CaseSyntaxTree) → case_faults (declared p) e c ≡ [] → breaks_condition POLICY_LIMITS 16 0 0 c.guard ≡ None → breaks_sets POLICY_LIMITS 0 c.sets ≡ None → IsResolvedCase p e (case_meaning (declared p) c)
     resolved_case c none guard sets =
         let first = none_parts (condition_faults (declared p) (Handler e) c.guard) (sets_faults (declared p) e c.sets ++ where_broken (not (allows_put e c.put)) (NotHere c.put_at)) none in
         let later = none_parts (sets_faults (declared p) e c.sets) (where_broken (not (allows_put e c.put)) (NotHere c.put_at)) first.1 in
@@ -109,9 +109,9 @@ module _ (p : Meaning) (cores : length p.core_attrs ≤ 8) (threads : length p.t
     cases_few : (count : ℕ) (cases : List CaseSyntaxTree) → count ≤ 8 → breaks_cases POLICY_LIMITS count cases ≡ None → count + length cases ≤ 8
     cases_few count [] few keeps = omega arith
     cases_few count (c ∷ rest) few keeps =
-        let first = keeps_parts (many 8 c.at count) (first_of (breaks_condition POLICY_LIMITS 0 0 c.guard) (first_of (breaks_sets POLICY_LIMITS 0 c.sets) (breaks_cases POLICY_LIMITS (count + 1) rest))) keeps in
+        let first = keeps_parts (many 8 c.at count) (first_of (breaks_condition POLICY_LIMITS 16 0 0 c.guard) (first_of (breaks_sets POLICY_LIMITS 0 c.sets) (breaks_cases POLICY_LIMITS (count + 1) rest))) keeps in
         let less = keeps_many 8 c.at count first.0 in
-        let second = keeps_parts (breaks_condition POLICY_LIMITS 0 0 c.guard) (first_of (breaks_sets POLICY_LIMITS 0 c.sets) (breaks_cases POLICY_LIMITS (count + 1) rest)) first.1 in
+        let second = keeps_parts (breaks_condition POLICY_LIMITS 16 0 0 c.guard) (first_of (breaks_sets POLICY_LIMITS 0 c.sets) (breaks_cases POLICY_LIMITS (count + 1) rest)) first.1 in
         let later = cases_few (count + 1) rest (omega arith) (keeps_parts (breaks_sets POLICY_LIMITS 0 c.sets) (breaks_cases POLICY_LIMITS (count + 1) rest) second.1).1 in
         omega arith
 
@@ -119,8 +119,8 @@ module _ (p : Meaning) (cores : length p.core_attrs ≤ 8) (threads : length p.t
     cases_each count [] none keeps = All-nil (IsResolvedCase p e)
     cases_each count (c ∷ rest) none keeps =
         let empty = none_parts (case_faults (declared p) e c) (cases_faults (declared p) e rest) none in
-        let first = keeps_parts (many 8 c.at count) (first_of (breaks_condition POLICY_LIMITS 0 0 c.guard) (first_of (breaks_sets POLICY_LIMITS 0 c.sets) (breaks_cases POLICY_LIMITS (count + 1) rest))) keeps in
-        let second = keeps_parts (breaks_condition POLICY_LIMITS 0 0 c.guard) (first_of (breaks_sets POLICY_LIMITS 0 c.sets) (breaks_cases POLICY_LIMITS (count + 1) rest)) first.1 in
+        let first = keeps_parts (many 8 c.at count) (first_of (breaks_condition POLICY_LIMITS 16 0 0 c.guard) (first_of (breaks_sets POLICY_LIMITS 0 c.sets) (breaks_cases POLICY_LIMITS (count + 1) rest))) keeps in
+        let second = keeps_parts (breaks_condition POLICY_LIMITS 16 0 0 c.guard) (first_of (breaks_sets POLICY_LIMITS 0 c.sets) (breaks_cases POLICY_LIMITS (count + 1) rest)) first.1 in
         let later = keeps_parts (breaks_sets POLICY_LIMITS 0 c.sets) (breaks_cases POLICY_LIMITS (count + 1) rest) second.1 in
         All-cons (IsResolvedCase p e) (case_meaning (declared p) c) (map (case_meaning (declared p)) rest)
         (resolved_case c empty.0 second.0 later.0) (cases_each (count + 1) rest empty.1 later.1)

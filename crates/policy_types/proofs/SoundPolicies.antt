@@ -10,6 +10,7 @@ use Rattle.policy_tree.specs.declared.typed.Policy.{Policy}
 use Rattle.policy_tree.specs.Meaning.{Meaning, cases_on, meaning_of}
 use Rattle.policy_syntax.specs.SyntaxTrees.{ElectSyntaxTree, BatchSyntaxTree, SyntaxTree}
 use Rattle.policy_grammar.specs.declared.limits.TheConstants.{POLICY_LIMITS}
+use Rattle.policy_grammar.specs.declared.fault.ParseFault.{ParseFault}
 use Rattle.policy_grammar.specs.Breaks.{breaks_attrs, breaks_batch, breaks_condition, breaks_elect, breaks_handlers, breaks_order, breaks_place, first_of}
 use Rattle.policy_eval.specs.Resolved.{HasResolvedBatch, IsResolved, IsResolvedOrder, IsResolvedPlace}
 use Rattle.policy_eval.specs.Sites.{electing}
@@ -37,7 +38,7 @@ module _ (p : Meaning) (cores : length p.core_attrs ≤ 8) (threads : length p.t
 
   elect_resolved : (elect : Option ElectSyntaxTree) → elect_faults (declared p) elect ≡ [] → breaks_elect POLICY_LIMITS elect ≡ None → IsResolvedOrder p electing (elect_meaning (declared p) elect)
   elect_resolved None none keeps = no_keys p electing
-  elect_resolved (Some e) none keeps = resolved_order p cores threads Elect e.order none keeps
+  elect_resolved (Some e) none keeps = resolved_order p cores threads Elect 4 (omega arith) e.order none keeps
 
   batch_resolved : (batch : Option BatchSyntaxTree) → batch_faults (declared p) batch ≡ [] → breaks_batch POLICY_LIMITS batch ≡ None → HasResolvedBatch p (batch_meaning (declared p) batch)
   batch_resolved None none keeps = tt
@@ -50,23 +51,28 @@ module _ (p : Meaning) (cores : length p.core_attrs ≤ 8) (threads : length p.t
         few = grind (arith, nat_tests);
       }
 
-pub policy_resolved : (s : SyntaxTree) → IsOfGrammar s → policy_faults s ≡ [] → IsResolved (policy_meaning s)
-policy_resolved s of none =
+-- the limits, where `choose` has at most so many keys
+abbrev pub breaks_with : ℕ → SyntaxTree → Option ParseFault
+breaks_with most s =
+    first_of (breaks_attrs POLICY_LIMITS 0 0 s.attrs) (first_of (breaks_place POLICY_LIMITS s.place) (first_of (breaks_elect POLICY_LIMITS s.elect) (first_of (breaks_handlers POLICY_LIMITS s.handlers)
+    (first_of (breaks_condition POLICY_LIMITS 16 0 0 s.filter) (first_of (breaks_order POLICY_LIMITS most s.choose) (first_of (breaks_order POLICY_LIMITS 4 s.steal) (breaks_batch POLICY_LIMITS s.batch)))))))
+
+pub kept_resolved : (most : ℕ) → most ≤ 4 → (s : SyntaxTree) → breaks_with most s ≡ None → policy_faults s ≡ [] → IsResolved (policy_meaning s)
+kept_resolved most less s kept none =
     let p = policy_meaning s in let scope = scope_of s in
     let later = none_parts (load_faults s.load) (attrs_faults nothing_declared s.attrs ++ faults_in scope s) none in
     let behind = none_parts (attrs_faults nothing_declared s.attrs) (faults_in scope s) later.1 in
-    let kept = of.is.keeps in
     let kept1 = keeps_parts (breaks_attrs POLICY_LIMITS 0 0 s.attrs) (first_of (breaks_place POLICY_LIMITS s.place) (first_of (breaks_elect POLICY_LIMITS s.elect) (first_of (breaks_handlers POLICY_LIMITS s.handlers)
-    (first_of (breaks_condition POLICY_LIMITS 0 0 s.filter) (first_of (breaks_order POLICY_LIMITS s.choose) (first_of (breaks_order POLICY_LIMITS s.steal) (breaks_batch POLICY_LIMITS s.batch))))))) kept in
+    (first_of (breaks_condition POLICY_LIMITS 16 0 0 s.filter) (first_of (breaks_order POLICY_LIMITS most s.choose) (first_of (breaks_order POLICY_LIMITS 4 s.steal) (breaks_batch POLICY_LIMITS s.batch))))))) kept in
     let kept2 = keeps_parts (breaks_place POLICY_LIMITS s.place) (first_of (breaks_elect POLICY_LIMITS s.elect) (first_of (breaks_handlers POLICY_LIMITS s.handlers)
-    (first_of (breaks_condition POLICY_LIMITS 0 0 s.filter) (first_of (breaks_order POLICY_LIMITS s.choose) (first_of (breaks_order POLICY_LIMITS s.steal) (breaks_batch POLICY_LIMITS s.batch)))))) kept1.1 in
+    (first_of (breaks_condition POLICY_LIMITS 16 0 0 s.filter) (first_of (breaks_order POLICY_LIMITS most s.choose) (first_of (breaks_order POLICY_LIMITS 4 s.steal) (breaks_batch POLICY_LIMITS s.batch)))))) kept1.1 in
     let kept3 = keeps_parts (breaks_elect POLICY_LIMITS s.elect) (first_of (breaks_handlers POLICY_LIMITS s.handlers)
-    (first_of (breaks_condition POLICY_LIMITS 0 0 s.filter) (first_of (breaks_order POLICY_LIMITS s.choose) (first_of (breaks_order POLICY_LIMITS s.steal) (breaks_batch POLICY_LIMITS s.batch))))) kept2.1 in
+    (first_of (breaks_condition POLICY_LIMITS 16 0 0 s.filter) (first_of (breaks_order POLICY_LIMITS most s.choose) (first_of (breaks_order POLICY_LIMITS 4 s.steal) (breaks_batch POLICY_LIMITS s.batch))))) kept2.1 in
     let kept4 = keeps_parts (breaks_handlers POLICY_LIMITS s.handlers)
-    (first_of (breaks_condition POLICY_LIMITS 0 0 s.filter) (first_of (breaks_order POLICY_LIMITS s.choose) (first_of (breaks_order POLICY_LIMITS s.steal) (breaks_batch POLICY_LIMITS s.batch)))) kept3.1 in
-    let kept5 = keeps_parts (breaks_condition POLICY_LIMITS 0 0 s.filter) (first_of (breaks_order POLICY_LIMITS s.choose) (first_of (breaks_order POLICY_LIMITS s.steal) (breaks_batch POLICY_LIMITS s.batch))) kept4.1 in
-    let kept6 = keeps_parts (breaks_order POLICY_LIMITS s.choose) (first_of (breaks_order POLICY_LIMITS s.steal) (breaks_batch POLICY_LIMITS s.batch)) kept5.1 in
-    let kept7 = keeps_parts (breaks_order POLICY_LIMITS s.steal) (breaks_batch POLICY_LIMITS s.batch) kept6.1 in
+    (first_of (breaks_condition POLICY_LIMITS 16 0 0 s.filter) (first_of (breaks_order POLICY_LIMITS most s.choose) (first_of (breaks_order POLICY_LIMITS 4 s.steal) (breaks_batch POLICY_LIMITS s.batch)))) kept3.1 in
+    let kept5 = keeps_parts (breaks_condition POLICY_LIMITS 16 0 0 s.filter) (first_of (breaks_order POLICY_LIMITS most s.choose) (first_of (breaks_order POLICY_LIMITS 4 s.steal) (breaks_batch POLICY_LIMITS s.batch))) kept4.1 in
+    let kept6 = keeps_parts (breaks_order POLICY_LIMITS most s.choose) (first_of (breaks_order POLICY_LIMITS 4 s.steal) (breaks_batch POLICY_LIMITS s.batch)) kept5.1 in
+    let kept7 = keeps_parts (breaks_order POLICY_LIMITS 4 s.steal) (breaks_batch POLICY_LIMITS s.batch) kept6.1 in
     let none1 = none_parts (place_faults scope s.place) (elect_faults scope s.elect ++ (handlers_faults scope [] s.handlers ++ (condition_faults scope Filter s.filter ++ (order_faults scope Choose s.choose ++ (order_faults scope Steal s.steal ++ batch_faults scope s.batch))))) behind.1 in
     let none2 = none_parts (elect_faults scope s.elect) (handlers_faults scope [] s.handlers ++ (condition_faults scope Filter s.filter ++ (order_faults scope Choose s.choose ++ (order_faults scope Steal s.steal ++ batch_faults scope s.batch)))) none1.1 in
     let none3 = none_parts (handlers_faults scope [] s.handlers) (condition_faults scope Filter s.filter ++ (order_faults scope Choose s.choose ++ (order_faults scope Steal s.steal ++ batch_faults scope s.batch))) none2.1 in
@@ -83,8 +89,8 @@ policy_resolved s of none =
       elect = elect_resolved p cores threads s.elect none2.0 kept3.0;
       handlers = λ e. handler_resolved p cores threads e s.handlers (same e) none3.0 kept4.0;
       filter = resolved_condition p cores threads Filter s.filter none4.0 kept5.0;
-      choose = resolved_order p cores threads Choose s.choose none5.0 kept6.0;
-      steal = resolved_order p cores threads Steal s.steal none6.0 kept7.0;
+      choose = resolved_order p cores threads Choose most less s.choose none5.0 kept6.0;
+      steal = resolved_order p cores threads Steal 4 (omega arith) s.steal none6.0 kept7.0;
       batch = batch_resolved p cores threads s.batch none6.1 kept7.1;
     }
   where
@@ -93,6 +99,9 @@ policy_resolved s of none =
     same event.Tick = refl
     same event.Yield = refl
     same event.Block = refl
+
+pub policy_resolved : (s : SyntaxTree) → IsOfGrammar s → policy_faults s ≡ [] → IsResolved (policy_meaning s)
+policy_resolved s of none = kept_resolved 4 (omega arith) s of.is.keeps none
 
 -- the policy by what was read of its declarations
 pub policy_as : (r : Result Policy TypeFault) (s : SyntaxTree) (scope : Scope) (name : List ℕ) (load : Load) → scope ≡ scope_of s → name ≡ s.name → load ≡ load_meaning s.load →

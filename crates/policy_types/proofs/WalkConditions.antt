@@ -62,5 +62,8 @@ module _ (text : List ℕ) (ts : List Lexeme) (scope : Scope) (site : Site) wher
         subst (Spans at to) (sym (disjunction_faults scope site at first rest))
         (spans_append at mid to (condition_faults scope site first) (parts_faults scope site rest) (conjunction_spans d (omega arith)) later)
 
+  pub test_spans : {at to : ℕ} {v : ConditionTree} → IsUnit text ts at v to → to ≤ 2 ^ 32 → Spans at to (condition_faults scope site v)
+  test_spans d room = unit_spans d room
+
   pub guard_spans : {at to : ℕ} {v : ConditionTree} → IsCondition text ts at v to → to ≤ 2 ^ 32 → Spans at to (condition_faults scope site v)
   guard_spans d room = condition_spans d room

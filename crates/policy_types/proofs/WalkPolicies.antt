@@ -47,7 +47,7 @@ module _ (text : List ℕ) (ts : List Lexeme) where
   range_less : {at to : ℕ} {r : RangeSyntax} → IsRange ts at r to → (r.at ≡ at) × (at < to)
   range_less (range_of low k high) = let a = int_less low in let b = int_less high in (refl, omega arith)
 
-  load_spans : {at to : ℕ} {l : LoadSyntax} → IsLoad ts at l to → Spans at to (load_faults l)
+  pub load_spans : {at to : ℕ} {l : LoadSyntax} → IsLoad ts at l to → Spans at to (load_faults l)
   load_spans {at = at} (load_count k more) = spans_none at (at + 2) (omega arith)
   load_spans {at = at} {to = to} (load_weight {range = range} k more d) =
       let r = range_less d in let first = r.0 in let less = r.1 in
@@ -61,25 +61,25 @@ module _ (text : List ℕ) (ts : List Lexeme) where
       (spans_where at (at + 3) _ (Twice (behind at 1)) (omega arith) (omega arith))
       (spans_where (at + 3) to _ (BadRange range.at) (omega arith) (omega arith))
 
-  attrs_spans : {at to : ℕ} {attrs : List AttrSyntax} (scope : Scope) → IsAttrs text ts at attrs to → to ≤ 2 ^ 32 → Spans at to (attrs_faults scope attrs)
+  pub attrs_spans : {at to : ℕ} {attrs : List AttrSyntax} (scope : Scope) → IsAttrs text ts at attrs to → to ≤ 2 ^ 32 → Spans at to (attrs_faults scope attrs)
   attrs_spans {at = at} scope attrs_none room = spans_none at at (omega arith)
   attrs_spans {at = at} {to = to} scope (attrs_more {mid = mid} {a = a} {rest = rest} d more) room =
       let later = attrs_spans (declared_with scope a) more room in let end = later.ordered in
       spans_append at mid to (attr_faults (of_kind a.of_cores scope) a) (attrs_faults (declared_with scope a) rest) (attr_spans scope d (omega arith)) later
 
   module _ (scope : Scope) where
-    place_spans : {at to : ℕ} {place : Option PlaceSyntax} → IsPlace text ts at place to → to ≤ 2 ^ 32 → Spans at to (place_faults scope place)
+    pub place_spans : {at to : ℕ} {place : Option PlaceSyntax} → IsPlace text ts at place to → to ≤ 2 ^ 32 → Spans at to (place_faults scope place)
     place_spans {at = at} place_none room = spans_none at at (omega arith)
     place_spans {at = at} (place_here k more) room = spans_none at (at + 2) (omega arith)
     place_spans {at = at} {to = to} (place_least {v = v} k more d) room =
         spans_wider at (at + 2) to to (expr_faults scope Placement v) (omega arith) (omega arith) (expr_spans text ts scope Placement d room)
 
-    elect_spans : {at to : ℕ} {elect : Option ElectSyntaxTree} → IsElect text ts at elect to → to ≤ 2 ^ 32 → Spans at to (elect_faults scope elect)
+    pub elect_spans : {at to : ℕ} {elect : Option ElectSyntaxTree} → IsElect text ts at elect to → to ≤ 2 ^ 32 → Spans at to (elect_faults scope elect)
     elect_spans {at = at} elect_none room = spans_none at at (omega arith)
     elect_spans {at = at} {to = to} (elect_some {order = order} k d) room =
         spans_wider at (at + 1) to to (order_faults scope Elect order) (omega arith) (omega arith) (order_spans text ts scope Elect d room)
 
-    batch_spans : {at to : ℕ} {batch : Option BatchSyntaxTree} → IsBatch text ts at batch to → to ≤ 2 ^ 32 → Spans at to (batch_faults scope batch)
+    pub batch_spans : {at to : ℕ} {batch : Option BatchSyntaxTree} → IsBatch text ts at batch to → to ≤ 2 ^ 32 → Spans at to (batch_faults scope batch)
     batch_spans {at = at} batch_none room = spans_none at at (omega arith)
     batch_spans {at = at} (batch_some {mid = mid} {condition = c} w d l n) room =
         let is = guard_spans text ts scope GoingOn d (omega arith) in let less = is.ordered in
@@ -115,7 +115,7 @@ module _ (text : List ℕ) (ts : List Lexeme) where
         let later = cases_spans e more room in let end = later.ordered in
         spans_append at mid to (case_faults scope e c) (cases_faults scope e rest) (case_spans e d (omega arith)) later
 
-    handlers_spans : {at to : ℕ} {hs : List HandlerSyntaxTree} (before : List Event) → IsHandlers text ts at hs to → to ≤ 2 ^ 32 → Spans at to (handlers_faults scope before hs)
+    pub handlers_spans : {at to : ℕ} {hs : List HandlerSyntaxTree} (before : List Event) → IsHandlers text ts at hs to → to ≤ 2 ^ 32 → Spans at to (handlers_faults scope before hs)
     handlers_spans {at = at} before handlers_none room = spans_none at at (omega arith)
     handlers_spans {at = at} {to = to} before (handlers_more {mid = mid} {rest = rest} (handler_of {mid = inner} {last = last} event {c = c} {rest = cs} k word brace first others close) more) room =
         let later = handlers_spans (event ∷ before) more room in let end = later.ordered in

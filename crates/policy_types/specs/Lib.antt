@@ -7,6 +7,7 @@ pub mod Conditions
 pub mod Declarations
 pub mod Handlers
 pub mod Policies
+pub mod Levels
 pub mod Products
 pub mod Given
 pub mod Correct

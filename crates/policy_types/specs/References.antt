@@ -17,8 +17,8 @@ use Rattle.policy_types.specs.declared.scope.Scope.{Scope}
 use Rattle.policy_types.specs.declared.sites.Feature.{Feature}
 use Rattle.policy_types.specs.declared.sites.Feature.TheVariants.{Nr, Load, Weight, Fresh, Attribute}
 use Rattle.policy_types.specs.declared.sites.Site.{Site}
-use Rattle.policy_types.specs.declared.sites.Site.TheVariants.{Filter, Choose, Placement, Elect, Steal, GoingOn}
-use Rattle.policy_types.specs.declared.sites.Site.TheVariants.{Handler}
+use Rattle.policy_types.specs.declared.sites.Site.TheVariants.{Filter, Within, Choose, Placement, Elect, Steal}
+use Rattle.policy_types.specs.declared.sites.Site.TheVariants.{GoingOn, Handler}
 
 -- the first attribute of that name, where the first of the list has that number
 abbrev pub attribute_named : ℕ → List Attr → List ℕ → Option Feature
@@ -68,7 +68,7 @@ is_of_arriving_thread Weight = true
 is_of_arriving_thread Fresh = true
 is_of_arriving_thread (Attribute at) = true
 
--- what a handler may ask of the core that holds the thread
+-- what a handler may ask of the core that holds the thread, and a `within` of either core
 abbrev pub is_attribute : Feature → Bool
 is_attribute Nr = false
 is_attribute Load = false
@@ -80,6 +80,8 @@ is_attribute (Attribute at) = true
 abbrev pub allows : Site → Owner → Feature → Bool
 allows Filter Itself feature = is_of_core feature
 allows Filter Victim feature = is_of_core feature
+allows Within Itself feature = is_attribute feature
+allows Within Victim feature = is_attribute feature
 allows Choose Itself feature = is_of_core feature
 allows Choose Victim feature = is_of_core feature
 allows Placement Core feature = is_of_core feature

@@ -1,4 +1,4 @@
-//! Names, ranges and phases: which policy a syntax is, or the first rule of theirs that it breaks.
+//! Names, ranges and phases: which policy a syntax is, plain or by levels, or the first rule of theirs that it breaks.
 #![tactic(auto)]
 
 mod attributes;
@@ -7,6 +7,7 @@ mod declarations;
 mod expressions;
 mod fault;
 mod handlers;
+mod levels;
 mod products;
 mod resolution;
 mod scope;
@@ -14,4 +15,5 @@ mod sites;
 mod sums;
 
 pub use fault::TypeFault;
+pub use levels::resolve_levels;
 pub use resolution::resolve;

@@ -86,7 +86,11 @@ impl Scope<'_> {
     }
 
     /// Where threads are placed.
-    fn place(&self, alloc: Global, place: &Option<PlaceSyntax>) -> Result<PlaceRule, TypeFault>
+    pub(crate) fn place(
+        &self,
+        alloc: Global,
+        place: &Option<PlaceSyntax>,
+    ) -> Result<PlaceRule, TypeFault>
         ensures tree { IfOk result (λ p. place_tree p ≡ place_meaning self.now place.now) }
         ensures sound { IfOk result (λ p. place_faults self.now place.now ≡ []) }
         ensures fault { IfErr result (IsFirst (place_faults self.now place.now)) }
@@ -100,7 +104,11 @@ impl Scope<'_> {
     }
 
     /// Which thread runs next.
-    fn elect(&self, alloc: Global, elect: &Option<ElectSyntax>) -> Result<Order, TypeFault>
+    pub(crate) fn elect(
+        &self,
+        alloc: Global,
+        elect: &Option<ElectSyntax>,
+    ) -> Result<Order, TypeFault>
         ensures tree { IfOk result
             (λ o. order_tree o ≡ elect_meaning self.now (option_map elect_syntax_tree elect.now)) }
         ensures sound { IfOk result (λ o. elect_faults self.now (option_map elect_syntax_tree elect.now) ≡ []) }
@@ -112,7 +120,11 @@ impl Scope<'_> {
         }
     }
     /// When a steal goes on.
-    fn batch(&self, alloc: Global, batch: &Option<BatchSyntax>) -> Result<Option<Batch>, TypeFault>
+    pub(crate) fn batch(
+        &self,
+        alloc: Global,
+        batch: &Option<BatchSyntax>,
+    ) -> Result<Option<Batch>, TypeFault>
         ensures tree { IfOk result (λ b.
             option_map batch_tree b ≡ batch_meaning self.now (option_map batch_syntax_tree batch.now)) }
         ensures sound { IfOk result (λ b.

@@ -11,6 +11,8 @@ use sched_base::{MAX_ATTRIBUTES, MAX_VARIABLES};
 #[derive(Clone, Copy)]
 pub enum Site {
     Filter,
+    /// Behind `within`: whether a level takes a core in.
+    Within,
     Choose,
     Placement,
     Elect,
@@ -53,7 +55,9 @@ pub(crate) fn allows(site: Site, owner: Owner, feature: Feature) -> bool
         (Site::Elect | Site::Steal | Site::GoingOn | Site::Handler(_), Owner::Thread) => {
             matches!(feature, Feature::Weight | Feature::Attribute(_))
         }
-        (Site::Handler(_), Owner::Itself) => matches!(feature, Feature::Attribute(_)),
+        (Site::Within, Owner::Itself | Owner::Victim) | (Site::Handler(_), Owner::Itself) => {
+            matches!(feature, Feature::Attribute(_))
+        }
         _ => false,
     }
 }

@@ -1,4 +1,4 @@
-//! Seeded plans under a policy whose steals move up to eight threads, each played in four ways.
+//! Seeded plans under a policy whose steals move up to eight threads, each played in five ways.
 
 ghost use Rattle.std.specs.Prelude.{◌≡◌, IfSome};
 ghost use Rattle.policy_tree.specs.Meaning.{meaning_of};
@@ -7,9 +7,9 @@ ghost use Rattle.round_model.specs.Fits.{Fits};
 ghost use Rattle.model_tests.specs.Policies.{in_batches};
 
 use crate::agreement::Agreement;
-use crate::at_table::{by_hand, in_threads};
+use crate::at_table::{by_crew, by_hand, in_threads};
 use crate::dice::rolled;
-use crate::judging::{agrees, comes_whole, has_batches, is_whole};
+use crate::judging::{agrees, comes_whole, has_batches, has_fails, is_whole};
 use crate::plans::plan;
 use crate::playing::{by_cores, by_lists};
 use model_tests::builders::batched_policy;
@@ -86,10 +86,14 @@ fn of_plan<R: Threads + Wait + Sync>(
         return Agreement::failed();
     };
     let whole = is_whole(alloc, under, plan, &plain);
+    let alone = by_crew(rt, alloc, policy, plan, 1);
     Agreement {
         by_cores: whole && agrees(alloc, under, plan, by_cores(alloc, policy, plan), &plain),
         by_hand: whole && agrees(alloc, under, plan, by_hand(rt, alloc, under, plan), &plain),
         in_threads: comes_whole(alloc, under, plan, in_threads(rt, alloc, policy, plan)),
+        fails_alone: has_fails(&alone),
+        by_crews: comes_whole(alloc, under, plan, alone)
+            && comes_whole(alloc, under, plan, by_crew(rt, alloc, policy, plan, 2)),
         in_batches: has_batches(&plain),
     }
 }

@@ -9,6 +9,10 @@ pub(crate) struct Agreement {
     pub(crate) by_hand: bool,
     /// The table in threads comes to whole histories.
     pub(crate) in_threads: bool,
+    /// The table by one worker and by two comes to whole histories.
+    pub(crate) by_crews: bool,
+    /// A steal of them fails by one worker.
+    pub(crate) fails_alone: bool,
     /// A steal of them moves several threads.
     pub(crate) in_batches: bool,
 }
@@ -20,6 +24,8 @@ impl Agreement {
             by_cores: true,
             by_hand: true,
             in_threads: true,
+            by_crews: true,
+            fails_alone: false,
             in_batches: false,
         }
     }
@@ -30,6 +36,8 @@ impl Agreement {
             by_cores: false,
             by_hand: false,
             in_threads: false,
+            by_crews: false,
+            fails_alone: false,
             in_batches: false,
         }
     }
@@ -40,6 +48,8 @@ impl Agreement {
             by_cores: self.by_cores && others.by_cores,
             by_hand: self.by_hand && others.by_hand,
             in_threads: self.in_threads && others.in_threads,
+            by_crews: self.by_crews && others.by_crews,
+            fails_alone: self.fails_alone || others.fails_alone,
             in_batches: self.in_batches || others.in_batches,
         }
     }

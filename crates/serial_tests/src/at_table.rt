@@ -1,6 +1,7 @@
-//! One plan, played at the shared table by hand and in threads.
+//! One plan, played at the shared table by hand, in threads, and by a few workers.
 
-ghost use Rattle.std.specs.Prelude.{◌≡◌};
+ghost use Rattle.std.specs.Prelude.{◌≡◌, ◌≤◌};
+ghost use Rattle.sched_base.specs.declared.limits.TheConstants.{MAX_CORES};
 ghost use Rattle.policy_tree.specs.Meaning.{meaning_of};
 ghost use Rattle.policy_eval.specs.Obligations.{MeetsHandlerObligations};
 ghost use Rattle.round_model.specs.Fits.{Fits};
@@ -11,6 +12,7 @@ ghost use Rattle.table_players.specs.Tables.{IsFree};
 use crate::count::Count;
 use crate::hand_turns::play_round;
 use core_table::{Seat, Table};
+use crew_play::run_crew;
 use history_merge::merge;
 use parallel_play::run_rounds;
 use policy_checker::AcceptedPolicy;
@@ -81,6 +83,30 @@ pub(crate) fn in_threads<R: Threads + Wait + Sync>(
         return None;
     };
     let Ok(closed) = run_rounds(rt, policy, plan, table, seat, &OpenGate) else {
+        return None;
+    };
+    let Ok(history) = merge(alloc, &closed) else {
+        return None;
+    };
+    Some(history)
+}
+
+/// The history that the cores come to which so many workers play.
+pub(crate) fn by_crew<R: Threads + Wait + Sync>(
+    rt: &R,
+    alloc: Global,
+    policy: &AcceptedPolicy,
+    plan: &Plan,
+    workers: u32,
+) -> Option<History>
+    requires fits { Fits (meaning_of policy.now) plan.now }
+    requires handlers { MeetsHandlerObligations (meaning_of policy.now) }
+    requires workers { (1 ≤ workers) × (workers ≤ MAX_CORES) }
+{
+    let Ok((table, seat)) = Table::open(alloc, policy.policy(), plan) else {
+        return None;
+    };
+    let Ok(closed) = run_crew(rt, alloc, policy, plan, table, seat, workers, &OpenGate) else {
         return None;
     };
     let Ok(history) = merge(alloc, &closed) else {

@@ -64,3 +64,19 @@ fn moves_several(entry: &Entry) -> bool {
         _ => false,
     }
 }
+
+/// Whether there is a history, which has a steal that failed.
+pub(crate) fn has_fails(history: &Option<History>) -> bool {
+    match history {
+        Some(history) => history.as_slice().iter().any(|entry| is_fail(entry)),
+        None => false,
+    }
+}
+
+/// Whether the entry is a steal that failed.
+fn is_fail(entry: &Entry) -> bool {
+    match entry {
+        Entry::Fail { .. } => true,
+        _ => false,
+    }
+}

@@ -1,5 +1,5 @@
 //! Plays seeded plans under a policy with a batch, and prints whether plain lists, running cores and the shared table
-//! by hand come to the same histories, and the table in threads to whole ones.
+//! by hand come to the same histories, and the table in threads and by a few workers to whole ones.
 #![tactic(auto)]
 
 mod agreeing;
@@ -24,25 +24,45 @@ use std::thread::Threads;
 
 fn main(rt: HostRuntime) -> io::Result<()> {
     let all = played(&rt, rt.alloc());
+    tell_same(&rt, all)?;
+    tell_whole(&rt, all)
+}
+
+/// Prints whether the same histories are come to, and how their steals go.
+fn tell_same<R: Print>(rt: &R, all: Agreement) -> io::Result<()> {
     told(
-        &rt,
+        rt,
         "plain lists and running cores agree on 500 plans",
         all.by_cores,
     )?;
     told(
-        &rt,
+        rt,
         "some of their steals move several threads",
         all.in_batches,
     )?;
     told(
-        &rt,
+        rt,
         "the table by hand agrees with them on 500 plans",
         all.by_hand,
-    )?;
+    )
+}
+
+/// Prints whether the histories are whole where no two plays need be the same.
+fn tell_whole<R: Print>(rt: &R, all: Agreement) -> io::Result<()> {
     told(
-        &rt,
+        rt,
         "500 plans in threads come to whole histories",
         all.in_threads,
+    )?;
+    told(
+        rt,
+        "500 plans by one worker and by two come to whole histories",
+        all.by_crews,
+    )?;
+    told(
+        rt,
+        "some of their steals fail by one worker",
+        all.fails_alone,
     )
 }
 

@@ -6,3 +6,4 @@ pub mod Called
 pub mod Trying
 pub mod Reading
 pub mod Begun
+pub mod Telling

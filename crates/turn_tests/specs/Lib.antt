@@ -1,3 +1,4 @@
+pub mod Beside
 pub mod Follows
 pub mod Memory
 pub mod Steps

@@ -35,6 +35,26 @@ pub(crate) fn plan_of_text(alloc: Global, policy: &Policy, text: &str) -> Option
 /// Room for the text of a history.
 const ROOM: u64 = 4096;
 
+/// The text of the history, if there is memory and room for it.
+pub(crate) fn spelled(
+    alloc: Global,
+    policy: &Policy,
+    plan: &Plan,
+    history: &[Entry],
+) -> Option<MemorySink>
+    requires fits { Fits (meaning_of policy.now) plan.now }
+    requires legal { Legal (meaning_of policy.now) plan.now history.now }
+    requires few { length history.now ≤ MAX_ENTRIES }
+{
+    let Ok(mut out) = MemorySink::new(alloc, ROOM, Vec::new(alloc)) else {
+        return None;
+    };
+    match put_history(&mut out, history, plan.cores) {
+        Ok(()) => Some(out),
+        Err(_fault) => None,
+    }
+}
+
 /// Whether the history is the one of the text, and there was memory for it.
 pub(crate) fn is_spelled(
     alloc: Global,
@@ -47,9 +67,8 @@ pub(crate) fn is_spelled(
     requires legal { Legal (meaning_of policy.now) plan.now history.now }
     requires few { length history.now ≤ MAX_ENTRIES }
 {
-    let Ok(mut out) = MemorySink::new(alloc, ROOM, Vec::new(alloc)) else {
-        return false;
-    };
-    let _whole = put_history(&mut out, history, plan.cores);
-    out.bytes() == text.as_bytes()
+    match spelled(alloc, policy, plan, history) {
+        Some(out) => out.bytes() == text.as_bytes(),
+        None => false,
+    }
 }

@@ -1,5 +1,5 @@
-//! Turns by the calls of a core in memory, under a policy without placement, one with it and one with a batch. The
-//! files `NAME.trace` and `NAME.history` have the plan, and the history that its turns come to.
+//! Turns by the calls of a core in memory, whole and step by step: under a policy without placement, one with it and one
+//! with a batch. The files `NAME.trace` and `NAME.history` have the plan, and the history that its turns come to.
 
 ghost use Rattle.std.specs.Prelude.{◌≡◌, ◌≤◌, ◌⊎◌, ℕ, IsTrue, length};
 ghost use Rattle.sched_base.specs.declared.limits.TheConstants.{MAX_ENTRIES};
@@ -12,7 +12,7 @@ ghost use Rattle.turn_tests.specs.Memory.{IsKept, IsSameMemory};
 
 use crate::finding::{Finding, all_hold, told};
 use crate::memory_calls::MemoryCalls;
-use crate::playing::play_all;
+use crate::playing::{Way, play_all};
 use crate::texts::{is_spelled, plan_of_text};
 use crate::turnstile::Turnstile;
 use core_calls::Turned;
@@ -31,67 +31,67 @@ use std::{fs, io};
 #[derive(Clone, Copy)]
 struct Wanted<'a> {
     history: &'a str,
-    turned: [Turned; 4],
+    turned: [Option<Turned>; 4],
 }
 
 /// What the turns under the basic policy tell. Thread 3 ends.
-const UNDER_BASIC: [Turned; 4] = [
-    Turned {
+const UNDER_BASIC: [Option<Turned>; 4] = [
+    Some(Turned {
         entries: 5,
         ended: None,
-    },
-    Turned {
+    }),
+    Some(Turned {
         entries: 2,
         ended: None,
-    },
-    Turned {
+    }),
+    Some(Turned {
         entries: 3,
         ended: Some(3),
-    },
-    Turned {
+    }),
+    Some(Turned {
         entries: 3,
         ended: None,
-    },
+    }),
 ];
 
 /// What those under the fair policy tell. Thread 1 ends.
-const UNDER_FAIR: [Turned; 4] = [
-    Turned {
+const UNDER_FAIR: [Option<Turned>; 4] = [
+    Some(Turned {
         entries: 4,
         ended: None,
-    },
-    Turned {
+    }),
+    Some(Turned {
         entries: 2,
         ended: None,
-    },
-    Turned {
+    }),
+    Some(Turned {
         entries: 3,
         ended: Some(1),
-    },
-    Turned {
+    }),
+    Some(Turned {
         entries: 2,
         ended: None,
-    },
+    }),
 ];
 
 /// What those under the batched policy tell.
-const IN_BATCHES: [Turned; 4] = [
-    Turned {
+const IN_BATCHES: [Option<Turned>; 4] = [
+    Some(Turned {
         entries: 8,
         ended: None,
-    },
-    Turned {
+    }),
+    Some(Turned {
         entries: 2,
         ended: None,
-    },
-    Turned {
+    }),
+    Some(Turned {
         entries: 2,
         ended: None,
-    },
-    Turned {
+    }),
+    Some(Turned {
         entries: 2,
         ended: None,
-    },
+    }),
 ];
 
 /// A thread blocks and wakes, one is stolen, one ends, and one enters by the second core.
@@ -108,7 +108,12 @@ pub(crate) fn under_basic<R: Files + Print + Alloc + Wait>(
     told(
         rt,
         "turns under basic",
-        by_basic(rt, alloc, trace.as_str(), &wanted),
+        by_basic(rt, alloc, trace.as_str(), &wanted, Way::Whole),
+    )?;
+    told(
+        rt,
+        "steps under basic",
+        by_basic(rt, alloc, trace.as_str(), &wanted, Way::ByStep),
     )
 }
 
@@ -123,7 +128,12 @@ pub(crate) fn under_fair<R: Files + Print + Alloc + Wait>(rt: &R, alloc: Global)
     told(
         rt,
         "turns under fair",
-        by_fair(rt, alloc, trace.as_str(), &wanted),
+        by_fair(rt, alloc, trace.as_str(), &wanted, Way::Whole),
+    )?;
+    told(
+        rt,
+        "steps under fair",
+        by_fair(rt, alloc, trace.as_str(), &wanted, Way::ByStep),
     )
 }
 
@@ -138,32 +148,55 @@ pub(crate) fn in_batches<R: Files + Print + Alloc + Wait>(rt: &R, alloc: Global)
     told(
         rt,
         "turns with a batch",
-        by_batches(rt, alloc, trace.as_str(), &wanted),
+        by_batches(rt, alloc, trace.as_str(), &wanted, Way::Whole),
+    )?;
+    told(
+        rt,
+        "steps with a batch",
+        by_batches(rt, alloc, trace.as_str(), &wanted, Way::ByStep),
     )
 }
 
 /// What is found of the trace under the basic policy.
-fn by_basic<R: Wait>(rt: &R, alloc: Global, trace: &str, wanted: &Wanted<'_>) -> Option<Finding> {
+fn by_basic<R: Wait>(
+    rt: &R,
+    alloc: Global,
+    trace: &str,
+    wanted: &Wanted<'_>,
+    way: Way,
+) -> Option<Finding> {
     let Ok(policy) = basic_policy(alloc) else {
         return None;
     };
-    come_to(rt, alloc, &policy, trace, wanted)
+    come_to(rt, alloc, &policy, trace, wanted, way)
 }
 
 /// What is found of the trace under the fair policy.
-fn by_fair<R: Wait>(rt: &R, alloc: Global, trace: &str, wanted: &Wanted<'_>) -> Option<Finding> {
+fn by_fair<R: Wait>(
+    rt: &R,
+    alloc: Global,
+    trace: &str,
+    wanted: &Wanted<'_>,
+    way: Way,
+) -> Option<Finding> {
     let Ok(policy) = fair_policy(alloc) else {
         return None;
     };
-    come_to(rt, alloc, &policy, trace, wanted)
+    come_to(rt, alloc, &policy, trace, wanted, way)
 }
 
 /// What is found of the trace under the basic policy with a batch.
-fn by_batches<R: Wait>(rt: &R, alloc: Global, trace: &str, wanted: &Wanted<'_>) -> Option<Finding> {
+fn by_batches<R: Wait>(
+    rt: &R,
+    alloc: Global,
+    trace: &str,
+    wanted: &Wanted<'_>,
+    way: Way,
+) -> Option<Finding> {
     let Ok(policy) = batched_policy(alloc, 8) else {
         return None;
     };
-    come_to(rt, alloc, &policy, trace, wanted)
+    come_to(rt, alloc, &policy, trace, wanted, way)
 }
 
 /// What is found of the trace under that policy.
@@ -173,12 +206,13 @@ fn come_to<R: Wait>(
     policy: &Policy,
     trace: &str,
     wanted: &Wanted<'_>,
+    way: Way,
 ) -> Option<Finding>
     requires { (meaning_of policy.now ≡ basic) ⊎ ((meaning_of policy.now ≡ fair_meaning)
         ⊎ (meaning_of policy.now ≡ in_batches 8)) }
 {
     let plan = plan_of_text(alloc, policy, trace)?;
-    plan_comes_to(rt, alloc, policy, &plan, wanted)
+    plan_comes_to(rt, alloc, policy, &plan, wanted, way)
 }
 
 /// Whether the turns of both cores in both rounds come to this, and each of them passes the gate once.
@@ -188,6 +222,7 @@ fn plan_comes_to<R: Wait>(
     policy: &Policy,
     plan: &Plan,
     wanted: &Wanted<'_>,
+    way: Way,
 ) -> Option<Finding>
     requires fits { Fits (meaning_of policy.now) plan.now }
     requires handlers { MeetsHandlerObligations (meaning_of policy.now) }
@@ -196,7 +231,7 @@ fn plan_comes_to<R: Wait>(
     let Ok(mut calls) = MemoryCalls::open(alloc, policy, plan) else {
         return None;
     };
-    let told = have_told(rt, alloc, &mut calls, &gate, &wanted.turned);
+    let told = have_told(rt, alloc, &mut calls, &gate, &wanted.turned, way);
     let history = calls.into_history();
     let entries = history.as_slice();
     Some(all_hold(&[
@@ -219,14 +254,15 @@ fn have_told<R: Wait, G: Gate>(
     alloc: Global,
     calls: &mut MemoryCalls<'_>,
     gate: &G,
-    turned: &[Turned],
+    turned: &[Option<Turned>],
+    way: Way,
 ) -> bool
     requires kept { IsKept calls.old }
     requires gate { (core round : ℕ) → IsTrue (G.admits gate.now core round) }
     ensures kept { IsKept calls.new }
     ensures same { IsSameMemory calls.old calls.new }
 {
-    match play_all(rt, alloc, calls, gate) {
+    match play_all(rt, alloc, calls, gate, way) {
         Ok(told) => told.as_slice() == turned,
         Err(_fault) => false,
     }

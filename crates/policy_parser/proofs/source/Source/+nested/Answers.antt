@@ -10,15 +10,15 @@ use Rattle.policy_parser.proofs.source.Source.+nested.Goals as goal
 pub condition-returns-in_err-first-clause-reads : goal.condition-returns-in_err-first-clause-reads
 condition-returns-in_err-first-clause-reads t c = λ below.
     let p = err_from_is_err_and c.from_residual.result c.from_residual.ensures.1 in
-    rw (p.1, p.2) (c.in_err-first.ensures.reads (ors c.args.depth ∷ below))
+    rw (p.1, p.2) (c.in_err-first.ensures.reads (ors c.args.most c.args.depth ∷ below))
 
 pub condition-returns-then-not-has-clause-is : goal.condition-returns-then-not-has-clause-is
 condition-returns-then-not-has-clause-is t c = condition_of (condition_tree c.in_ok-first.first) no_more c.in_ok-first.ensures.is ors_none
 
 pub condition-returns-then-not-has-clause-reads : goal.condition-returns-then-not-has-clause-reads
 condition-returns-then-not-has-clause-reads t c = λ below.
-    c.in_ok-first.ensures.reads (ors c.args.depth ∷ below)
-    ∙ ors-over _ _ c.in_ok-first.next c.in_ok-first.counted c.args.depth below (isnt c.has.ensures.is c.if-not-has.true)
+    c.in_ok-first.ensures.reads (ors c.args.most c.args.depth ∷ below)
+    ∙ ors-over _ _ c.in_ok-first.next c.in_ok-first.counted c.args.most c.args.depth below (isnt c.has.ensures.is c.if-not-has.true)
 
 pub condition-ors-init : goal.condition-ors-init
 condition-ors-init t c = record {
@@ -26,15 +26,15 @@ condition-ors-init t c = record {
   within = inside _ _ (yes c.has.ensures.is c.if-not-has.false) (lit< tt);
   or = yes c.has.ensures.is c.if-not-has.false;
   are = ored-one c.in_ok-first.first (c.in_ok-push.ensures.items ∙ ap (λ x. x ++ c.in_ok-first.first ∷ []) c.new-parts.ensures.items) c.in_ok-first.ensures.is;
-  reads = λ below. c.in_ok-first.ensures.reads (ors c.args.depth ∷ below);
+  reads = λ below. c.in_ok-first.ensures.reads (ors c.args.most c.args.depth ∷ below);
 }
 
 pub condition-returns-in_err-part-clause-reads : goal.condition-returns-in_err-part-clause-reads
 condition-returns-in_err-part-clause-reads t c = λ below.
     let p = err_from_is_err_and c.from_residual-in_err-part.result c.from_residual-in_err-part.ensures.1 in
     rw (p.1, p.2)
-    (passes _ (c.ors.invariant.reads below ∙ ors-goes _ _ c.ors.next c.ors.counted c.args.depth below c.ors.invariant.or)
-    (c.in_err-part.ensures.reads (ors c.args.depth ∷ below)))
+    (passes _ (c.ors.invariant.reads below ∙ ors-goes _ _ c.ors.next c.ors.counted c.args.most c.args.depth below c.ors.invariant.or)
+    (c.in_err-part.ensures.reads (ors c.args.most c.args.depth ∷ below)))
 
 pub condition-returns-then-not-has-2-clause-is : goal.condition-returns-then-not-has-2-clause-is
 condition-returns-then-not-has-2-clause-is t c =
@@ -43,9 +43,9 @@ condition-returns-then-not-has-2-clause-is t c =
 pub condition-returns-then-not-has-2-clause-reads : goal.condition-returns-then-not-has-2-clause-reads
 condition-returns-then-not-has-2-clause-reads t c = λ below.
     c.ors.invariant.reads below
-    ∙ ors-goes _ _ c.ors.next c.ors.counted c.args.depth below c.ors.invariant.or
-    ∙ c.in_ok-part.ensures.reads (ors c.args.depth ∷ below)
-    ∙ ors-over _ _ c.in_ok-part.after c.in_ok-part.more c.args.depth below (isnt c.has-in-ors.ensures.is c.if-not-has-2.true)
+    ∙ ors-goes _ _ c.ors.next c.ors.counted c.args.most c.args.depth below c.ors.invariant.or
+    ∙ c.in_ok-part.ensures.reads (ors c.args.most c.args.depth ∷ below)
+    ∙ ors-over _ _ c.in_ok-part.after c.in_ok-part.more c.args.most c.args.depth below (isnt c.has-in-ors.ensures.is c.if-not-has-2.true)
 
 pub condition-ors-preserved : goal.condition-ors-preserved
 condition-ors-preserved t c = record {
@@ -55,22 +55,22 @@ condition-ors-preserved t c = record {
   are = ored-snoc c.in_ok-part.part c.ors.invariant.are c.ors.invariant.or c.in_ok-part.ensures.is c.in_ok-push-2.ensures.items;
   reads = λ below.
       c.ors.invariant.reads below
-      ∙ ors-goes _ _ c.ors.next c.ors.counted c.args.depth below c.ors.invariant.or
-      ∙ c.in_ok-part.ensures.reads (ors c.args.depth ∷ below);
+      ∙ ors-goes _ _ c.ors.next c.ors.counted c.args.most c.args.depth below c.ors.invariant.or
+      ∙ c.in_ok-part.ensures.reads (ors c.args.most c.args.depth ∷ below);
 }
 
 pub conjunction-returns-in_err-first-clause-reads : goal.conjunction-returns-in_err-first-clause-reads
 conjunction-returns-in_err-first-clause-reads t c = λ below.
     let p = err_from_is_err_and c.from_residual.result c.from_residual.ensures.1 in
-    rw (p.1, p.2) (c.in_err-first.ensures.reads (ands c.args.depth ∷ below))
+    rw (p.1, p.2) (c.in_err-first.ensures.reads (ands c.args.most c.args.depth ∷ below))
 
 pub conjunction-returns-then-not-has-clause-is : goal.conjunction-returns-then-not-has-clause-is
 conjunction-returns-then-not-has-clause-is t c = conjunction_of (condition_tree c.in_ok-first.first) no_more c.in_ok-first.ensures.is ands_none
 
 pub conjunction-returns-then-not-has-clause-reads : goal.conjunction-returns-then-not-has-clause-reads
 conjunction-returns-then-not-has-clause-reads t c = λ below.
-    c.in_ok-first.ensures.reads (ands c.args.depth ∷ below)
-    ∙ ands-over _ _ c.in_ok-first.next c.in_ok-first.counted c.args.depth below (isnt c.has.ensures.is c.if-not-has.true)
+    c.in_ok-first.ensures.reads (ands c.args.most c.args.depth ∷ below)
+    ∙ ands-over _ _ c.in_ok-first.next c.in_ok-first.counted c.args.most c.args.depth below (isnt c.has.ensures.is c.if-not-has.true)
 
 pub conjunction-ands-init : goal.conjunction-ands-init
 conjunction-ands-init t c = record {
@@ -78,15 +78,15 @@ conjunction-ands-init t c = record {
   within = inside _ _ (yes c.has.ensures.is c.if-not-has.false) (lit< tt);
   and = yes c.has.ensures.is c.if-not-has.false;
   are = anded-one c.in_ok-first.first (c.in_ok-push.ensures.items ∙ ap (λ x. x ++ c.in_ok-first.first ∷ []) c.new-parts.ensures.items) c.in_ok-first.ensures.is;
-  reads = λ below. c.in_ok-first.ensures.reads (ands c.args.depth ∷ below);
+  reads = λ below. c.in_ok-first.ensures.reads (ands c.args.most c.args.depth ∷ below);
 }
 
 pub conjunction-returns-in_err-part-clause-reads : goal.conjunction-returns-in_err-part-clause-reads
 conjunction-returns-in_err-part-clause-reads t c = λ below.
     let p = err_from_is_err_and c.from_residual-in_err-part.result c.from_residual-in_err-part.ensures.1 in
     rw (p.1, p.2)
-    (passes _ (c.ands.invariant.reads below ∙ ands-goes _ _ c.ands.next c.ands.counted c.args.depth below c.ands.invariant.and)
-    (c.in_err-part.ensures.reads (ands c.args.depth ∷ below)))
+    (passes _ (c.ands.invariant.reads below ∙ ands-goes _ _ c.ands.next c.ands.counted c.args.most c.args.depth below c.ands.invariant.and)
+    (c.in_err-part.ensures.reads (ands c.args.most c.args.depth ∷ below)))
 
 pub conjunction-returns-then-not-has-2-clause-is : goal.conjunction-returns-then-not-has-2-clause-is
 conjunction-returns-then-not-has-2-clause-is t c =
@@ -95,9 +95,9 @@ conjunction-returns-then-not-has-2-clause-is t c =
 pub conjunction-returns-then-not-has-2-clause-reads : goal.conjunction-returns-then-not-has-2-clause-reads
 conjunction-returns-then-not-has-2-clause-reads t c = λ below.
     c.ands.invariant.reads below
-    ∙ ands-goes _ _ c.ands.next c.ands.counted c.args.depth below c.ands.invariant.and
-    ∙ c.in_ok-part.ensures.reads (ands c.args.depth ∷ below)
-    ∙ ands-over _ _ c.in_ok-part.after c.in_ok-part.more c.args.depth below (isnt c.has-in-ands.ensures.is c.if-not-has-2.true)
+    ∙ ands-goes _ _ c.ands.next c.ands.counted c.args.most c.args.depth below c.ands.invariant.and
+    ∙ c.in_ok-part.ensures.reads (ands c.args.most c.args.depth ∷ below)
+    ∙ ands-over _ _ c.in_ok-part.after c.in_ok-part.more c.args.most c.args.depth below (isnt c.has-in-ands.ensures.is c.if-not-has-2.true)
 
 pub conjunction-ands-preserved : goal.conjunction-ands-preserved
 conjunction-ands-preserved t c = record {
@@ -107,54 +107,54 @@ conjunction-ands-preserved t c = record {
   are = anded-snoc c.in_ok-part.part c.ands.invariant.are c.ands.invariant.and c.in_ok-part.ensures.is c.in_ok-push-2.ensures.items;
   reads = λ below.
       c.ands.invariant.reads below
-      ∙ ands-goes _ _ c.ands.next c.ands.counted c.args.depth below c.ands.invariant.and
-      ∙ c.in_ok-part.ensures.reads (ands c.args.depth ∷ below);
+      ∙ ands-goes _ _ c.ands.next c.ands.counted c.args.most c.args.depth below c.ands.invariant.and
+      ∙ c.in_ok-part.ensures.reads (ands c.args.most c.args.depth ∷ below);
 }
 
 pub unit-returns-then-has-clause-is : goal.unit-returns-then-has-clause-is
 unit-returns-then-has-clause-is t c = unit_always (yes c.has.ensures.is c.if-has.true)
 
 pub unit-returns-then-has-clause-reads : goal.unit-returns-then-has-clause-reads
-unit-returns-then-has-clause-reads t c = λ below. always-goes _ _ c.args.at c.args.count c.args.depth below (yes c.has.ensures.is c.if-has.true)
+unit-returns-then-has-clause-reads t c = λ below. always-goes _ _ c.args.at c.args.count c.args.most c.args.depth below (yes c.has.ensures.is c.if-has.true)
 
 pub unit-returns-else-has-3-clause-reads : goal.unit-returns-else-has-3-clause-reads
 unit-returns-else-has-3-clause-reads t c = λ below.
     answers-as _ c.comparison.result
-    (test-begins _ _ c.args.at c.args.count c.args.depth below (isnt c.has.ensures.is c.if-has.false)
+    (test-begins _ _ c.args.at c.args.count c.args.most c.args.depth below (isnt c.has.ensures.is c.if-has.false)
     (isnt c.has-else-has.ensures.is c.if-has-2.false) (isnt c.has-else-has-2.ensures.is c.if-has-3.false))
     (c.comparison.ensures.reads below)
 
 pub negation-returns-then-depth-self-clause-reads : goal.negation-returns-then-depth-self-clause-reads
-negation-returns-then-depth-self-clause-reads t c = λ below. not-deep _ _ c.args.at c.args.count c.args.depth below c.requires.begins c.if-depth-self.true
+negation-returns-then-depth-self-clause-reads t c = λ below. not-deep _ _ c.args.at c.args.count c.args.most c.args.depth below c.requires.begins c.if-depth-self.true
 
 pub negation-returns-in_err-inner-clause-reads : goal.negation-returns-in_err-inner-clause-reads
 negation-returns-in_err-inner-clause-reads t c = λ below.
     let p = err_from_is_err_and c.from_residual.result c.from_residual.ensures.1 in
     rw (p.1, p.2)
-    (passes _ (not-goes _ _ c.args.at c.args.count c.args.depth below c.requires.begins c.if-depth-self.false) (c.in_err-inner.ensures.reads below))
+    (passes _ (not-goes _ _ c.args.at c.args.count c.args.most c.args.depth below c.requires.begins c.if-depth-self.false) (c.in_err-inner.ensures.reads below))
 
 pub negation-returns-clause-is : goal.negation-returns-clause-is
 negation-returns-clause-is t c = rw c.in_ok-whole.ensures (unit_not c.requires.begins c.in_ok-inner.ensures.is)
 
 pub negation-returns-clause-reads : goal.negation-returns-clause-reads
 negation-returns-clause-reads t c = λ below.
-    not-goes _ _ c.args.at c.args.count c.args.depth below c.requires.begins c.if-depth-self.false ∙ c.in_ok-inner.ensures.reads below
+    not-goes _ _ c.args.at c.args.count c.args.most c.args.depth below c.requires.begins c.if-depth-self.false ∙ c.in_ok-inner.ensures.reads below
 
 pub group-returns-then-depth-self-clause-reads : goal.group-returns-then-depth-self-clause-reads
-group-returns-then-depth-self-clause-reads t c = λ below. open-deep _ _ c.args.at c.args.count c.args.depth below c.requires.begins c.if-depth-self.true
+group-returns-then-depth-self-clause-reads t c = λ below. open-deep _ _ c.args.at c.args.count c.args.most c.args.depth below c.requires.begins c.if-depth-self.true
 
 pub group-returns-in_err-inner-clause-reads : goal.group-returns-in_err-inner-clause-reads
 group-returns-in_err-inner-clause-reads t c = λ below.
     let p = err_from_is_err_and c.from_residual.result c.from_residual.ensures.1 in
     rw (p.1, p.2)
-    (passes _ (open-goes _ _ c.args.at c.args.count c.args.depth below c.requires.begins c.if-depth-self.false) (c.in_err-inner.ensures.reads (close ∷ below)))
+    (passes _ (open-goes _ _ c.args.at c.args.count c.args.most c.args.depth below c.requires.begins c.if-depth-self.false) (c.in_err-inner.ensures.reads (close ∷ below)))
 
 pub group-returns-in_err-inner-2-clause-reads : goal.group-returns-in_err-inner-2-clause-reads
 group-returns-in_err-inner-2-clause-reads t c = λ below.
     let p = err_from_is_err_and c.from_residual-in_err-inner-2.result c.from_residual-in_err-inner-2.ensures.1 in
     rw (p.1, p.2)
     (fails-at _ (rw c.in_err-inner-2.ensures.err at c.expect.ensures.fails)
-    (open-goes _ _ c.args.at c.args.count c.args.depth below c.requires.begins c.if-depth-self.false
+    (open-goes _ _ c.args.at c.args.count c.args.most c.args.depth below c.requires.begins c.if-depth-self.false
     ∙ c.in_ok-inner.ensures.reads (close ∷ below)
     ∙ close-none _ _ c.in_ok-inner.end c.in_ok-inner.counted below (rw c.in_err-inner-2.ensures.err at c.expect.ensures.isnt)))
 
@@ -175,7 +175,7 @@ group-returns-clause-is t c =
 pub group-returns-clause-reads : goal.group-returns-clause-reads
 group-returns-clause-reads t c = λ below.
     let next = rw c.in_ok-inner-2.ensures.ok.1 at c.expect.ensures.next in
-    open-goes _ _ c.args.at c.args.count c.args.depth below c.requires.begins c.if-depth-self.false
+    open-goes _ _ c.args.at c.args.count c.args.most c.args.depth below c.requires.begins c.if-depth-self.false
     ∙ c.in_ok-inner.ensures.reads (close ∷ below)
     ∙ close-goes _ _ c.in_ok-inner.end c.in_ok-inner.counted below (rw c.in_ok-inner-2.ensures.ok.1 at c.expect.ensures.is)
     ∙ go-from _ _ c.in_ok-inner.counted below (sym next.0)

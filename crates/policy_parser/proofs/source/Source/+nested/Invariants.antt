@@ -27,8 +27,8 @@ invariant-condition-ors l = record {
   or : kind_at l.self.lexemes.now l.next ≡ code Or;
   are : Ored l.self.text.now l.self.lexemes.now l.parts.items l.at l.next;
   reads : (below : List Symbol) →
-      go l.self.limits l.self.lexemes.now l.at l.count (unit l.depth ∷ ands l.depth ∷ ors l.depth ∷ below)
-      ≡ go l.self.limits l.self.lexemes.now l.next l.counted (ors l.depth ∷ below);
+      go l.self.limits l.self.lexemes.now l.at l.count (unit l.most l.depth ∷ ands l.most l.depth ∷ ors l.most l.depth ∷ below)
+      ≡ go l.self.limits l.self.lexemes.now l.next l.counted (ors l.most l.depth ∷ below);
 }
 
 abbrev pub decreases-condition-ors : goal.decreases-condition-ors
@@ -41,8 +41,8 @@ invariant-conjunction-ands l = record {
   and : kind_at l.self.lexemes.now l.next ≡ code And;
   are : Anded l.self.text.now l.self.lexemes.now l.parts.items l.at l.next;
   reads : (below : List Symbol) →
-      go l.self.limits l.self.lexemes.now l.at l.count (unit l.depth ∷ ands l.depth ∷ below)
-      ≡ go l.self.limits l.self.lexemes.now l.next l.counted (ands l.depth ∷ below);
+      go l.self.limits l.self.lexemes.now l.at l.count (unit l.most l.depth ∷ ands l.most l.depth ∷ below)
+      ≡ go l.self.limits l.self.lexemes.now l.next l.counted (ands l.most l.depth ∷ below);
 }
 
 abbrev pub decreases-conjunction-ands : goal.decreases-conjunction-ands

@@ -10,17 +10,17 @@ use Rattle.policy_parser.proofs.source.Source.choices.Goals as goal
 pub returns-in_err-choose-clause-reads : goal.returns-in_err-choose-clause-reads
 returns-in_err-choose-clause-reads c = λ count.
     let p = err_from_is_err_and c.from_residual.result c.from_residual.ensures.1 in
-    rw (p.1, p.2) (c.in_err-choose.ensures.reads count (the Steal ∷ order ∷ batch ∷ []))
+    rw (p.1, p.2) (c.in_err-choose.ensures.reads count (the Steal ∷ order c.args.self.now.limits.keys ∷ batch ∷ []))
 
 pub returns-in_err-choose-2-clause-reads : goal.returns-in_err-choose-2-clause-reads
 returns-in_err-choose-2-clause-reads c = λ count.
     let p = err_from_is_err_and c.from_residual-in_err-choose-2.result c.from_residual-in_err-choose-2.ensures.1 in
     rw (p.1, p.2)
-    (passes _ (c.in_ok-choose.ensures.reads count (the Steal ∷ order ∷ batch ∷ [])) (rw c.in_err-choose-2.ensures.err at (c.steals.ensures.reads 0)))
+    (passes _ (c.in_ok-choose.ensures.reads count (the Steal ∷ order c.args.self.now.limits.keys ∷ batch ∷ [])) (rw c.in_err-choose-2.ensures.err at (c.steals.ensures.reads 0)))
 
 pub returns-clause-reads : goal.returns-clause-reads
 returns-clause-reads c = λ count.
-    c.in_ok-choose.ensures.reads count (the Steal ∷ order ∷ batch ∷ []) ∙ (rw c.in_ok-choose-2.ensures.ok.1 at (c.steals.ensures.reads 0))
+    c.in_ok-choose.ensures.reads count (the Steal ∷ order c.args.self.now.limits.keys ∷ batch ∷ []) ∙ (rw c.in_ok-choose-2.ensures.ok.1 at (c.steals.ensures.reads 0))
 
 pub returns-clause-is : goal.returns-clause-is
 returns-clause-is c =

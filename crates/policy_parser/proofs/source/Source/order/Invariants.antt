@@ -11,7 +11,7 @@ invariant-keys l = record {
   short : vec_len l.keys ≤ l.next;
   are : Keyed l.self.text.now l.self.lexemes.now l.keys.items l.at l.next;
   reads : (below : List Symbol) →
-      go l.self.limits l.self.lexemes.now l.at 0 (order ∷ below) ≡ go l.self.limits l.self.lexemes.now l.next 0 (keys l.count ∷ below);
+      go l.self.limits l.self.lexemes.now l.at 0 (order l.most ∷ below) ≡ go l.self.limits l.self.lexemes.now l.next 0 (keys l.most l.count ∷ below);
 }
 
 abbrev pub decreases-keys : goal.decreases-keys

@@ -1,0 +1,137 @@
+/*
+ * The scheduling policy nodes as C99, printed from its text. Change the text,
+ * and print it again.
+ *
+ * The policy was accepted: it meets what policies owe. The laws of such
+ * policies are proved of a model, and of no balancer. In the model it is so:
+ * - There are at most 64 cores, and at most 1023 threads in all.
+ * - The load of a core is the sum of the weights of its threads, the
+ *   running one counted. A core that has threads runs one of them.
+ * - Weights and attributes lie in their ranges. Neither weights nor the
+ *   attributes of cores change.
+ * - In a round each core makes one attempt. It reads count and load of
+ *   each core at one moment, which isn't before the start of the round.
+ *   Of the cores of which the filter holds it takes the best, of equals
+ *   the one with the lowest number.
+ * - Both cores are held while the filter is asked again and threads are
+ *   moved. They are moved out of the victim's queue, the best first. The
+ *   one that runs stays.
+ * - The next round begins once each core has made its attempt.
+ * No proof speaks of C: this text is only tested.
+ */
+#ifndef nodes_POLICY_H
+#define nodes_POLICY_H
+
+#if defined(__KERNEL__)
+#include <linux/types.h>
+#elif !defined(__VMLINUX_H__) /* which has these types */
+#include <stdbool.h>
+#include <stdint.h>
+#endif
+
+/* A rule need not look at all that it is given, and may compare a number
+ * with itself.
+ */
+#ifdef __GNUC__
+#pragma GCC diagnostic push
+#pragma GCC diagnostic ignored "-Wunused-parameter"
+#pragma GCC diagnostic ignored "-Wtautological-compare"
+#endif
+
+#define nodes_NR_MAX 1023
+#define nodes_LOAD_MAX 1023
+#define nodes_WEIGHT_MIN 1
+#define nodes_WEIGHT_MAX 1
+#define nodes_CORE_MIN_node 0
+#define nodes_CORE_MAX_node 1
+#define nodes_CORE_START_node 0
+
+/* A core, as another core may see it. */
+struct nodes_core {
+	int64_t nr; /* its threads, the running one counted: from 0 to 1023 */
+	int64_t load; /* the sum of their weights: from 0 to 1023 */
+	int64_t attr_node; /* from 0 to 1, begins as 0 */
+};
+
+/* A thread. */
+struct nodes_thread {
+	int64_t weight; /* from 1 to 1 */
+};
+
+/* Where an event puts a thread: at the queue's end, still running, or among the blocked. */
+enum nodes_put { nodes_put_queue, nodes_put_keep, nodes_put_block };
+
+static inline int64_t
+nodes_cut(int64_t value, int64_t least, int64_t greatest)
+{
+	return value < least ? least : value > greatest ? greatest : value;
+}
+
+/* Whether self may take a thread from victim. Ask it in a choice, and again with both cores held. */
+static inline bool
+nodes_may_steal(const struct nodes_core *self, const struct nodes_core *victim)
+{
+	return (self->attr_node == victim->attr_node && victim->nr - self->nr >= 2) || (!(self->attr_node == victim->attr_node) && ((self->nr == 0 && victim->nr >= 2) || victim->nr - self->nr >= 3));
+}
+
+/* Whether self chooses a rather than b. Of equals it chooses the core with the lowest number. */
+static inline bool
+nodes_choose_before(const struct nodes_core *self, const struct nodes_core *a, const struct nodes_core *b)
+{
+	if ((self->attr_node == a->attr_node) != (self->attr_node == b->attr_node))
+		return self->attr_node == a->attr_node;
+	if (a->load != b->load)
+		return a->load > b->load;
+	return false;
+}
+
+/* Whether a is stolen rather than b. Of equals the one that stands first in the queue is stolen. */
+static inline bool
+nodes_steal_before(const struct nodes_thread *a, const struct nodes_thread *b)
+{
+	return false;
+}
+
+/* 1 where a thread stays on the core that lets it in, else 0. */
+#define nodes_PLACE_HERE 1
+
+/* Whether a runs rather than b. Of equals the one that stands first in the queue runs. */
+static inline bool
+nodes_elect_before(const struct nodes_thread *a, const struct nodes_thread *b)
+{
+	return false;
+}
+
+/* A thread enters self's queue: it is fresh where it is new, and not where it wakes. A steal doesn't call this. */
+static inline enum nodes_put
+nodes_on_enqueue(const struct nodes_core *self, struct nodes_thread *thread, bool fresh)
+{
+	return nodes_put_queue;
+}
+
+/* The thread that runs on self has run a while, and isn't done. */
+static inline enum nodes_put
+nodes_on_tick(const struct nodes_core *self, struct nodes_thread *thread)
+{
+	return nodes_put_keep;
+}
+
+/* The thread that runs on self yields. */
+static inline enum nodes_put
+nodes_on_yield(const struct nodes_core *self, struct nodes_thread *thread)
+{
+	return nodes_put_queue;
+}
+
+/* The thread that runs on self blocks. */
+static inline enum nodes_put
+nodes_on_block(const struct nodes_core *self, struct nodes_thread *thread)
+{
+	return nodes_put_block;
+}
+
+#ifdef __GNUC__
+#pragma GCC diagnostic pop
+#endif
+
+#endif
