@@ -55,7 +55,8 @@ thread_struct_texts p =
 -- where an event puts a thread
 abbrev pub put_enum_texts : Meaning → List (List ℕ)
 put_enum_texts p =
-    codes "\n/* Where an event puts a thread: at the queue's end, still running, or among the blocked. */\nenum " ∷ p.name
+    codes "\n/* Where an event puts a thread: at the queue's end, still running, or among the blocked. */\n"
+    ∷ codes "enum " ∷ p.name
     ∷ codes "_put { " ∷ p.name ∷ codes "_put_queue, " ∷ p.name ∷ codes "_put_keep, " ∷ p.name
     ∷ codes "_put_block };\n" ∷ []
 

@@ -190,8 +190,9 @@ impl Printer {
         ensures { OnOk result (Prints (put_enum_texts (meaning_of policy.now)) self.old self.new) }
     {
         self.word(
-            "\n/* Where an event puts a thread: at the queue's end, still running, or among the blocked. */\nenum ",
+            "\n/* Where an event puts a thread: at the queue's end, still running, or among the blocked. */\n",
         )?;
+        self.word("enum ")?;
         self.name(policy.name.as_slice())?;
         self.word("_put { ")?;
         self.name(policy.name.as_slice())?;

@@ -34,7 +34,7 @@ use Rattle.policy_check.specs.declared.bounding.BoundAnswer.{BoundAnswer}
 use Rattle.policy_check.specs.declared.bounding.BoundAnswer.TheVariants as bounded
 use Rattle.policy_check.specs.declared.bounding.Bounding.{Bounding}
 use Rattle.round_laws.proofs.MainTheorem.{main_theorem}
-use Rattle.ipanema_cli.specs.Answers.{AnswersBound}
+use Rattle.ipanema_cli.specs.PolicyAnswers.{AnswersBound}
 use Rattle.ipanema_cli.specs.BoundTruths.{BoundsTruly, IsTrueOfLast, LastIsOpen, MustBound, ShowsTaking}
 use Rattle.ipanema_cli.specs.Causes.{OneOf}
 use Rattle.ipanema_cli.specs.CheckTruths.{AcceptedPolicy, Spells}
@@ -44,7 +44,7 @@ use Rattle.ipanema_cli.specs.Texts.{MayBeLong, MayRead}
 use Rattle.ipanema_cli.specs.declared.answers.Answer.{Answer}
 use Rattle.ipanema_cli.specs.declared.answers.Answer.TheVariants as answer
 use Rattle.ipanema_cli.specs.declared.texts.TextKind.TheVariants as kind
-use Rattle.ipanema_cli.proofs.CheckTruths.{Stopped, at_4, at_5, at_6, long_decides, long_refuses, low_or_stopped, not_long, pays_for_waste, pays_if_equal, refusal_high, refusal_not_0, stopped_decides, stopped_not, stopped_refuses, tells_fault, verdict_answers}
+use Rattle.ipanema_cli.proofs.CheckTruths.{Stopped, at_4, at_5, at_6, long_refuses, low_or_stopped, not_long, pays_for_waste, pays_if_equal, refusal_high, refusal_not_0, stopped_not, stopped_refuses, tells_fault, verdict_answers}
 use Rattle.ipanema_cli.proofs.PolicyFacts.{judged_refuses, never_left, read_decides, read_refuses, refused_refuses, refused_text, resolved, same_policy}
 use Rattle.ipanema_cli.proofs.WritesLemmas.{code_among, no_stop, whole}
 

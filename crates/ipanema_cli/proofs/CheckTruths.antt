@@ -22,7 +22,7 @@ use Rattle.policy_check.specs.declared.reading.Refusal.TheVariants as refusal
 use Rattle.round_laws.proofs.EqualWeights.{equal_weights}
 use Rattle.round_laws.proofs.MainTheorem.{main_theorem}
 use Rattle.round_laws.proofs.WastePaid.{waste_is_paid_law}
-use Rattle.ipanema_cli.specs.Answers.{AnswersCheck}
+use Rattle.ipanema_cli.specs.PolicyAnswers.{AnswersCheck}
 use Rattle.ipanema_cli.specs.Causes.{OneOf}
 use Rattle.ipanema_cli.specs.Ends.{Writes}
 use Rattle.ipanema_cli.specs.Status.{check_status, code_of, refusal_status, verdict_status}

@@ -24,7 +24,7 @@ use Rattle.policy_check.specs.Lines.{explain_lines}
 use Rattle.policy_check.specs.declared.explaining.ExplainAnswer.{ExplainAnswer}
 use Rattle.policy_check.specs.declared.explaining.ExplainAnswer.TheVariants as explained
 use Rattle.policy_check.specs.declared.explaining.Explanation.{Explanation}
-use Rattle.ipanema_cli.specs.Answers.{AnswersExplain}
+use Rattle.ipanema_cli.specs.PolicyAnswers.{AnswersExplain}
 use Rattle.ipanema_cli.specs.Causes.{OneOf}
 use Rattle.ipanema_cli.specs.Ends.{Writes}
 use Rattle.ipanema_cli.specs.Status.{code_of, explain_status, outcome_status}

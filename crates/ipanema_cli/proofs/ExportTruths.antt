@@ -16,7 +16,7 @@ use Rattle.policy_check.specs.declared.answer.CheckAnswer.{CheckAnswer}
 use Rattle.policy_check.specs.declared.answer.CheckAnswer.TheVariants as checked
 use Rattle.policy_check.proofs.FirstLines.{joined_lines}
 use Rattle.round_laws.proofs.MainTheorem.{main_theorem}
-use Rattle.ipanema_cli.specs.Answers.{AnswersExport, Exporting, IsAccepted, accepts}
+use Rattle.ipanema_cli.specs.PolicyAnswers.{AnswersExport, Exporting, IsAccepted, accepts}
 use Rattle.ipanema_cli.specs.Ends.{Writes}
 use Rattle.ipanema_cli.specs.Status.{check_status, code_of, verdict_status}
 use Rattle.ipanema_cli.specs.Texts.{MayBeLong, MayRead}

@@ -3,7 +3,8 @@ use Rattle.std.proofs.Common.{ℕ, List, Option, Some, None}
 use Rattle.sched_io.specs.Told.{Told}
 use Rattle.command_words.specs.Command.{Asked, IsSerial, bench, bound, check, crew, emit, explain, make, migrate, play, prove, replay, report, run, simulate, verify, waste}
 use Rattle.trace_run.specs.Runs.{IsGatedRunOf, IsRunOf}
-use Rattle.ipanema_cli.specs.Answers.{AnswersPlay, IsAnswer, IsGatedAnswer}
+use Rattle.ipanema_cli.specs.TraceAnswers.{AnswersPlay}
+use Rattle.ipanema_cli.specs.Answers.{IsAnswer, IsGatedAnswer}
 use Rattle.ipanema_cli.specs.declared.answers.Answer.{Answer}
 use Rattle.ipanema_cli.specs.declared.answers.Answer.TheVariants as answer
 use Rattle.ipanema_cli.specs.declared.texts.TextKind.{TextKind}

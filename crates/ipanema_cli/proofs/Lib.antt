@@ -1,5 +1,8 @@
 pub mod BenchTruths
 pub mod BoundTruths
+pub mod CodeLemmas
+pub mod CommandLemmas
+pub mod TooLongLemmas
 pub mod CauseLemmas
 pub mod CheckTruths
 mod Concluding
@@ -9,6 +12,7 @@ pub mod Failing
 mod GatedAnswers
 pub mod LoadLemmas
 pub mod LongLemmas
+pub mod Judgements
 pub mod JudgeTruths
 pub mod MakeTruths
 pub mod PlayTruths

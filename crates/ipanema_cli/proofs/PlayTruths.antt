@@ -17,7 +17,8 @@ use Rattle.trace_play.specs.declared.answer.PlayAnswer.{PlayAnswer}
 use Rattle.trace_play.specs.declared.answer.PlayAnswer.TheVariants as play_answer
 use Rattle.trace_play.specs.declared.cores.PlayedCores.TheVariants as cores
 use Rattle.trace_play.specs.Plays as plays
-use Rattle.ipanema_cli.specs.Answers.{AnswersPlay, play_status}
+use Rattle.ipanema_cli.specs.TraceAnswers.{AnswersPlay}
+use Rattle.ipanema_cli.specs.Answers.{play_status}
 use Rattle.ipanema_cli.specs.Causes.{OneOf}
 use Rattle.ipanema_cli.specs.Ends.{Writes}
 use Rattle.ipanema_cli.specs.Status.{code_of}

@@ -22,7 +22,8 @@ use Rattle.trace_play.specs.Plays as plays
 use Rattle.parallel_play.specs.Runs.{AllPassed, HadRoom}
 use Rattle.parallel_play.proofs.Beginnings.{never_whole}
 use Rattle.trace_run.specs.Runs.{GatedEnds, GatedStops, HavePassedFor, IsGatedRunOf, RunsText}
-use Rattle.ipanema_cli.specs.Answers.{AnswersPlay, play_status}
+use Rattle.ipanema_cli.specs.TraceAnswers.{AnswersPlay}
+use Rattle.ipanema_cli.specs.Answers.{play_status}
 use Rattle.ipanema_cli.specs.Causes.{OneOf}
 use Rattle.ipanema_cli.specs.Ends.{Writes}
 use Rattle.ipanema_cli.specs.Status.{code_of}

@@ -36,7 +36,9 @@ use Rattle.sched_history.specs.Lines.{entry_lines}
 use Rattle.sched_history.specs.Spelling.{header, line_of, second_form}
 use Rattle.history_merge.specs.Merged.{merged}
 use Rattle.trace_play.proofs.OnePlay.{never_faulty, one_plan, one_trace}
-use Rattle.ipanema_cli.specs.Answers.{AnswersPlay, IsAccepted, Playing, accepts, play_status}
+use Rattle.ipanema_cli.specs.TraceAnswers.{AnswersPlay, Playing}
+use Rattle.ipanema_cli.specs.PolicyAnswers.{IsAccepted, accepts}
+use Rattle.ipanema_cli.specs.Answers.{play_status}
 use Rattle.ipanema_cli.specs.Causes.{OneOf}
 use Rattle.ipanema_cli.specs.Ends.{Writes}
 use Rattle.ipanema_cli.specs.Status.{check_status, code_of, refusal_status, verdict_status}

@@ -4,7 +4,8 @@ use Rattle.sched_io.specs.Shown.{Shown}
 use Rattle.sched_io.specs.Told.{Told}
 use Rattle.command_words.specs.Command.{Asked, IsSerial, bench, bound, check, crew, emit, explain, make, migrate, play, prove, replay, report, run, simulate, verify, waste}
 use Rattle.cert_file.specs.Wrong.{Proves}
-use Rattle.ipanema_cli.specs.Answers.{IsGatedAnswer, IsHeader}
+use Rattle.ipanema_cli.specs.Answers.{IsGatedAnswer}
+use Rattle.ipanema_cli.specs.PolicyAnswers.{IsHeader}
 use Rattle.ipanema_cli.specs.Ends.{Concludes, Writes}
 use Rattle.ipanema_cli.specs.Stops.{IsStop, IsUnread}
 use Rattle.ipanema_cli.specs.JudgeTruths.{SaysMigrated, SaysReport, SaysWhole}

@@ -6,7 +6,7 @@ use Rattle.policy_tree.specs.Meaning.{Meaning}
 use Rattle.obligations.specs.DifferencePolicies.{ComparesDifferences}
 use Rattle.cert_file.specs.Answers.{IsUncrowded}
 use Rattle.cert_file.specs.Wrong.{Proves}
-use Rattle.ipanema_cli.specs.Answers.{Exporting, IsHeader}
+use Rattle.ipanema_cli.specs.PolicyAnswers.{Exporting, IsHeader}
 use Rattle.ipanema_cli.specs.Causes.{OneOf}
 use Rattle.ipanema_cli.specs.CheckTruths.{AcceptedPolicy, AnswersFor, Decides, Refuses, Spells, TellsFault}
 

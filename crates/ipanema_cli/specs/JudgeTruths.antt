@@ -19,7 +19,7 @@ use Rattle.history_replay.specs.declared.refusal.HistoryRefusal.TheVariants as r
 use Rattle.history_replay.specs.Judges.{Gives, Tells}
 use Rattle.history_replay.specs.Lines.{refusal_line, whole_line}
 use Rattle.trace_play.specs.Plays as plays
-use Rattle.ipanema_cli.specs.Answers.{IsAccepted}
+use Rattle.ipanema_cli.specs.PolicyAnswers.{IsAccepted}
 use Rattle.ipanema_cli.specs.Causes.{OneOf}
 use Rattle.ipanema_cli.specs.Texts.{MayRead}
 use Rattle.ipanema_cli.specs.declared.texts.TextKind.TheVariants as kind

@@ -1,3 +1,5 @@
+pub mod PolicyAnswers
+pub mod TraceAnswers
 pub mod Answers
 pub mod BenchTruths
 pub mod BoundTruths

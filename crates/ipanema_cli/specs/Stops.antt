@@ -1,7 +1,8 @@
 -- What keeps a command from its answer.
 use Rattle.std.specs.Prelude.{◌≡◌, ◌⊎◌, ℕ, List, Option, Some, None}
 use Rattle.sched_io.specs.Told.{Told, missing}
-use Rattle.ipanema_cli.specs.Answers.{IsAnswer, IsTooLongOfThree}
+use Rattle.ipanema_cli.specs.Answers.{IsAnswer}
+use Rattle.ipanema_cli.specs.TraceAnswers.{IsTooLongOfThree}
 use Rattle.command_words.specs.Command.{Asked, bench, bound, check, crew, emit, explain, make, migrate, play}
 use Rattle.command_words.specs.Command.{prove, replay, report, run, simulate, verify, waste}
 use Rattle.ipanema_cli.specs.Simulations.{IsTooLongOfOne, IsTooLongOfTwo}

@@ -21,7 +21,7 @@ use Rattle.parallel_play.specs.Runs.{HadRoom}
 use Rattle.trace_run.specs.Runs.{GatedEnds, GatedStops}
 use Rattle.trace_play.specs.Plays as plays
 use Rattle.trace_play.specs.Told as trace_faults
-use Rattle.ipanema_cli.specs.Answers.{IsAccepted}
+use Rattle.ipanema_cli.specs.PolicyAnswers.{IsAccepted}
 use Rattle.ipanema_cli.specs.Causes.{OneOf}
 use Rattle.ipanema_cli.specs.Texts.{MayRead}
 use Rattle.ipanema_cli.specs.declared.texts.TextKind.TheVariants as kind

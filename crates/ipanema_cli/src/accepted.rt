@@ -3,7 +3,7 @@
 ghost use Rattle.std.specs.Prelude.{◌≡◌, ℕ, IfErr, IfOk, IsFalse, List};
 ghost use Rattle.policy_tree.specs.Meaning.{meaning_of};
 ghost use Rattle.policy_check.specs.Checks.{IsCheckOf};
-ghost use Rattle.ipanema_cli.specs.Answers.{IsAccepted, accepts};
+ghost use Rattle.ipanema_cli.specs.PolicyAnswers.{IsAccepted, accepts};
 
 use policy_check::CheckAnswer;
 use policy_checker::{AcceptedPolicy, Verdict};

@@ -3,8 +3,12 @@
 ghost use Rattle.std.specs.Prelude.{◌≡◌, ◌≤◌, ℕ, IfErr, IfOk, IsTrue, length};
 ghost use Rattle.sched_base.specs.declared.limits.TheConstants.{MAX_POLICY_BYTES, MAX_TRACE_BYTES};
 ghost use Rattle.sched_io.specs.Puts.{Puts};
-ghost use Rattle.ipanema_cli.specs.Answers.{AnswersBench, AnswersMake, CanBePut, IsExportOfText, IsJudgingOfTexts};
-ghost use Rattle.ipanema_cli.specs.Answers.{IsPlayOfTexts, exporting_of, judging_of, lines_of, status_of};
+ghost use Rattle.ipanema_cli.specs.Answers.{AnswersBench, AnswersMake, CanBePut};
+ghost use Rattle.ipanema_cli.specs.PolicyAnswers.{IsExportOfText};
+ghost use Rattle.ipanema_cli.specs.TraceAnswers.{IsJudgingOfTexts};
+ghost use Rattle.ipanema_cli.specs.TraceAnswers.{IsPlayOfTexts, judging_of};
+ghost use Rattle.ipanema_cli.specs.PolicyAnswers.{exporting_of};
+ghost use Rattle.ipanema_cli.specs.Answers.{lines_of, status_of};
 ghost use Rattle.ipanema_cli.specs.Simulations.{IsSimulationOfTexts, simulating_of};
 ghost use Rattle.policy_tree.specs.Meaning.{meaning_of};
 ghost use Rattle.command_words.specs.Numbers.{is_size};

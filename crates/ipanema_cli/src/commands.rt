@@ -3,8 +3,11 @@
 ghost use Rattle.std.specs.Prelude.{◌≡◌, ◌≢◌, ◌⊎◌, ℕ, List, Some, IfErr, IfOk, IsErrOf, IsTrue, OnOk};
 ghost use Rattle.sched_io.specs.Faults.{Rose};
 ghost use Rattle.sched_io.specs.Loads.{AreRequested};
-ghost use Rattle.ipanema_cli.specs.Answers.{AnswersBound, AnswersCheck, AnswersExplain, AnswersExport, AnswersJudging};
-ghost use Rattle.ipanema_cli.specs.Answers.{AnswersPlay, AnswersVerify, CanBePut, IsAnswer, exporting_of, judging_of};
+ghost use Rattle.ipanema_cli.specs.PolicyAnswers.{AnswersBound, AnswersCheck, AnswersExplain, AnswersExport};
+ghost use Rattle.ipanema_cli.specs.TraceAnswers.{AnswersJudging};
+ghost use Rattle.ipanema_cli.specs.TraceAnswers.{AnswersPlay, judging_of};
+ghost use Rattle.ipanema_cli.specs.PolicyAnswers.{AnswersVerify, exporting_of};
+ghost use Rattle.ipanema_cli.specs.Answers.{CanBePut, IsAnswer};
 ghost use Rattle.command_words.specs.Asks.{asked};
 ghost use Rattle.command_words.specs.Numbers.{is_size};
 ghost use Rattle.command_words.specs.Command.{IsSerial, bench as asks_bench, bound, check, explain};

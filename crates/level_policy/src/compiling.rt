@@ -27,12 +27,12 @@ pub fn compile(alloc: Global, levels: &Levels) -> Result<Policy, LevelMemory>
     ensures resolved { IfOk result (λ p. IsResolved (meaning_of p)) }
     ensures short { IfOk result (λ p. IsShort (meaning_of p)) }
 {
-    let policy = plain_policy(alloc, levels)?;
+    let policy = compiled_policy(alloc, levels)?;
     Ok(policy)
 }
 
 /// The plain policy, part by part.
-fn plain_policy(alloc: Global, levels: &Levels) -> Result<Policy, AllocError>
+fn compiled_policy(alloc: Global, levels: &Levels) -> Result<Policy, AllocError>
     requires some { 1 ≤ length levels.now.levels }
     requires few { length levels.now.levels + length levels.now.plain.choose < 2 ^ 32 }
     ensures { IfOk result (λ p. meaning_of p ≡ compiled (levels_meaning levels.now)) }

@@ -18,7 +18,8 @@ use Rattle.policy_grammar.specs.Words.{compare_word, owner_word}
 use Rattle.policy_grammar.specs.Expressions.{IsOperand, operand_number, operand_reference, IsFactor, factor_plain, factor_signed, term_of, IsExpr, expr_of}
 use Rattle.policy_grammar.specs.Conditions.{conjunction, disjunction, IsUnit, unit_always, unit_not, unit_group, unit_test, IsAnds, ands_none, ands_more, IsConjunction, conjunction_of, IsOrs, ors_none, ors_more, IsCondition, condition_of}
 use Rattle.policy_grammar.specs.Breaks.{deep, many, first_of, breaks_expr, comparisons, comparisons_of, breaks_condition, breaks_parts}
-use Rattle.policy_grammar.specs.Machine.{Symbol, condition, unit, ands, ors, close, compare, operand, go}
+use Rattle.policy_grammar.specs.Symbols.{Symbol, condition, unit, ands, ors, close, compare, operand}
+use Rattle.policy_grammar.specs.Machine.{go}
 use Rattle.policy_grammar.proofs.Steps.{judged, judged-first, go-move, go-same}
 use Rattle.policy_grammar.proofs.CompleteExpressions.{NoOperator, expr_read}
 

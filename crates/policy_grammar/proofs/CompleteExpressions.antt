@@ -20,7 +20,8 @@ use Rattle.policy_grammar.specs.declared.limits.Limits.{Limits}
 use Rattle.policy_grammar.specs.Terminals.{code, kind_at, is_word}
 use Rattle.policy_grammar.specs.Expressions.{IsInt, int_plain, int_signed, IsRange, range_of, IsOperand, operand_number, operand_reference, IsFactor, factor_plain, factor_signed, IsTimes, times_none, times_more, IsTerm, term_of, IsAdded, added_none, added_more, IsExpr, expr_of}
 use Rattle.policy_grammar.specs.Breaks.{deep, many, first_of, breaks_signs, breaks_factor, after_times, breaks_times, after_term, breaks_term, after_added, breaks_added, after_expr, breaks_expr}
-use Rattle.policy_grammar.specs.Machine.{Symbol, the, int, operand, dot, word, operators, go}
+use Rattle.policy_grammar.specs.Symbols.{Symbol, the, int, operand, dot, word, operators}
+use Rattle.policy_grammar.specs.Machine.{go}
 use Rattle.policy_grammar.proofs.Steps.{judged, judged-first, go-move, go-same}
 
 -- no operator stands there

@@ -1,21 +1,22 @@
 -- What the grammar has is read, up to the first limit that its tree passes: level texts.
-use Rattle.std.proofs.Common.{◌≡◌, ℕ, ◌+◌, ◌==◌, List, [], ◌∷◌, refl, sym, ap, arith, lit<, false, Option, None, ◌∙◌}
+use Rattle.std.proofs.Common.{◌≡◌, ℕ, ◌+◌, List, ◌∷◌, refl, sym, ap, arith, lit<, ◌∙◌}
 use Rattle.policy_syntax.specs.SyntaxTrees.{ConditionTree}
 use Rattle.policy_syntax.specs.LevelTrees.{OneLevelSyntaxTree, LevelSyntaxTree}
 use Rattle.policy_grammar.specs.declared.terminal.Lexeme.{Lexeme}
 use Rattle.policy_grammar.specs.declared.terminal.Terminal.TheVariants.{Levels, Level, Within, Filter, Choose, Name}
-use Rattle.policy_grammar.specs.declared.terminal.Terminal.TheVariants as terminal
 use Rattle.policy_grammar.specs.declared.limits.Limits.{Limits}
 use Rattle.policy_grammar.specs.Terminals.{code, kind_at}
 use Rattle.policy_grammar.specs.Conditions.{IsUnit, unit_always, unit_test}
 use Rattle.policy_grammar.specs.Levels.{IsLevelWithin, within_always, within_test, IsLevel, level_of, IsLevelList, levels_none, levels_more, IsLevels, levels_of}
 use Rattle.policy_grammar.specs.Breaks.{many, comparisons, breaks_attrs, breaks_condition, breaks_elect, breaks_handlers, breaks_place}
-use Rattle.policy_grammar.specs.LevelBreaks.{breaks_level, breaks_level_list, breaks_levels}
-use Rattle.policy_grammar.specs.Machine.{Symbol, the, condition, unit, level, levels, within, go, level_start}
+use Rattle.policy_grammar.specs.LevelBreaks.{breaks_level, breaks_level_list, breaks_level_text}
+use Rattle.policy_grammar.specs.Symbols.{Symbol, the, condition, unit, level, levels, within}
+use Rattle.policy_grammar.specs.Machine.{go, level_start}
 use Rattle.policy_grammar.proofs.Steps.{judged, judged-first, go-move, go-same}
 use Rattle.policy_grammar.proofs.CompleteExpressions.{NoOperator, the-read, go-at}
 use Rattle.policy_grammar.proofs.CompleteConditions.{NoOr, no_operator-by, no_or-by, expr-begins, unit_read, whole_read}
-use Rattle.policy_grammar.proofs.CompletePolicies.{level-from, front_read, choices_read, judged-is}
+use Rattle.policy_grammar.proofs.Standing.{level-from}
+use Rattle.policy_grammar.proofs.CompletePolicies.{front_read, choices_read, judged-is}
 
 -- what stands behind `within` is a unit
 pub within-unit : {text : List ℕ} {ts : List Lexeme} {at to : ℕ} {v : ConditionTree} → IsLevelWithin text ts at v to → IsUnit text ts at v to
@@ -98,7 +99,7 @@ module _ (limits : Limits) (text : List ℕ) (ts : List Lexeme) where
 
 -- the tokens of a level text are read to their end, up to the first limit that it passes
 pub level_text_read : (limits : Limits) (text : List ℕ) (ts : List Lexeme) {s : LevelSyntaxTree} → IsLevels text ts s →
-    go limits ts 0 0 (level_start limits) ≡ breaks_levels limits s
+    go limits ts 0 0 (level_start limits) ≡ breaks_level_text limits s
 level_text_read limits text ts (levels_of {at_choose = at_choose} {attrs = us} {place = p} {elect = e} {handlers = hs} {first = l} {further = ls} k0 k1 dl da dp de dh d more kc dc ks ds db) =
     the-read limits text ts 0 0 _ Levels k0 (lit< tt) refl
     ∙ the-read limits text ts 1 0 _ Name k1 (lit< tt) refl

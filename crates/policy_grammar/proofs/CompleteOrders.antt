@@ -8,7 +8,8 @@ use Rattle.policy_grammar.specs.Terminals.{code, kind_at}
 use Rattle.policy_grammar.specs.Words.{key_word}
 use Rattle.policy_grammar.specs.Orders.{IsKey, key_ranked, key_preferring, IsKeys, keys_none, keys_more, IsOrder, order_first, order_keys}
 use Rattle.policy_grammar.specs.Breaks.{many, comparisons, breaks_condition, key_at, breaks_key, breaks_keys, breaks_order}
-use Rattle.policy_grammar.specs.Machine.{Symbol, order, key, keys, operand, go}
+use Rattle.policy_grammar.specs.Symbols.{Symbol, order, key, keys, operand}
+use Rattle.policy_grammar.specs.Machine.{go}
 use Rattle.policy_grammar.proofs.Steps.{judged, judged-first, go-move, go-same}
 use Rattle.policy_grammar.proofs.CompleteExpressions.{expr_read}
 use Rattle.policy_grammar.proofs.CompleteConditions.{NoOr, no_or-by, whole_read}

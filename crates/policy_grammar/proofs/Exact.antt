@@ -5,7 +5,8 @@ use Rattle.policy_grammar.specs.declared.terminal.Lexeme.{Lexeme}
 use Rattle.policy_grammar.specs.declared.limits.Limits.{Limits}
 use Rattle.policy_grammar.specs.declared.fault.ParseFault.{ParseFault}
 use Rattle.policy_grammar.specs.declared.fault.ParseFault.TheVariants.{Unexpected, Deep, Many, Memory}
-use Rattle.policy_grammar.specs.Machine.{Symbol, state, Move, refuses, goes, moves, all_nothing, kind_of, after, run, go}
+use Rattle.policy_grammar.specs.Symbols.{Symbol, state, Move, refuses, goes, all_nothing}
+use Rattle.policy_grammar.specs.Machine.{moves, kind_of, after, run, go}
 use Rattle.policy_grammar.specs.Correct.{BeginsIn, NotBefore, IsUnexpectedIn, IsExcessIn, IsFaultIn}
 use Rattle.policy_grammar.proofs.Languages.{IsLanguage, reach-begins}
 use Rattle.policy_grammar.proofs.Reached.{Reach, reach-start, reach-step}

@@ -1,5 +1,5 @@
 -- A grammar and what may come at first, where they are one language: what the laws on reading take.
-use Rattle.std.proofs.Common.{◌≡◌, ℕ, List, ◌∷◌, ◌++◌, length, refl, Option}
+use Rattle.std.proofs.Common.{◌≡◌, ℕ, List, ◌++◌, length, refl, Option}
 use Rattle.policy_syntax.specs.SyntaxTrees.{SyntaxTree}
 use Rattle.policy_syntax.specs.LevelTrees.{LevelSyntaxTree}
 use Rattle.policy_grammar.specs.declared.terminal.Lexeme.{Lexeme}
@@ -8,14 +8,15 @@ use Rattle.policy_grammar.specs.declared.fault.ParseFault.{ParseFault}
 use Rattle.policy_grammar.specs.Policies.{IsPolicy, policy_of}
 use Rattle.policy_grammar.specs.Levels.{IsLevels, levels_of}
 use Rattle.policy_grammar.specs.Breaks.{breaks_policy}
-use Rattle.policy_grammar.specs.LevelBreaks.{breaks_levels}
-use Rattle.policy_grammar.specs.Machine.{Symbol, go, start, level_start}
+use Rattle.policy_grammar.specs.LevelBreaks.{breaks_level_text}
+use Rattle.policy_grammar.specs.Symbols.{Symbol}
+use Rattle.policy_grammar.specs.Machine.{go, start, level_start}
 use Rattle.policy_grammar.specs.Correct.{BeginsIn}
 use Rattle.policy_grammar.proofs.CompletePolicies.{policy_read}
 use Rattle.policy_grammar.proofs.CompleteLevels.{level_text_read}
 use Rattle.policy_grammar.proofs.Places.{IsLimit, limit-policy, limit-level-text}
 use Rattle.policy_grammar.proofs.Reached.{Reach, completes}
-use Rattle.policy_grammar.proofs.Viable.{token, Are, are_none, are_more}
+use Rattle.policy_grammar.proofs.Pulled.{token, Are, are_none, are_more}
 
 -- the grammar's texts are read to their end, up to the first limit that each passes, and no others are what may come
 pub record IsLanguage (limits : Limits) (text : List ℕ) (Tree : Type 0) (Is : List Lexeme → Tree → Type 0) (breaks : Tree → Option ParseFault)
@@ -54,7 +55,7 @@ policies limits text = record {
   limit = limit-policy limits;
 }
 
-pub level_texts : (limits : Limits) (text : List ℕ) → IsLanguage limits text LevelSyntaxTree (IsLevels text) (breaks_levels limits) (level_start limits)
+pub level_texts : (limits : Limits) (text : List ℕ) → IsLanguage limits text LevelSyntaxTree (IsLevels text) (breaks_level_text limits) (level_start limits)
 level_texts limits text = record {
   read = λ ts s is. level_text_read limits text ts is;
   from = level_text-from limits text;

@@ -2,8 +2,11 @@ pub mod Steps
 pub mod CompleteExpressions
 pub mod CompleteConditions
 pub mod CompleteOrders
+pub mod Standing
 pub mod CompletePolicies
 pub mod CompleteLevels
+pub mod Pulled
+pub mod TokenWords
 pub mod Viable
 pub mod Reached
 pub mod Places

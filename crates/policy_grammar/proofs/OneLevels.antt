@@ -7,7 +7,7 @@ use Rattle.policy_grammar.specs.Terminals.{code, kind_at, word_at}
 use Rattle.policy_grammar.specs.Conditions.{IsCondition}
 use Rattle.policy_grammar.specs.Levels.{IsLevel, level_of, IsLevelList, levels_none, levels_more, IsLevels, levels_of}
 use Rattle.policy_grammar.proofs.CompleteConditions.{NoOr, no_operator-by}
-use Rattle.policy_grammar.proofs.CompletePolicies.{level-from}
+use Rattle.policy_grammar.proofs.Standing.{level-from}
 use Rattle.policy_grammar.proofs.CompleteLevels.{within-unit, level-begins, levels-stop}
 use Rattle.policy_grammar.proofs.OneConditions.{unit-one, condition-one}
 use Rattle.policy_grammar.proofs.OnePolicies.{front-one, choices-one}

@@ -18,7 +18,8 @@ use Rattle.policy_grammar.specs.Conditions.{IsCondition}
 use Rattle.policy_grammar.specs.Orders.{IsOrder}
 use Rattle.policy_grammar.specs.Policies.{IsLoad, load_count, load_weight, IsAttr, attr_of, IsAttrs, attrs_none, attrs_more, IsPlace, place_none, place_here, place_least, IsElect, elect_none, elect_some, IsBatch, batch_none, batch_some, IsSets, sets_none, sets_more, IsCase, case_of, IsCases, cases_none, cases_more, IsHandler, handler_of, IsHandlers, handlers_none, handlers_more, IsPolicy, policy_of}
 use Rattle.policy_grammar.proofs.CompleteConditions.{no_operator-by, no_or-by}
-use Rattle.policy_grammar.proofs.CompletePolicies.{From, from-no_operator, from-no_key, from-past, filter-from, handlers-from, elect-from, place-from, kind-end, no_key-by, batch-no_key}
+use Rattle.policy_grammar.proofs.Standing.{From, from-no_operator, from-no_key, from-past, filter-from, handlers-from, elect-from, place-from, kind-end, no_key-by}
+use Rattle.policy_grammar.proofs.CompletePolicies.{batch-no_key}
 use Rattle.policy_grammar.proofs.OneExpressions.{int-one, range-one, expr-one}
 use Rattle.policy_grammar.proofs.OneConditions.{condition-one}
 use Rattle.policy_grammar.proofs.OneOrders.{order-one}

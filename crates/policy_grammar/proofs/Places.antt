@@ -16,8 +16,9 @@ use Rattle.policy_grammar.specs.Terminals.{code, is_word}
 use Rattle.policy_grammar.specs.declared.fault.ParseFault.{ParseFault}
 use Rattle.policy_grammar.specs.declared.fault.ParseFault.TheVariants.{Unexpected, Deep, Many, Memory}
 use Rattle.policy_grammar.specs.Breaks.{deep, many, first_of, breaks_signs, breaks_times, breaks_term, breaks_added, breaks_expr, comparisons, breaks_condition, breaks_parts, key_at, breaks_key, breaks_keys, breaks_sets, breaks_cases, breaks_handlers, of_cores_more, of_threads_more, breaks_attrs, breaks_place, breaks_elect, breaks_batch, breaks_policy, after_term}
-use Rattle.policy_grammar.specs.LevelBreaks.{breaks_level_list, breaks_levels}
-use Rattle.policy_grammar.specs.Machine.{Symbol, count_behind, the, load_rule, int, attrs, place, place_rule, elect, handlers, event, case, cases, actions, field, order, key, keys, batch, level, levels, within, condition, unit, ands, ors, close, compare, operand, dot, word, operators, State, state, Move, refuses, goes, is_compare, factor_move, unit_move, key_move, case_move, level_move, attr_move, symbol_move, moves}
+use Rattle.policy_grammar.specs.LevelBreaks.{breaks_level_list, breaks_level_text}
+use Rattle.policy_grammar.specs.Symbols.{Symbol, count_behind, the, load_rule, int, attrs, place, place_rule, elect, handlers, event, case, cases, actions, field, order, key, keys, batch, level, levels, within, condition, unit, ands, ors, close, compare, operand, dot, word, operators, State, state, Move, refuses, goes, is_compare}
+use Rattle.policy_grammar.specs.Machine.{factor_move, unit_move, key_move, case_move, level_move, attr_move, symbol_move, moves}
 
 -- a limit, and no other fault
 abbrev pub IsLimit : Option ParseFault → Type 0
@@ -129,7 +130,7 @@ module _ (limits : Limits) where
       (limit-first _ _ (limit-first _ _ (limit-condition 1 0 0 l.within) (limit-condition limits.level_comparisons 0 0 l.filter))
       (limit-levels (count + 1) rest))
 
-  pub limit-level-text : (s : LevelSyntaxTree) → IsLimit (breaks_levels limits s)
+  pub limit-level-text : (s : LevelSyntaxTree) → IsLimit (breaks_level_text limits s)
   limit-level-text s =
       limit-first _ _ (limit-attrs 0 0 s.attrs) (limit-first _ _ (limit-place s.place) (limit-first _ _ (limit-elect s.elect)
       (limit-first _ _ (limit-handlers s.handlers) (limit-first _ _ (limit-levels 0 s.levels)

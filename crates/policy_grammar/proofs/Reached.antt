@@ -17,10 +17,12 @@ use Rattle.policy_grammar.specs.Expressions.{int_plain, operand_number, factor_p
 use Rattle.policy_grammar.specs.Conditions.{unit_always, ands_none, conjunction_of, ors_none, IsCondition, condition_of}
 use Rattle.policy_grammar.specs.Orders.{key_ranked, keys_none, order_first}
 use Rattle.policy_grammar.specs.Policies.{IsLoad, load_count, attrs_none, IsPlace, place_none, place_here, elect_none, batch_none, sets_none, case_of, cases_none, handlers_none}
-use Rattle.policy_grammar.specs.Machine.{Symbol, the, load_rule, int, attrs, place, place_rule, elect, handlers, event, case, cases, actions, field, order, key, keys, batch, level, levels, within, condition, unit, ands, ors, close, compare, operand, dot, word, operators, state, goes, moves}
+use Rattle.policy_grammar.specs.Symbols.{Symbol, the, load_rule, int, attrs, place, place_rule, elect, handlers, event, case, cases, actions, field, order, key, keys, batch, level, levels, within, condition, unit, ands, ors, close, compare, operand, dot, word, operators, state, goes}
+use Rattle.policy_grammar.specs.Machine.{moves}
 use Rattle.policy_grammar.specs.Machine.{kind_of}
 use Rattle.policy_grammar.specs.Levels.{within_always, level_of, levels_none}
-use Rattle.policy_grammar.proofs.Viable.{Token, token, any_word, acts, Cases, Keys, LevelChain, Compared, Further, Means, Are, are_none, are_more, Pulls, pulls, reference-further}
+use Rattle.policy_grammar.proofs.Pulled.{Token, token, any_word, acts, Cases, Keys, LevelChain, Compared, Further, Means, Are, are_none, are_more, Pulls, reference-further}
+use Rattle.policy_grammar.proofs.Viable.{pulls}
 
 -- a lexeme of that kind
 abbrev named : Terminal → Lexeme

@@ -7,7 +7,8 @@ use Rattle.policy_grammar.specs.declared.fault.ParseFault.{ParseFault}
 use Rattle.policy_grammar.specs.declared.fault.ParseFault.TheVariants.{Unexpected}
 use Rattle.policy_grammar.specs.Terminals.{kind_at}
 use Rattle.policy_grammar.specs.Breaks.{first_of}
-use Rattle.policy_grammar.specs.Machine.{Symbol, State, state, Move, refuses, goes, moves, all_nothing, after, run, go}
+use Rattle.policy_grammar.specs.Symbols.{Symbol, State, state, Move, refuses, goes, all_nothing}
+use Rattle.policy_grammar.specs.Machine.{moves, after, run, go}
 
 -- the answer, unless a limit is passed
 abbrev pub judged : Option ParseFault → Option ParseFault → Option ParseFault

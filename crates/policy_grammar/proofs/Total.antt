@@ -6,20 +6,21 @@ use Rattle.policy_grammar.specs.declared.terminal.Lexeme.{Lexeme}
 use Rattle.policy_grammar.specs.declared.limits.Limits.{Limits}
 use Rattle.policy_grammar.specs.declared.fault.ParseFault.{ParseFault}
 use Rattle.policy_grammar.specs.declared.fault.ParseFault.TheVariants.{Unexpected, Deep, Many, Memory}
-use Rattle.policy_grammar.specs.Answered.{HasAnswerIn, EachHasAnswer, EachHasLevelAnswer}
+use Rattle.policy_grammar.specs.Answered.{HasAnswerIn, EachHasAnswer, EachHasLevelTextAnswer}
 use Rattle.policy_grammar.specs.Breaks.{breaks_policy}
-use Rattle.policy_grammar.specs.LevelBreaks.{breaks_levels}
+use Rattle.policy_grammar.specs.LevelBreaks.{breaks_level_text}
 use Rattle.policy_grammar.specs.Levels.{IsLevels, levels_none}
 use Rattle.policy_grammar.specs.Conditions.{ands_none, ors_none}
 use Rattle.policy_grammar.specs.Expressions.{times_none, added_none}
-use Rattle.policy_grammar.specs.Machine.{Symbol, the, load_rule, int, attrs, place, place_rule, elect, handlers, event, case, cases, actions, field, order, key, keys, batch, level, levels, within, condition, unit, ands, ors, close, compare, operand, dot, word, operators, state, Move, refuses, goes, moves, all_nothing, is_nothing, kind_of, after, run, go, start, level_start}
+use Rattle.policy_grammar.specs.Symbols.{Symbol, the, load_rule, int, attrs, place, place_rule, elect, handlers, event, case, cases, actions, field, order, key, keys, batch, level, levels, within, condition, unit, ands, ors, close, compare, operand, dot, word, operators, state, Move, refuses, goes, all_nothing, is_nothing}
+use Rattle.policy_grammar.specs.Machine.{moves, kind_of, after, run, go, start, level_start}
 use Rattle.policy_grammar.specs.Orders.{keys_none}
 use Rattle.policy_grammar.specs.Policies.{IsPolicy, attrs_none, batch_none, cases_none, elect_none, handlers_none, place_none}
 use Rattle.policy_grammar.proofs.Exact.{Stops, at_end, refused, passed, course, fault-exact}
 use Rattle.policy_grammar.proofs.Languages.{IsLanguage, policies, level_texts}
 use Rattle.policy_grammar.proofs.Places.{IsHere, MovesHere, moves-here}
 use Rattle.policy_grammar.proofs.Reached.{Reach, reach-start}
-use Rattle.policy_grammar.proofs.Viable.{Are, are_none, are_more, Means}
+use Rattle.policy_grammar.proofs.Pulled.{Are, are_none, are_more, Means}
 
 module _ (text : List ℕ) (ts : List Lexeme) where
   -- what may be nothing is nothing anywhere
@@ -129,6 +130,6 @@ pub each_has_answer : EachHasAnswer
 each_has_answer limits text ts =
     has_answer limits text SyntaxTree (IsPolicy text) (breaks_policy limits) (start limits) (policies limits text) ts
 
-pub each_has_level_answer : EachHasLevelAnswer
+pub each_has_level_answer : EachHasLevelTextAnswer
 each_has_level_answer limits text ts =
-    has_answer limits text LevelSyntaxTree (IsLevels text) (breaks_levels limits) (level_start limits) (level_texts limits text) ts
+    has_answer limits text LevelSyntaxTree (IsLevels text) (breaks_level_text limits) (level_start limits) (level_texts limits text) ts

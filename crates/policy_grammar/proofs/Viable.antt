@@ -1,291 +1,31 @@
 -- What is read begins some policy: each stack of what is still to come can be completed, and what completes it
 -- completes the tokens before it.
-use Rattle.std.proofs.Common.{◌≡◌, ◌≢◌, ℕ, ◌+◌, ◌==◌, ◌||◌, ◌⊎◌, inl, inr, List, [], ◌∷◌, refl, sym, subst, arith, Bool, true, false, Option, None, ◌∙◌, if◌then◌else◌}
-use Rattle.std.proofs.lemmas.Bool.Decides.{eqb_tells}
+use Rattle.std.proofs.Common.{◌≡◌, ℕ, ◌+◌, ◌⊎◌, inl, inr, List, [], ◌∷◌, refl, subst, arith, Bool, true, false, Option, None}
 use Rattle.policy_tree.specs.declared.trees.Cmp.{Cmp}
-use Rattle.policy_tree.specs.declared.trees.Cmp.TheVariants as cmp
 use Rattle.policy_tree.specs.declared.typed.Event.{Event}
-use Rattle.policy_tree.specs.declared.typed.Event.TheVariants as event_is
 use Rattle.policy_tree.specs.declared.typed.Put.{Put}
-use Rattle.policy_tree.specs.declared.typed.Put.TheVariants as put_is
 use Rattle.policy_syntax.specs.declared.syntax.Owner.{Owner}
-use Rattle.policy_syntax.specs.declared.syntax.Owner.TheVariants as owner
 use Rattle.policy_syntax.specs.declared.syntax.IntSyntax.{IntSyntax}
-use Rattle.policy_syntax.specs.declared.syntax.LoadSyntax.{LoadSyntax}
 use Rattle.policy_syntax.specs.declared.syntax.AttrSyntax.{AttrSyntax}
-use Rattle.policy_syntax.specs.declared.syntax.PlaceSyntax.{PlaceSyntax}
-use Rattle.policy_syntax.specs.declared.syntax.SetSyntax.{SetSyntax}
 use Rattle.policy_syntax.specs.declared.syntax.ExprSyntax.{ExprSyntax}
-use Rattle.policy_syntax.specs.declared.syntax.TimesSyntax.{TimesSyntax}
-use Rattle.policy_syntax.specs.declared.syntax.AddedSyntax.{AddedSyntax}
-use Rattle.policy_syntax.specs.declared.syntax.OperandSyntax.{OperandSyntax}
-use Rattle.policy_syntax.specs.LevelTrees.{OneLevelSyntaxTree}
-use Rattle.policy_syntax.specs.SyntaxTrees.{ConditionTree, ConditionTrees, KeySyntaxTree, OrderSyntaxTree, ElectSyntaxTree, BatchSyntaxTree, CaseSyntaxTree, HandlerSyntaxTree}
+use Rattle.policy_syntax.specs.SyntaxTrees.{ConditionTree, BatchSyntaxTree}
 use Rattle.policy_grammar.specs.declared.terminal.Lexeme.{Lexeme}
-use Rattle.policy_grammar.specs.declared.terminal.Terminal.TheVariants.{Load, Count, Weight, Core, In, Start, Place, Here, Min, Max, Elect, On, Enqueue, Tick, Yield, Block, When, Queue, Keep, Within, Filter, And, Or, Not, Itself, Victim, Task, While, Limit, Prefer, Name, Number, Dot, Range, Comma, Colon, Open, Close, Begin, Finish, Plus, Minus, Star, Gets, Equal, Unequal, Less, AtMost, More, AtLeast}
+use Rattle.policy_grammar.specs.declared.terminal.Terminal.TheVariants.{Count, Weight, Core, In, Start, Place, Here, Min, Elect, On, When, Within, Filter, And, Or, Not, Task, While, Limit, Prefer, Name, Number, Dot, Range, Comma, Colon, Open, Close, Begin, Finish, Minus, Star, Gets}
 use Rattle.policy_grammar.specs.declared.terminal.Terminal.TheVariants as terminal_is
 use Rattle.policy_grammar.specs.declared.limits.Limits.{Limits}
 use Rattle.policy_grammar.specs.Terminals.{code, kind_at, is_word}
 use Rattle.policy_grammar.specs.Words.{attr_word, key_word, sign_word, owner_word, event_word, put_word, compare_word}
-use Rattle.policy_grammar.specs.Expressions.{IsInt, int_plain, int_signed, range_of, IsOperand, operand_number, operand_reference, factor_plain, factor_signed, IsTimes, times_none, times_more, term_of, IsAdded, added_none, added_more, IsExpr, expr_of}
-use Rattle.policy_grammar.specs.Conditions.{IsUnit, unit_always, unit_not, unit_group, unit_test, IsAnds, ands_none, ands_more, conjunction_of, IsOrs, ors_none, ors_more, IsCondition, condition_of}
-use Rattle.policy_grammar.specs.Orders.{IsKey, key_ranked, key_preferring, IsKeys, keys_none, keys_more, IsOrder, order_first, order_keys}
-use Rattle.policy_grammar.specs.Policies.{IsLoad, load_count, load_weight, attr_of, IsAttrs, attrs_none, attrs_more, IsPlace, place_none, place_here, place_least, IsElect, elect_none, elect_some, IsBatch, batch_none, batch_some, IsSets, sets_none, sets_more, IsCase, case_of, IsCases, cases_none, cases_more, handler_of, IsHandlers, handlers_none, handlers_more}
-use Rattle.policy_grammar.specs.Levels.{IsLevelWithin, within_always, within_test, IsLevel, level_of, IsLevelList, levels_none, levels_more}
-use Rattle.policy_grammar.specs.Machine.{Symbol, count_behind, the, load_rule, int, attrs, place, place_rule, elect, handlers, event, case, cases, actions, field, order, key, keys, batch, level, levels, within, condition, unit, ands, ors, close, compare, operand, dot, word, operators, state, Move, refuses, goes, is_compare, factor_move, unit_move, key_move, case_move, level_move, attr_move, symbol_move, moves}
-
-module _ (text : List ℕ) (ts : List Lexeme) where
-  -- a token of that kind stands there
-  pub data Token (kind : ℕ) : ℕ → ℕ → Type 0 where
-    token : {at : ℕ} → kind_at ts at ≡ kind → Token kind at (at + 1)
-
-  pub data Word : ℕ → ℕ → Type 0 where
-    any_word : {at : ℕ} → is_word (kind_at ts at) ≡ true → Word at (at + 1)
-
-  -- an assignment's part of a case, and where the thread is put
-  pub data Actions : ℕ → ℕ → Type 0 where
-    acts : {at last : ℕ} {sets : List SetSyntax} (put : Put) → IsSets text ts at sets last → kind_at ts last ≡ put_word put → Actions at (last + 1)
-
-  pub record Cases (at to : ℕ) : Type 0 where
-    pub first : CaseSyntaxTree
-    pub rest : List CaseSyntaxTree
-    pub mid : ℕ
-    pub is : IsCase text ts at first mid
-    pub are : IsCases text ts mid rest to
-
-  pub record Keys (at to : ℕ) : Type 0 where
-    pub first : KeySyntaxTree
-    pub rest : List KeySyntaxTree
-    pub mid : ℕ
-    pub is : IsKey text ts at first mid
-    pub are : IsKeys text ts mid rest to
-
-  pub record LevelChain (at to : ℕ) : Type 0 where
-    pub first : OneLevelSyntaxTree
-    pub rest : List OneLevelSyntaxTree
-    pub mid : ℕ
-    pub is : IsLevel text ts at first mid
-    pub are : IsLevelList text ts mid rest to
-
-  pub record Compared (at to : ℕ) : Type 0 where
-    pub by : Cmp
-    pub right : ExprSyntax
-    pub sign : kind_at ts at ≡ compare_word by
-    pub is : IsExpr text ts (at + 1) right to
-
-  pub record Further (at to : ℕ) : Type 0 where
-    pub times : List TimesSyntax
-    pub added : List AddedSyntax
-    pub mid : ℕ
-    pub are : IsTimes text ts at times mid
-    pub sums : IsAdded text ts mid added to
-
-  -- the tokens between two places are the symbol
-  abbrev pub Means : Symbol → ℕ → ℕ → Type 0
-  Means (the terminal) at to = Token (code terminal) at to
-  Means load_rule at to = (from : ℕ) → Token (code Load) from at → (v : LoadSyntax) × IsLoad ts from v to
-  Means int at to = (v : IntSyntax) × IsInt ts at v to
-  Means (attrs cores threads) at to = (us : List AttrSyntax) × IsAttrs text ts at us to
-  Means place at to = (p : Option PlaceSyntax) × IsPlace text ts at p to
-  Means place_rule at to = (from : ℕ) → Token (code Place) from at → (p : Option PlaceSyntax) × IsPlace text ts from p to
-  Means elect at to = (e : Option ElectSyntaxTree) × IsElect text ts at e to
-  Means handlers at to = (hs : List HandlerSyntaxTree) × IsHandlers text ts at hs to
-  Means event at to = (e : Event) × Token (event_word e) at to
-  Means (case before) at to = Cases at to
-  Means (cases before) at to = (cs : List CaseSyntaxTree) × IsCases text ts at cs to
-  Means (actions before) at to = Actions at to
-  Means field at to = Word at to
-  Means (order most) at to = (o : OrderSyntaxTree) × IsOrder text ts at o to
-  Means (key most before) at to = Keys at to
-  Means (keys most before) at to = (ks : List KeySyntaxTree) × IsKeys text ts at ks to
-  Means batch at to = (b : Option BatchSyntaxTree) × IsBatch text ts at b to
-  Means (level before) at to = LevelChain at to
-  Means (levels before) at to = (ls : List OneLevelSyntaxTree) × IsLevelList text ts at ls to
-  Means within at to = (v : ConditionTree) × IsLevelWithin text ts at v to
-  Means (condition most) at to = (v : ConditionTree) × IsCondition text ts at v to
-  Means (unit most depth) at to = (v : ConditionTree) × IsUnit text ts at v to
-  Means (ands most depth) at to = (us : ConditionTrees) × IsAnds text ts at us to
-  Means (ors most depth) at to = (cs : ConditionTrees) × IsOrs text ts at cs to
-  Means close at to = Token (code Close) at to
-  Means (compare most depth) at to = Compared at to
-  Means (operand base depth before) at to = (e : ExprSyntax) × IsExpr text ts at e to
-  Means (dot base before) at to = (from : ℕ) (o : Owner) → Token (owner_word o) from at → (e : ExprSyntax) × IsExpr text ts from e to
-  Means (word base before) at to = (from mid : ℕ) (o : Owner) → Token (owner_word o) from mid → Token (code Dot) mid at → (e : ExprSyntax) × IsExpr text ts from e to
-  Means (operators base before) at to = Further at to
-
-  pub data Are : List Symbol → ℕ → ℕ → Type 0 where
-    are_none : {at : ℕ} → Are [] at at
-    are_more : {symbol : Symbol} {below : List Symbol} {at to : ℕ} (mid : ℕ) → Means symbol at mid → Are below mid to → Are (symbol ∷ below) at to
-
-  -- a factor before what follows it is an expression
-  pub operand-further : {at mid to : ℕ} {v : OperandSyntax} → IsOperand text ts at v mid → Further mid to → (e : ExprSyntax) × IsExpr text ts at e to
-  operand-further d f = (_, expr_of (term_of (factor_plain d) f.are) f.sums)
-
-  signed-expr : {at to : ℕ} {e : ExprSyntax} → kind_at ts at ≡ code Minus → IsExpr text ts (at + 1) e to → (w : ExprSyntax) × IsExpr text ts at w to
-  signed-expr k (expr_of (term_of {first = first} d times) added) = (_, expr_of (term_of (factor_signed first k d) times) added)
-
-  star-expr : {at to : ℕ} {e : ExprSyntax} → kind_at ts at ≡ code Star → IsExpr text ts (at + 1) e to → Further at to
-  star-expr k (expr_of {rest = rest} (term_of d times) added) = record { times = _; added = rest; mid = _; are = times_more k d times; sums = added }
-
-  sign-expr : {at to : ℕ} {e : ExprSyntax} (minus : Bool) → kind_at ts at ≡ sign_word minus → IsExpr text ts (at + 1) e to → Further at to
-  sign-expr minus k (expr_of t added) = record { times = []; added = _; mid = _; are = times_none; sums = added_more minus k t added }
-
-  pub reference-further : {from mid at to : ℕ} (o : Owner) → Token (owner_word o) from mid → Token (code Dot) mid at → is_word (kind_at ts at) ≡ true →
-      Further (at + 1) to → (e : ExprSyntax) × IsExpr text ts from e to
-  reference-further {from = from} {to = to} o (token k) (token d) w f =
-      let two : from + 1 + 1 ≡ from + 2 = omega arith in
-      let three : from + 1 + 1 + 1 ≡ from + 3 = omega arith in
-      operand-further (operand_reference o k d (subst (λ n. is_word (kind_at ts n) ≡ true) two w)) (subst (λ n. Further n to) three f)
-
-  -- what completes the tokens behind a move completes them before it
-  abbrev pub Pulls : List Symbol → ℕ → ℕ → Move → Type 0
-  Pulls stack at to refuses = Unit {0}
-  Pulls stack at to (goes o (state count next)) = Are next (at + 1) to → Are stack at to
-
-  if-pulls : (stack : List Symbol) (at to k c : ℕ) (x y : Move) → (k ≡ c → Pulls stack at to x) → Pulls stack at to y →
-      Pulls stack at to (if k == c then x else y)
-  if-pulls stack at to k c x y f h = by (eqb_tells k c)
-    where
-      by : (((k == c) ≡ true) × (k ≡ c)) ⊎ (((k == c) ≡ false) × (k ≢ c)) → Pulls stack at to (if k == c then x else y)
-      by (inl p) = rw p.0 (f p.1)
-      by (inr p) = rw p.0 h
-
-  -- a test by several kinds
-  any-pulls : (stack : List Symbol) (at to : ℕ) (b : Bool) (x y : Move) → (b ≡ true → Pulls stack at to x) → Pulls stack at to y →
-      Pulls stack at to (if b then x else y)
-  any-pulls stack at to true x y f h = f refl
-  any-pulls stack at to false x y f h = h
-
-  -- the token is the whole symbol
-  takes : (stack below : List Symbol) (at to count k c : ℕ) (y : Move) → (k ≡ c → Are below (at + 1) to → Are stack at to) → Pulls stack at to y →
-      Pulls stack at to (if k == c then goes None (state count below) else y)
-  takes stack below at to count k c y f h = if-pulls stack at to k c (goes None (state count below)) y f h
-
-  any-takes : (stack below : List Symbol) (at to count : ℕ) (b : Bool) (y : Move) → (b ≡ true → Are below (at + 1) to → Are stack at to) → Pulls stack at to y →
-      Pulls stack at to (if b then goes None (state count below) else y)
-  any-takes stack below at to count b y f h = any-pulls stack at to b (goes None (state count below)) y f h
-
-  -- a symbol that may be nothing leaves the token to those below
-  lift-pulls : (stack below : List Symbol) (at to : ℕ) (m : Move) → (Are below at to → Are stack at to) → Pulls below at to m → Pulls stack at to m
-  lift-pulls stack below at to refuses f h = tt
-  lift-pulls stack below at to (goes o (state count next)) f h = λ means. f (h means)
-
-or-cases : (a b : Bool) → (a || b) ≡ true → (a ≡ true) ⊎ (b ≡ true)
-or-cases true b e = inl refl
-or-cases false b e = inr e
-
-eqb-same : (k c : ℕ) → (k == c) ≡ true → k ≡ c
-eqb-same k c e = by (eqb_tells k c)
-  where
-    by : (((k == c) ≡ true) × (k ≡ c)) ⊎ (((k == c) ≡ false) × (k ≢ c)) → k ≡ c
-    by (inl p) = p.1
-    by (inr p) = let clash = sym p.0 ∙ e in cc
-
-owner-by : (k : ℕ) → (((k == code Itself) || (k == code Victim)) || ((k == code Core) || (k == code Task))) ≡ true → (o : Owner) × (k ≡ owner_word o)
-owner-by k e = by (or-cases _ _ e)
-  where
-    one : ((k == code Itself) ≡ true) ⊎ ((k == code Victim) ≡ true) → (o : Owner) × (k ≡ owner_word o)
-    one (inl p) = (owner.Itself, eqb-same k _ p)
-    one (inr p) = (owner.Victim, eqb-same k _ p)
-
-    other : ((k == code Core) ≡ true) ⊎ ((k == code Task) ≡ true) → (o : Owner) × (k ≡ owner_word o)
-    other (inl p) = (owner.Core, eqb-same k _ p)
-    other (inr p) = (owner.Thread, eqb-same k _ p)
-
-    by : (((k == code Itself) || (k == code Victim)) ≡ true) ⊎ (((k == code Core) || (k == code Task)) ≡ true) → (o : Owner) × (k ≡ owner_word o)
-    by (inl p) = one (or-cases _ _ p)
-    by (inr p) = other (or-cases _ _ p)
-
-event-by : (k : ℕ) → (((k == code Enqueue) || (k == code Tick)) || ((k == code Yield) || (k == code Block))) ≡ true → (e : Event) × (k ≡ event_word e)
-event-by k e = by (or-cases _ _ e)
-  where
-    one : ((k == code Enqueue) ≡ true) ⊎ ((k == code Tick) ≡ true) → (e : Event) × (k ≡ event_word e)
-    one (inl p) = (event_is.Enqueue, eqb-same k _ p)
-    one (inr p) = (event_is.Tick, eqb-same k _ p)
-
-    other : ((k == code Yield) ≡ true) ⊎ ((k == code Block) ≡ true) → (e : Event) × (k ≡ event_word e)
-    other (inl p) = (event_is.Yield, eqb-same k _ p)
-    other (inr p) = (event_is.Block, eqb-same k _ p)
-
-    by : (((k == code Enqueue) || (k == code Tick)) ≡ true) ⊎ (((k == code Yield) || (k == code Block)) ≡ true) → (e : Event) × (k ≡ event_word e)
-    by (inl p) = one (or-cases _ _ p)
-    by (inr p) = other (or-cases _ _ p)
-
-put-by : (k : ℕ) → (((k == code Queue) || (k == code Keep)) || (k == code Block)) ≡ true → (p : Put) × (k ≡ put_word p)
-put-by k e = by (or-cases _ _ e)
-  where
-    one : ((k == code Queue) ≡ true) ⊎ ((k == code Keep) ≡ true) → (p : Put) × (k ≡ put_word p)
-    one (inl p) = (put_is.Queue, eqb-same k _ p)
-    one (inr p) = (put_is.Keep, eqb-same k _ p)
-
-    by : (((k == code Queue) || (k == code Keep)) ≡ true) ⊎ ((k == code Block) ≡ true) → (p : Put) × (k ≡ put_word p)
-    by (inl p) = one (or-cases _ _ p)
-    by (inr p) = (put_is.Block, eqb-same k _ p)
-
-compare-by : (k : ℕ) → is_compare k ≡ true → (c : Cmp) × (k ≡ compare_word c)
-compare-by k e = by (or-cases _ _ e)
-  where
-    low : ((k == code Equal) ≡ true) ⊎ ((k == code Unequal) ≡ true) → (c : Cmp) × (k ≡ compare_word c)
-    low (inl p) = (cmp.Eq, eqb-same k _ p)
-    low (inr p) = (cmp.Ne, eqb-same k _ p)
-
-    one : (((k == code Equal) || (k == code Unequal)) ≡ true) ⊎ ((k == code Less) ≡ true) → (c : Cmp) × (k ≡ compare_word c)
-    one (inl p) = low (or-cases _ _ p)
-    one (inr p) = (cmp.Lt, eqb-same k _ p)
-
-    high : ((k == code AtMost) ≡ true) ⊎ ((k == code More) ≡ true) → (c : Cmp) × (k ≡ compare_word c)
-    high (inl p) = (cmp.Le, eqb-same k _ p)
-    high (inr p) = (cmp.Gt, eqb-same k _ p)
-
-    other : (((k == code AtMost) || (k == code More)) ≡ true) ⊎ ((k == code AtLeast) ≡ true) → (c : Cmp) × (k ≡ compare_word c)
-    other (inl p) = high (or-cases _ _ p)
-    other (inr p) = (cmp.Ge, eqb-same k _ p)
-
-    by : ((((k == code Equal) || (k == code Unequal)) || (k == code Less)) ≡ true) ⊎ ((((k == code AtMost) || (k == code More)) || (k == code AtLeast)) ≡ true) → (c : Cmp) × (k ≡ compare_word c)
-    by (inl p) = one (or-cases _ _ p)
-    by (inr p) = other (or-cases _ _ p)
-
-operator-by : (k : ℕ) → (((k == code Star) || (k == code Plus)) || (k == code Minus)) ≡ true → (k ≡ code Star) ⊎ ((m : Bool) × (k ≡ sign_word m))
-operator-by k e = by (or-cases _ _ e)
-  where
-    one : ((k == code Star) ≡ true) ⊎ ((k == code Plus) ≡ true) → (k ≡ code Star) ⊎ ((m : Bool) × (k ≡ sign_word m))
-    one (inl p) = inl (eqb-same k _ p)
-    one (inr p) = inr (false, eqb-same k _ p)
-
-    by : (((k == code Star) || (k == code Plus)) ≡ true) ⊎ ((k == code Minus) ≡ true) → (k ≡ code Star) ⊎ ((m : Bool) × (k ≡ sign_word m))
-    by (inl p) = one (or-cases _ _ p)
-    by (inr p) = inr (true, eqb-same k _ p)
-
-key-by : (k : ℕ) → ((k == code Min) || (k == code Max)) ≡ true → (g : Bool) × (k ≡ key_word g)
-key-by k e = by (or-cases _ _ e)
-  where
-    by : ((k == code Min) ≡ true) ⊎ ((k == code Max) ≡ true) → (g : Bool) × (k ≡ key_word g)
-    by (inl p) = (false, eqb-same k _ p)
-    by (inr p) = (true, eqb-same k _ p)
+use Rattle.policy_grammar.specs.Expressions.{IsInt, int_plain, int_signed, range_of, operand_number, times_none, added_none, IsExpr}
+use Rattle.policy_grammar.specs.Conditions.{IsUnit, unit_always, unit_not, unit_group, unit_test, ands_none, ands_more, conjunction_of, ors_none, ors_more, condition_of}
+use Rattle.policy_grammar.specs.Orders.{key_ranked, key_preferring, keys_none, keys_more, order_first, order_keys}
+use Rattle.policy_grammar.specs.Policies.{attr_of, IsAttrs, attrs_none, attrs_more, place_none, elect_none, elect_some, IsBatch, batch_none, batch_some, sets_none, sets_more, IsCase, case_of, cases_none, cases_more, handler_of, handlers_none, handlers_more}
+use Rattle.policy_grammar.specs.Levels.{IsLevelWithin, within_always, within_test, level_of, levels_none, levels_more}
+use Rattle.policy_grammar.specs.Symbols.{Symbol, count_behind, the, load_rule, int, attrs, place, place_rule, elect, handlers, event, case, cases, actions, field, order, key, keys, batch, level, levels, within, condition, unit, ands, ors, close, compare, operand, dot, word, operators, Move, refuses}
+use Rattle.policy_grammar.specs.Machine.{factor_move, unit_move, key_move, case_move, level_move, attr_move, symbol_move, moves}
+use Rattle.policy_grammar.proofs.Pulled.{load-count, load-weight, place-here, place-least, Are, Cases, Keys, LevelChain, Pulls, acts, any-pulls, any-takes, any_word, are_more, if-pulls, lift-pulls, operand-further, reference-further, sign-expr, signed-expr, star-expr, takes, token}
+use Rattle.policy_grammar.proofs.TokenWords.{compare-by, event-by, key-by, operator-by, owner-by, put-by}
 
 module _ (limits : Limits) (text : List ℕ) (ts : List Lexeme) where
-  two : (at : ℕ) → at + 1 + 1 ≡ at + 2
-  two at = omega arith
-
-  load-count : {from at to : ℕ} → kind_at ts at ≡ code Count → Token text ts (code Load) from at → to ≡ at + 1 → (v : LoadSyntax) × IsLoad ts from v to
-  load-count {from = from} k (token l) e =
-      let there : from + 2 ≡ from + 1 + 1 = omega arith in
-      subst (λ n. (v : LoadSyntax) × IsLoad ts from v n) (there ∙ sym e) (_, load_count l k)
-
-  load-weight : {from at to : ℕ} {low high : IntSyntax} {mid last : ℕ} → kind_at ts at ≡ code Weight → IsInt ts (at + 1) low mid → Token text ts (code Range) mid last →
-      IsInt ts last high to → Token text ts (code Load) from at → (v : LoadSyntax) × IsLoad ts from v to
-  load-weight {from = from} {low = low} {mid = mid} k d (token r) h (token l) =
-      (_, load_weight l k (range_of (subst (λ n. IsInt ts n low mid) (two from) d) r h))
-
-  place-here : {from at to : ℕ} → kind_at ts at ≡ code Here → Token text ts (code Place) from at → to ≡ at + 1 → (p : Option PlaceSyntax) × IsPlace text ts from p to
-  place-here {from = from} k (token l) e =
-      let there : from + 2 ≡ from + 1 + 1 = omega arith in
-      subst (λ n. (p : Option PlaceSyntax) × IsPlace text ts from p n) (there ∙ sym e) (_, place_here l k)
-
-  place-least : {from at to : ℕ} {e : ExprSyntax} → kind_at ts at ≡ code Min → IsExpr text ts (at + 1) e to → Token text ts (code Place) from at →
-      (p : Option PlaceSyntax) × IsPlace text ts from p to
-  place-least {from = from} {to = to} {e = e} k d (token l) = (_, place_least l k (subst (λ n. IsExpr text ts n e to) (two from) d))
-
   factor-pulls : (at to count base depth before : ℕ) (below stack : List Symbol) →
       ((e : ExprSyntax) (mid : ℕ) → IsExpr text ts at e mid → Are text ts below mid to → Are text ts stack at to) →
       Pulls text ts stack at to (factor_move limits count base depth before at below (kind_at ts at))
@@ -390,12 +130,12 @@ module _ (limits : Limits) (text : List ℕ) (ts : List Lexeme) where
       (λ k rest. are_more {symbol = the terminal} (at + 1) (token k) rest) tt
   symbol-pulls at to count load_rule below outer out =
       takes text ts _ below at to _ _ (code terminal_is.Count) _
-      (λ k rest. are_more (at + 1) (λ from l. load-count k l refl) rest)
+      (λ k rest. are_more (at + 1) (λ from l. load-count text ts k l refl) rest)
       (if-pulls text ts _ at to _ (code terminal_is.Weight) _ _ (λ k. weighs k) tt)
     where
       weighs : kind_at ts at ≡ code Weight → Are text ts (int ∷ the Range ∷ int ∷ below) (at + 1) to → Are text ts (load_rule ∷ below) at to
       weighs k (are_more m1 low (are_more m2 r (are_more m3 high rest))) =
-          are_more m3 (λ from l. load-weight k low.1 r high.1 l) rest
+          are_more m3 (λ from l. load-weight text ts k low.1 r high.1 l) rest
   symbol-pulls at to count int below outer out =
       takes text ts _ below at to _ _ (code terminal_is.Number) _ (λ k rest. are_more (at + 1) (_, int_plain k) rest)
       (if-pulls text ts _ at to _ (code terminal_is.Minus) _ _ (λ k. signs k) tt)
@@ -414,11 +154,11 @@ module _ (limits : Limits) (text : List ℕ) (ts : List Lexeme) where
       places k (are_more m1 f rest) = are_more m1 (f at (token k)) rest
   symbol-pulls at to count place_rule below outer out =
       takes text ts _ below at to _ _ (code terminal_is.Here) _
-      (λ k rest. are_more (at + 1) (λ from l. place-here k l refl) rest)
+      (λ k rest. are_more (at + 1) (λ from l. place-here text ts k l refl) rest)
       (if-pulls text ts _ at to _ (code terminal_is.Min) _ _ (λ k. least k) tt)
     where
       least : kind_at ts at ≡ code Min → Are text ts (operand 0 0 0 ∷ below) (at + 1) to → Are text ts (place_rule ∷ below) at to
-      least k (are_more m1 e rest) = are_more m1 (λ from l. place-least k e.1 l) rest
+      least k (are_more m1 e rest) = are_more m1 (λ from l. place-least text ts k e.1 l) rest
   symbol-pulls at to count elect below outer out =
       if-pulls text ts _ at to _ (code terminal_is.Elect) _ _ (λ k. elects k) (lift-pulls text ts _ below at to outer (λ rest. are_more at (None, elect_none) rest) out)
     where

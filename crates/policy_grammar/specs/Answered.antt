@@ -8,7 +8,7 @@ use Rattle.policy_grammar.specs.declared.fault.ParseFault.{ParseFault}
 use Rattle.policy_grammar.specs.declared.fault.ParseFault.TheVariants.{Memory}
 use Rattle.policy_grammar.specs.Breaks.{breaks_policy}
 use Rattle.policy_grammar.specs.Correct.{IsFaultIn, IsWithinIn}
-use Rattle.policy_grammar.specs.LevelBreaks.{breaks_levels}
+use Rattle.policy_grammar.specs.LevelBreaks.{breaks_level_text}
 use Rattle.policy_grammar.specs.Levels.{IsLevels}
 use Rattle.policy_grammar.specs.Policies.{IsPolicy}
 
@@ -23,12 +23,12 @@ abbrev pub HasAnswer : Limits → List ℕ → List Lexeme → Type 0
 HasAnswer limits text ts = HasAnswerIn SyntaxTree (IsPolicy text) (breaks_policy limits) ts
 
 -- as level texts
-abbrev pub HasLevelAnswer : Limits → List ℕ → List Lexeme → Type 0
-HasLevelAnswer limits text ts = HasAnswerIn LevelSyntaxTree (IsLevels text) (breaks_levels limits) ts
+abbrev pub HasLevelTextAnswer : Limits → List ℕ → List Lexeme → Type 0
+HasLevelTextAnswer limits text ts = HasAnswerIn LevelSyntaxTree (IsLevels text) (breaks_level_text limits) ts
 
 -- any tokens have an answer
 abbrev pub EachHasAnswer : Type 0
 EachHasAnswer = (limits : Limits) (text : List ℕ) (ts : List Lexeme) → HasAnswer limits text ts
 
-abbrev pub EachHasLevelAnswer : Type 0
-EachHasLevelAnswer = (limits : Limits) (text : List ℕ) (ts : List Lexeme) → HasLevelAnswer limits text ts
+abbrev pub EachHasLevelTextAnswer : Type 0
+EachHasLevelTextAnswer = (limits : Limits) (text : List ℕ) (ts : List Lexeme) → HasLevelTextAnswer limits text ts

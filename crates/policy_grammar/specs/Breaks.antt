@@ -181,13 +181,24 @@ abbrev pub breaks_batch : Limits → Option BatchSyntaxTree → Option ParseFaul
 breaks_batch limits None = None
 breaks_batch limits (Some batch) = breaks_condition limits limits.comparisons 0 0 batch.condition
 
+-- the first limit that the parts of a text pass: those before its filter, what stands in place of one, and what
+-- stands behind
+abbrev pub breaks_around : Limits → List AttrSyntax → Option PlaceSyntax → Option ElectSyntaxTree →
+    List HandlerSyntaxTree → Option ParseFault → Option ParseFault → Option ParseFault
+breaks_around limits attrs place elect handlers filter choices =
+    first_of (breaks_attrs limits 0 0 attrs)
+    (first_of (breaks_place limits place)
+    (first_of (breaks_elect limits elect)
+    (first_of (breaks_handlers limits handlers) (first_of filter choices))))
+
+-- the orders, of which `choose` may have so many keys, and the batch
+abbrev pub breaks_choices : Limits → ℕ → OrderSyntaxTree → OrderSyntaxTree → Option BatchSyntaxTree → Option ParseFault
+breaks_choices limits most choose steal batch =
+    first_of (breaks_order limits most choose)
+    (first_of (breaks_order limits limits.keys steal) (breaks_batch limits batch))
+
 -- the first limit that a policy passes
 abbrev pub breaks_policy : Limits → SyntaxTree → Option ParseFault
 breaks_policy limits s =
-    first_of (breaks_attrs limits 0 0 s.attrs)
-    (first_of (breaks_place limits s.place)
-    (first_of (breaks_elect limits s.elect)
-    (first_of (breaks_handlers limits s.handlers)
-    (first_of (breaks_condition limits limits.comparisons 0 0 s.filter)
-    (first_of (breaks_order limits limits.keys s.choose)
-    (first_of (breaks_order limits limits.keys s.steal) (breaks_batch limits s.batch)))))))
+    breaks_around limits s.attrs s.place s.elect s.handlers (breaks_condition limits limits.comparisons 0 0 s.filter)
+    (breaks_choices limits limits.keys s.choose s.steal s.batch)

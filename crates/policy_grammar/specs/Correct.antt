@@ -10,7 +10,7 @@ use Rattle.policy_grammar.specs.declared.fault.ParseFault.TheVariants.{Unexpecte
 use Rattle.policy_grammar.specs.Policies.{IsPolicy}
 use Rattle.policy_grammar.specs.Levels.{IsLevels}
 use Rattle.policy_grammar.specs.Breaks.{breaks_policy}
-use Rattle.policy_grammar.specs.LevelBreaks.{breaks_levels}
+use Rattle.policy_grammar.specs.LevelBreaks.{breaks_level_text}
 
 -- some text begins with these tokens
 pub record BeginsIn (Tree : Type 0) (Is : List Lexeme → Tree → Type 0) (ps : List Lexeme) : Type 0 where
@@ -64,8 +64,8 @@ abbrev pub IsWithin : Limits → List ℕ → List Lexeme → SyntaxTree → Typ
 IsWithin limits text = IsWithinIn SyntaxTree (IsPolicy text) (breaks_policy limits)
 
 -- of level texts
-abbrev pub IsLevelFault : Limits → List ℕ → List Lexeme → ParseFault → Type 0
-IsLevelFault limits text = IsFaultIn LevelSyntaxTree (IsLevels text) (breaks_levels limits)
+abbrev pub IsLevelTextFault : Limits → List ℕ → List Lexeme → ParseFault → Type 0
+IsLevelTextFault limits text = IsFaultIn LevelSyntaxTree (IsLevels text) (breaks_level_text limits)
 
-abbrev pub AreWithin : Limits → List ℕ → List Lexeme → LevelSyntaxTree → Type 0
-AreWithin limits text = IsWithinIn LevelSyntaxTree (IsLevels text) (breaks_levels limits)
+abbrev pub IsLevelTextWithin : Limits → List ℕ → List Lexeme → LevelSyntaxTree → Type 0
+IsLevelTextWithin limits text = IsWithinIn LevelSyntaxTree (IsLevels text) (breaks_level_text limits)

@@ -3,8 +3,7 @@ use Rattle.std.specs.Prelude.{ℕ, ◌+◌, List, [], ◌∷◌, Option, None}
 use Rattle.policy_syntax.specs.LevelTrees.{OneLevelSyntaxTree, LevelSyntaxTree}
 use Rattle.policy_grammar.specs.declared.limits.Limits.{Limits}
 use Rattle.policy_grammar.specs.declared.fault.ParseFault.{ParseFault}
-use Rattle.policy_grammar.specs.Breaks.{many, first_of, breaks_attrs, breaks_place, breaks_elect, breaks_handlers}
-use Rattle.policy_grammar.specs.Breaks.{breaks_condition, breaks_order, breaks_batch}
+use Rattle.policy_grammar.specs.Breaks.{many, first_of, breaks_condition, breaks_around, breaks_choices}
 
 -- the comparison of its `within` is one, and doesn't count among those of its filter
 abbrev pub breaks_level : Limits → OneLevelSyntaxTree → Option ParseFault
@@ -19,12 +18,7 @@ breaks_level_list limits count (l ∷ rest) =
     (first_of (breaks_level limits l) (breaks_level_list limits (count + 1) rest))
 
 -- the first limit that a level text passes
-abbrev pub breaks_levels : Limits → LevelSyntaxTree → Option ParseFault
-breaks_levels limits s =
-    first_of (breaks_attrs limits 0 0 s.attrs)
-    (first_of (breaks_place limits s.place)
-    (first_of (breaks_elect limits s.elect)
-    (first_of (breaks_handlers limits s.handlers)
-    (first_of (breaks_level_list limits 0 s.levels)
-    (first_of (breaks_order limits limits.level_keys s.choose)
-    (first_of (breaks_order limits limits.keys s.steal) (breaks_batch limits s.batch)))))))
+abbrev pub breaks_level_text : Limits → LevelSyntaxTree → Option ParseFault
+breaks_level_text limits s =
+    breaks_around limits s.attrs s.place s.elect s.handlers (breaks_level_list limits 0 s.levels)
+    (breaks_choices limits limits.level_keys s.choose s.steal s.batch)

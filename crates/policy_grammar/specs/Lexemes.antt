@@ -101,11 +101,11 @@ lexemes_in language text tokens = map (lexeme_in language text) tokens
 abbrev pub kind_terminal : TokenKind → List ℕ → Terminal
 kind_terminal kind bytes = kind_terminal_in Policies kind bytes
 
-abbrev pub lexeme_of : List ℕ → Token → Lexeme
-lexeme_of text token = lexeme_in Policies text token
+abbrev pub policy_lexeme : List ℕ → Token → Lexeme
+policy_lexeme text token = lexeme_in Policies text token
 
-abbrev pub lexemes_of : List ℕ → List Token → List Lexeme
-lexemes_of text tokens = lexemes_in Policies text tokens
+abbrev pub policy_lexemes : List ℕ → List Token → List Lexeme
+policy_lexemes text tokens = lexemes_in Policies text tokens
 
 -- whether the token is the word `levels`
 abbrev pub is_levels : List ℕ → Token → Bool

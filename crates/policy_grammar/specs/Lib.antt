@@ -10,6 +10,7 @@ pub mod Breaks
 pub mod LevelBreaks
 pub mod Lexemes
 pub mod OneTree
+pub mod Symbols
 pub mod Machine
 pub mod Correct
 pub mod Sizes

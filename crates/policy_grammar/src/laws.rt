@@ -1,6 +1,6 @@
 //! Laws of the grammar.
 
-ghost use Rattle.policy_grammar.specs.Answered.{EachHasAnswer, EachHasLevelAnswer};
+ghost use Rattle.policy_grammar.specs.Answered.{EachHasAnswer, EachHasLevelTextAnswer};
 ghost use Rattle.policy_grammar.specs.OneTree.{HasOneLevelTree, HasOneTree};
 ghost use Rattle.policy_grammar.specs.Sizes.{PolicyLimitsAreSaid};
 
@@ -21,7 +21,7 @@ pub fn law_each_has_answer()
 
 /// Any tokens are a level text within the limits, or have a fault as one.
 pub fn law_each_has_level_answer()
-    ensures { EachHasLevelAnswer }
+    ensures { EachHasLevelTextAnswer }
 {}
 
 /// The limits of policies and of level texts are these numbers.

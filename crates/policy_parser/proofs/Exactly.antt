@@ -4,7 +4,8 @@ use Rattle.policy_grammar.specs.declared.terminal.Lexeme.{Lexeme}
 use Rattle.policy_grammar.specs.declared.limits.Limits.{Limits}
 use Rattle.policy_grammar.specs.declared.fault.ParseFault.{ParseFault}
 use Rattle.policy_grammar.specs.declared.fault.ParseFault.TheVariants.{Unexpected, Deep, Many, Memory}
-use Rattle.policy_grammar.specs.Machine.{Symbol, go}
+use Rattle.policy_grammar.specs.Symbols.{Symbol}
+use Rattle.policy_grammar.specs.Machine.{go}
 use Rattle.policy_grammar.specs.Correct.{IsWithinIn, IsFaultIn}
 use Rattle.policy_grammar.proofs.Exact.{fault-exact}
 use Rattle.policy_grammar.proofs.Languages.{IsLanguage}

@@ -1,14 +1,15 @@
 -- What one token of a level does, as the parser tests it.
-use Rattle.std.proofs.Common.{◌≡◌, ◌<◌, ◌≤◌, ℕ, ◌+◌, ◌==◌, List, ◌∷◌, refl, sym, lit<, false, Option, Some, None, ◌∙◌}
+use Rattle.std.proofs.Common.{◌≡◌, ◌<◌, ◌≤◌, ℕ, ◌+◌, ◌==◌, List, ◌∷◌, refl, sym, lit<, false, Some, None, ◌∙◌}
 use Rattle.policy_grammar.specs.declared.terminal.Lexeme.{Lexeme}
 use Rattle.policy_grammar.specs.declared.limits.Limits.{Limits}
 use Rattle.policy_grammar.specs.declared.fault.ParseFault.TheVariants.{Unexpected, Many}
 use Rattle.policy_grammar.specs.declared.terminal.Terminal.TheVariants.{Level, Within, Filter, Always}
 use Rattle.policy_grammar.specs.Terminals.{code, kind_at}
 use Rattle.policy_grammar.specs.Breaks.{many}
-use Rattle.policy_grammar.specs.Machine.{Symbol, the, level, levels, within, condition, compare, operand, go}
+use Rattle.policy_grammar.specs.Symbols.{Symbol, the, level, levels, within, condition, compare, operand}
+use Rattle.policy_grammar.specs.Machine.{go}
 use Rattle.policy_grammar.proofs.Steps.{judged, go-stuck, go-same, go-move}
-use Rattle.policy_parser.proofs.Moves.{kept, broken, within-many, past-many}
+use Rattle.policy_parser.proofs.Judged.{kept, broken, within-many, past-many}
 
 module _ (limits : Limits) (ts : List Lexeme) (at : ℕ) where
   level-move : (before : ℕ) (below : List Symbol) → kind_at ts at ≡ code Level →

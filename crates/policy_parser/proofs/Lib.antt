@@ -1,3 +1,5 @@
+pub mod Judged
+pub mod PartMoves
 pub mod Moves
 pub mod Parts
 pub mod Chains

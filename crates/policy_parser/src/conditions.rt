@@ -7,7 +7,8 @@ ghost use Rattle.policy_grammar.specs.declared.terminal.Terminal.TheVariants.{No
 ghost use Rattle.policy_grammar.specs.Words.{compare_word};
 ghost use Rattle.policy_grammar.specs.Conditions.{IsUnit, IsConjunction, IsCondition};
 ghost use Rattle.policy_grammar.specs.Levels.{IsLevelWithin};
-ghost use Rattle.policy_grammar.specs.Machine.{Symbol, unit, ands, ors, compare, operand, is_compare, go};
+ghost use Rattle.policy_grammar.specs.Symbols.{Symbol, unit, ands, ors, compare, operand, is_compare};
+ghost use Rattle.policy_grammar.specs.Machine.{go};
 ghost use Rattle.policy_parser.specs.Answers.{Answers};
 
 use crate::source::{Source, both};
@@ -31,7 +32,8 @@ impl<'a> Source<'a> {
         ensures later { IfOk result (λ x. (at < x.1) × (x.1 ≤ length self.now.lexemes.now)) }
         ensures is { IfOk result (λ x. IsCondition self.now.text.now self.now.lexemes.now at (condition_tree x.0) x.1) }
         ensures reads { (below : List Symbol) →
-            Answers (go self.now.limits self.now.lexemes.now at count (unit most depth ∷ ands most depth ∷ ors most depth ∷ below))
+            Answers (go self.now.limits self.now.lexemes.now at count
+            (unit most depth ∷ ands most depth ∷ ors most depth ∷ below))
             (λ x. go self.now.limits self.now.lexemes.now x.1 x.2 below) result }
     {
         let (first, mut next, mut counted) = self.conjunction(at, most, depth, count)?;
@@ -182,7 +184,8 @@ impl<'a> Source<'a> {
         ensures test { IfOk result (λ x. IsLevelWithin self.now.text.now self.now.lexemes.now at
             (condition_tree x.0) x.1) }
         ensures reads { (below : List Symbol) →
-            Answers (go self.now.limits self.now.lexemes.now at count (operand depth depth 0 ∷ compare most depth ∷ below))
+            Answers (go self.now.limits self.now.lexemes.now at count
+            (operand depth depth 0 ∷ compare most depth ∷ below))
             (λ x. go self.now.limits self.now.lexemes.now x.1 x.2 below) result }
     {
         let (left, sign_at) = self.expression(at, depth)?;

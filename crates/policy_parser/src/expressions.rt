@@ -5,7 +5,8 @@ ghost use Rattle.policy_grammar.specs.Terminals.{code, kind_at};
 ghost use Rattle.policy_grammar.specs.declared.terminal.Terminal.TheVariants.{Minus, Plus, Star};
 ghost use Rattle.policy_grammar.specs.Words.{owner_word, sign_word};
 ghost use Rattle.policy_grammar.specs.Expressions.{IsOperand, IsFactor, IsTerm, IsAdded, IsExpr};
-ghost use Rattle.policy_grammar.specs.Machine.{Symbol, operand, operators, is_owner, go};
+ghost use Rattle.policy_grammar.specs.Symbols.{Symbol, operand, operators, is_owner};
+ghost use Rattle.policy_grammar.specs.Machine.{go};
 ghost use Rattle.policy_parser.specs.Answers.{Answers, IsOver};
 
 use crate::source::{Source, both};

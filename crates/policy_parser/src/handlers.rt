@@ -5,8 +5,9 @@ ghost use Rattle.policy_grammar.specs.declared.terminal.Terminal.TheVariants.{On
 ghost use Rattle.policy_grammar.specs.Terminals.{code, kind_at};
 ghost use Rattle.policy_grammar.specs.Words.{put_word, event_word};
 ghost use Rattle.policy_grammar.specs.Policies.{IsCase, IsHandler, IsHandlers, IsSets};
-ghost use Rattle.policy_grammar.specs.Machine.{Symbol, the, actions, case, cases, handlers, is_put, is_event, field};
-ghost use Rattle.policy_grammar.specs.Machine.{operand, unit, ands, ors, go};
+ghost use Rattle.policy_grammar.specs.Symbols.{Symbol, the, actions, case, cases, handlers, is_put, is_event, field};
+ghost use Rattle.policy_grammar.specs.Symbols.{operand, unit, ands, ors};
+ghost use Rattle.policy_grammar.specs.Machine.{go};
 ghost use Rattle.policy_syntax.specs.SyntaxTrees.{case_syntax_tree, condition_tree, handler_syntax_tree};
 ghost use Rattle.policy_parser.specs.Answers.{Answers};
 ghost use Rattle.policy_parser.specs.Cases.{Cased};
@@ -119,8 +120,8 @@ impl<'a> Source<'a> {
         ensures is { IfOk result (λ x. IsGuard self.now.text.now self.now.lexemes.now at (condition_tree x.0) x.1) }
         ensures reads { (below : List Symbol) →
             Answers (go self.now.limits self.now.lexemes.now at 0
-            (unit self.now.limits.comparisons 0 ∷ ands self.now.limits.comparisons 0 ∷ ors self.now.limits.comparisons 0 ∷
-            the Colon ∷ below))
+            (unit self.now.limits.comparisons 0 ∷ ands self.now.limits.comparisons 0 ∷
+            ors self.now.limits.comparisons 0 ∷ the Colon ∷ below))
             (λ x. go self.now.limits self.now.lexemes.now x.1 0 below) result }
     {
         let (guard, colon_at, _count) = self.condition(at, self.limits.comparisons, 0, 0)?;

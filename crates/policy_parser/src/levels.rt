@@ -5,7 +5,7 @@ ghost use Rattle.policy_grammar.specs.declared.terminal.Terminal.TheVariants.{Fi
 ghost use Rattle.policy_grammar.specs.Terminals.{code, kind_at};
 ghost use Rattle.policy_grammar.specs.Conditions.{IsCondition};
 ghost use Rattle.policy_grammar.specs.Levels.{IsLevelWithin, IsLevel, IsLevels};
-ghost use Rattle.policy_grammar.specs.Machine.{Symbol, the, handlers, level, levels, within, condition, order, batch};
+ghost use Rattle.policy_grammar.specs.Symbols.{Symbol, the, handlers, level, levels, within, condition, order, batch};
 ghost use Rattle.policy_grammar.specs.Machine.{level_start, go};
 ghost use Rattle.policy_syntax.specs.LevelTrees.{level_syntax_tree, one_level_syntax_tree};
 ghost use Rattle.policy_syntax.specs.SyntaxTrees.{batch_syntax_tree, condition_tree, handler_syntax_tree};

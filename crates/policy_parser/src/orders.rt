@@ -6,7 +6,8 @@ ghost use Rattle.policy_grammar.specs.Terminals.{code, kind_at};
 ghost use Rattle.policy_grammar.specs.declared.terminal.Terminal.TheVariants.{Prefer};
 ghost use Rattle.policy_grammar.specs.Words.{key_word};
 ghost use Rattle.policy_grammar.specs.Orders.{IsKey, IsOrder};
-ghost use Rattle.policy_grammar.specs.Machine.{Symbol, order, key, keys, is_key, go};
+ghost use Rattle.policy_grammar.specs.Symbols.{Symbol, order, key, keys, is_key};
+ghost use Rattle.policy_grammar.specs.Machine.{go};
 ghost use Rattle.policy_parser.specs.Answers.{Answers};
 
 use crate::source::Source;

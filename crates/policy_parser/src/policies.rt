@@ -9,7 +9,8 @@ ghost use Rattle.policy_grammar.specs.Terminals.{code, kind_at, word_at};
 ghost use Rattle.policy_grammar.specs.Words.{attr_word};
 ghost use Rattle.policy_grammar.specs.Expressions.{IsInt, IsRange};
 ghost use Rattle.policy_grammar.specs.Policies.{IsLoad, IsAttr, IsAttrs, IsPlace, IsElect};
-ghost use Rattle.policy_grammar.specs.Machine.{Symbol, the, int, load_rule, attrs, place, elect, go};
+ghost use Rattle.policy_grammar.specs.Symbols.{Symbol, the, int, load_rule, attrs, place, elect};
+ghost use Rattle.policy_grammar.specs.Machine.{go};
 ghost use Rattle.policy_grammar.specs.Breaks.{of_kind};
 ghost use Rattle.policy_parser.specs.Answers.{Answers};
 

@@ -5,11 +5,11 @@ ghost use Rattle.policy_syntax.specs.LevelTrees.{LevelSyntaxTree, level_syntax_t
 ghost use Rattle.policy_syntax.specs.SyntaxTrees.{SyntaxTree, syntax_tree};
 ghost use Rattle.policy_lexer.specs.Tokens.{SpellsTokens};
 ghost use Rattle.sched_base.specs.declared.limits.TheConstants.{MAX_POLICY_BYTES};
-ghost use Rattle.policy_grammar.specs.Correct.{AreWithin, IsLevelFault, IsParseFault, IsWithin};
+ghost use Rattle.policy_grammar.specs.Correct.{IsLevelTextWithin, IsLevelTextFault, IsParseFault, IsWithin};
 ghost use Rattle.policy_grammar.specs.OneTree.{IsOnlyLevelSyntax, IsOnlySyntax};
 ghost use Rattle.policy_grammar.specs.declared.limits.TheConstants.{POLICY_LIMITS};
 ghost use Rattle.policy_parser.specs.Answers.{IsReadUnlessMemory};
-ghost use Rattle.policy_grammar.specs.Lexemes.{language_of, lexemes_in, lexemes_of};
+ghost use Rattle.policy_grammar.specs.Lexemes.{language_of, lexemes_in, policy_lexemes};
 ghost use Rattle.policy_grammar.specs.declared.language.Language.TheVariants.{LevelTexts};
 
 use crate::source::Source;
@@ -40,14 +40,15 @@ pub fn language_of(text: &[u8], tokens: &[Token]) -> Language
 pub fn parse(alloc: Global, text: &[u8], tokens: &[Token]) -> Result<Syntax, ParseFault>
     requires small { length text.now ≤ MAX_POLICY_BYTES }
     requires spells { SpellsTokens text.now tokens.now }
-    ensures syntax { IfOk result (λ s. IsWithin POLICY_LIMITS text.now (lexemes_of text.now tokens.now)
+    ensures syntax { IfOk result (λ s. IsWithin POLICY_LIMITS text.now (policy_lexemes text.now tokens.now)
         (syntax_tree s)) }
     ensures only { IfOk result
-        (λ s. IsOnlySyntax text.now (lexemes_of text.now tokens.now) (syntax_tree s)) }
-    ensures fault { IfErr result (IsParseFault POLICY_LIMITS text.now (lexemes_of text.now tokens.now)) }
+        (λ s. IsOnlySyntax text.now (policy_lexemes text.now tokens.now) (syntax_tree s)) }
+    ensures fault { IfErr result (IsParseFault POLICY_LIMITS text.now (policy_lexemes text.now tokens.now)) }
 
     // A policy within the limits isn't refused.
-    ensures reads { (syntax : SyntaxTree) → IsWithin POLICY_LIMITS text.now (lexemes_of text.now tokens.now) syntax →
+    ensures reads { (syntax : SyntaxTree) →
+        IsWithin POLICY_LIMITS text.now (policy_lexemes text.now tokens.now) syntax →
         IsReadUnlessMemory result }
 {
     let lexemes = lexemes(alloc, Language::Policies, text, tokens)?;
@@ -64,16 +65,16 @@ pub fn parse(alloc: Global, text: &[u8], tokens: &[Token]) -> Result<Syntax, Par
 pub fn parse_levels(alloc: Global, text: &[u8], tokens: &[Token]) -> Result<LevelSyntax, ParseFault>
     requires small { length text.now ≤ MAX_POLICY_BYTES }
     requires spells { SpellsTokens text.now tokens.now }
-    ensures syntax { IfOk result (λ s. AreWithin POLICY_LIMITS text.now (lexemes_in LevelTexts text.now tokens.now)
-        (level_syntax_tree s)) }
+    ensures syntax { IfOk result (λ s.
+        IsLevelTextWithin POLICY_LIMITS text.now (lexemes_in LevelTexts text.now tokens.now) (level_syntax_tree s)) }
     ensures only { IfOk result (λ s.
         IsOnlyLevelSyntax text.now (lexemes_in LevelTexts text.now tokens.now) (level_syntax_tree s)) }
     ensures fault { IfErr result
-        (IsLevelFault POLICY_LIMITS text.now (lexemes_in LevelTexts text.now tokens.now)) }
+        (IsLevelTextFault POLICY_LIMITS text.now (lexemes_in LevelTexts text.now tokens.now)) }
 
     // A level text within the limits isn't refused.
     ensures reads { (syntax : LevelSyntaxTree) →
-        AreWithin POLICY_LIMITS text.now (lexemes_in LevelTexts text.now tokens.now) syntax →
+        IsLevelTextWithin POLICY_LIMITS text.now (lexemes_in LevelTexts text.now tokens.now) syntax →
         IsReadUnlessMemory result }
 {
     let lexemes = lexemes(alloc, Language::LevelTexts, text, tokens)?;

@@ -6,8 +6,9 @@ ghost use Rattle.policy_grammar.specs.declared.terminal.Terminal.TheVariants.{St
 ghost use Rattle.policy_grammar.specs.Terminals.{code, kind_at, value_at};
 ghost use Rattle.policy_grammar.specs.Orders.{IsOrder};
 ghost use Rattle.policy_grammar.specs.Policies.{IsBatch, IsPolicy};
-ghost use Rattle.policy_grammar.specs.Machine.{Symbol, the, load_rule, attrs, place, elect, handlers, condition, order};
-ghost use Rattle.policy_grammar.specs.Machine.{batch, start, go};
+ghost use Rattle.policy_grammar.specs.Symbols.{Symbol, the, load_rule, attrs, place, elect, handlers, condition, order};
+ghost use Rattle.policy_grammar.specs.Symbols.{batch};
+ghost use Rattle.policy_grammar.specs.Machine.{start, go};
 ghost use Rattle.policy_syntax.specs.SyntaxTrees.{batch_syntax_tree, condition_tree, elect_syntax_tree};
 ghost use Rattle.policy_syntax.specs.SyntaxTrees.{handler_syntax_tree, order_syntax_tree, syntax_tree};
 ghost use Rattle.policy_parser.specs.Answers.{Answers};

@@ -3,7 +3,8 @@
 ghost use Rattle.std.specs.Prelude.{◌≡◌, ◌==◌, ◌<◌, ◌≤◌, ◌+◌, ◌^◌, ◌∷◌, ℕ, List, length, All, Ok, Err, IfOk, IfErr};
 ghost use Rattle.std.specs.Prelude.{IsTrue, true, false};
 ghost use Rattle.policy_grammar.specs.Terminals.{code, kind_at, lexeme_at, word_at, is_word};
-ghost use Rattle.policy_grammar.specs.Machine.{Symbol, the, go};
+ghost use Rattle.policy_grammar.specs.Symbols.{Symbol, the};
+ghost use Rattle.policy_grammar.specs.Machine.{go};
 ghost use Rattle.policy_grammar.specs.declared.fault.ParseFault.TheVariants.{Memory, Unexpected};
 ghost use Rattle.policy_parser.specs.Answers.{Answers, LiesIn, IsWordFault};
 

@@ -7,7 +7,7 @@ use Rattle.policy_lexer.specs.declared.token.Token.{Token}
 use Rattle.policy_lexer.specs.declared.token.TokenKind.{TokenKind}
 use Rattle.policy_lexer.specs.declared.token.TokenKind.TheVariants as kind
 use Rattle.policy_grammar.specs.declared.terminal.Lexeme.{Lexeme}
-use Rattle.policy_grammar.specs.Lexemes.{symbol_terminal, kind_terminal, kind_value, lexeme_of, lexemes_of}
+use Rattle.policy_grammar.specs.Lexemes.{symbol_terminal, kind_terminal, kind_value, policy_lexeme, policy_lexemes}
 use Rattle.policy_grammar.specs.Terminals.{code, is_word, kind_at, value_at, word_at}
 use Rattle.policy_printer.proofs.Laid.{AreLaid, laid_none, laid_more}
 use Rattle.policy_printer.proofs.Normal.{normal_bytes, normal}
@@ -51,31 +51,31 @@ normal-word (kind.Symbol s) bytes word = let clash = sym (symbol-no_word s) ∙ 
 
 -- a token that is laid out in the other text
 laid-terminal : (text other : List ℕ) (t u : Token) → u.kind ≡ t.kind → slice_range other u.start u.end ≡ (normal text t).text →
-    (lexeme_of other u).terminal ≡ (lexeme_of text t).terminal
+    (policy_lexeme other u).terminal ≡ (policy_lexeme text t).terminal
 laid-terminal text other t u same slice =
     ap (λ k. kind_terminal k (slice_range other u.start u.end)) same ∙ ap (kind_terminal t.kind) slice
     ∙ normal-terminal t.kind (slice_range text t.start t.end)
 
 module _ (text other : List ℕ) where
-  kinds : (ts : List Token) {us : List Token} → AreLaid other (map (normal text) ts) us → (i : ℕ) → kind_at (lexemes_of other us) i ≡ kind_at (lexemes_of text ts) i
+  kinds : (ts : List Token) {us : List Token} → AreLaid other (map (normal text) ts) us → (i : ℕ) → kind_at (policy_lexemes other us) i ≡ kind_at (policy_lexemes text ts) i
   kinds [] laid_none i = refl
   kinds (t ∷ ts) (laid_more {t = u} same slice more) zero = ap code (laid-terminal text other t u same slice)
   kinds (t ∷ ts) (laid_more {t = u} same slice more) (suc i) = kinds ts more i
 
-  values : (ts : List Token) {us : List Token} → AreLaid other (map (normal text) ts) us → (i : ℕ) → value_at (lexemes_of other us) i ≡ value_at (lexemes_of text ts) i
+  values : (ts : List Token) {us : List Token} → AreLaid other (map (normal text) ts) us → (i : ℕ) → value_at (policy_lexemes other us) i ≡ value_at (policy_lexemes text ts) i
   values [] laid_none i = refl
   values (t ∷ ts) (laid_more {t = u} same slice more) zero = ap kind_value same
   values (t ∷ ts) (laid_more {t = u} same slice more) (suc i) = values ts more i
 
-  words : (ts : List Token) {us : List Token} → AreLaid other (map (normal text) ts) us → (i : ℕ) → is_word (kind_at (lexemes_of text ts) i) ≡ true →
-      word_at other (lexemes_of other us) i ≡ word_at text (lexemes_of text ts) i
+  words : (ts : List Token) {us : List Token} → AreLaid other (map (normal text) ts) us → (i : ℕ) → is_word (kind_at (policy_lexemes text ts) i) ≡ true →
+      word_at other (policy_lexemes other us) i ≡ word_at text (policy_lexemes text ts) i
   words [] laid_none i word = cc
   words (t ∷ ts) (laid_more {t = u} same slice more) zero word = slice ∙ normal-word t.kind (slice_range text t.start t.end) word
   words (t ∷ ts) (laid_more {t = u} same slice more) (suc i) word = words ts more i word
 
-  sizes : (ts : List Token) {us : List Token} → AreLaid other (map (normal text) ts) us → length (lexemes_of other us) ≡ length (lexemes_of text ts)
+  sizes : (ts : List Token) {us : List Token} → AreLaid other (map (normal text) ts) us → length (policy_lexemes other us) ≡ length (policy_lexemes text ts)
   sizes [] laid_none = refl
   sizes (t ∷ ts) (laid_more {t = u} same slice more) = ap suc (sizes ts more)
 
-  pub alike : (ts us : List Token) → AreLaid other (map (normal text) ts) us → Alike text (lexemes_of text ts) other (lexemes_of other us)
+  pub alike : (ts us : List Token) → AreLaid other (map (normal text) ts) us → Alike text (policy_lexemes text ts) other (policy_lexemes other us)
   alike ts us laid = record { kind = kinds ts laid; value = values ts laid; word = words ts laid; size = sizes ts laid }

@@ -5,7 +5,7 @@ use Rattle.std.proofs.lemmas.Bool.Decides.{nat_tests}
 use Rattle.policy_lexer.specs.declared.token.Symbol.{Symbol as Sign}
 use Rattle.policy_lexer.specs.declared.token.Token.{Token}
 use Rattle.policy_lexer.specs.declared.token.TokenKind.{TokenKind}
-use Rattle.policy_grammar.specs.Lexemes.{symbol_terminal, kind_terminal, kind_value, lexeme_of, lexemes_of}
+use Rattle.policy_grammar.specs.Lexemes.{symbol_terminal, kind_terminal, kind_value, policy_lexeme, policy_lexemes}
 use Rattle.policy_grammar.specs.declared.terminal.Terminal.TheVariants as terminal
 use Rattle.policy_grammar.specs.Terminals.{code, is_word, kind_at, value_at, word_at, lexeme_at}
 use Rattle.policy_printer.proofs.Alike.{normal-word}
@@ -33,10 +33,10 @@ module _ (text : List ℕ) where
   -- the token in that place
   record Found (tokens : List Token) (at : ℕ) : Type 0 where
     token : Token
-    same : lexeme_at (lexemes_of text tokens) at ≡ lexeme_of text token
+    same : lexeme_at (policy_lexemes text tokens) at ≡ policy_lexeme text token
     drops : drop at (texts (map (normal text) tokens)) ≡ (normal text token).text ∷ drop (at + 1) (texts (map (normal text) tokens))
 
-  find : (tokens : List Token) (at : ℕ) → 0 < kind_at (lexemes_of text tokens) at → Found tokens at
+  find : (tokens : List Token) (at : ℕ) → 0 < kind_at (policy_lexemes text tokens) at → Found tokens at
   find [] zero some = absurd (omega (arith, some))
   find [] (suc at) some = absurd (omega (arith, some))
   find (t ∷ tokens) zero some = record { token = t; same = refl; drops = refl }
@@ -59,7 +59,7 @@ module _ (text : List ℕ) where
     }
 
     -- a reserved word
-    pub reserved : (c : ℕ) {at to : ℕ} → at + 1 ≡ to → kind_at (lexemes_of text tokens) at ≡ c → 0 < c →
+    pub reserved : (c : ℕ) {at to : ℕ} → at + 1 ≡ to → kind_at (policy_lexemes text tokens) at ≡ c → 0 < c →
         c < code terminal.Reserved →
         Spells (texts (map (normal text) tokens)) at (word_text c ∷ []) to
     reserved c {at = at} next k some less =
@@ -67,7 +67,7 @@ module _ (text : List ℕ) where
         spells-one f (word_text c) next
         (reserved-text f.token.kind (slice_range text f.token.start f.token.end) c (ap (λ l. code l.terminal) (sym f.same) ∙ k) less)
 
-    pub symbol : (s : Sign) {at to : ℕ} → at + 1 ≡ to → kind_at (lexemes_of text tokens) at ≡ code (symbol_terminal s) → 0 < code (symbol_terminal s) →
+    pub symbol : (s : Sign) {at to : ℕ} → at + 1 ≡ to → kind_at (policy_lexemes text tokens) at ≡ code (symbol_terminal s) → 0 < code (symbol_terminal s) →
         Spells (texts (map (normal text) tokens)) at (symbol_text s ∷ []) to
     symbol s {at = at} next k some =
         let f = find tokens at (omega (arith, k, some)) in
@@ -78,11 +78,11 @@ module _ (text : List ℕ) where
     word-some k e = grind (arith, nat_tests)
 
     -- any word
-    pub word : {at to : ℕ} → at + 1 ≡ to → is_word (kind_at (lexemes_of text tokens) at) ≡ true →
-        Spells (texts (map (normal text) tokens)) at (word_at text (lexemes_of text tokens) at ∷ []) to
+    pub word : {at to : ℕ} → at + 1 ≡ to → is_word (kind_at (policy_lexemes text tokens) at) ≡ true →
+        Spells (texts (map (normal text) tokens)) at (word_at text (policy_lexemes text tokens) at ∷ []) to
     word {at = at} next w =
-        let f = find tokens at (word-some (kind_at (lexemes_of text tokens) at) w) in
-        spells-one f (word_at text (lexemes_of text tokens) at) next
+        let f = find tokens at (word-some (kind_at (policy_lexemes text tokens) at) w) in
+        spells-one f (word_at text (policy_lexemes text tokens) at) next
         (normal-word f.token.kind (slice_range text f.token.start f.token.end) (ap (λ l. is_word (code l.terminal)) (sym f.same) ∙ w)
         ∙ ap (λ l. slice_range text l.start l.end) (sym f.same))
 
@@ -91,10 +91,10 @@ module _ (text : List ℕ) where
         let v = number-spelled k bytes e in
         subst (λ j. normal_bytes j bytes ≡ decimal (kind_value j)) (sym v.1) refl
 
-    pub number : {at to : ℕ} → at + 1 ≡ to → kind_at (lexemes_of text tokens) at ≡ code terminal.Number →
-        Spells (texts (map (normal text) tokens)) at (decimal (value_at (lexemes_of text tokens) at) ∷ []) to
+    pub number : {at to : ℕ} → at + 1 ≡ to → kind_at (policy_lexemes text tokens) at ≡ code terminal.Number →
+        Spells (texts (map (normal text) tokens)) at (decimal (value_at (policy_lexemes text tokens) at) ∷ []) to
     number {at = at} next k =
         let f = find tokens at (omega (arith, k)) in
-        spells-one f (decimal (value_at (lexemes_of text tokens) at)) next
+        spells-one f (decimal (value_at (policy_lexemes text tokens) at)) next
         (number-text f.token.kind (slice_range text f.token.start f.token.end) (ap (λ l. code l.terminal) (sym f.same) ∙ k)
         ∙ ap (λ l. decimal l.value) (sym f.same))

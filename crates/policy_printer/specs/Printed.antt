@@ -5,7 +5,7 @@ use Rattle.policy_syntax.specs.SyntaxTrees.{SyntaxTree}
 use Rattle.policy_lexer.specs.declared.token.Token.{Token}
 use Rattle.policy_lexer.specs.Tokens.{SpellsTokens}
 use Rattle.policy_grammar.specs.declared.limits.TheConstants.{POLICY_LIMITS}
-use Rattle.policy_grammar.specs.Lexemes.{lexemes_of}
+use Rattle.policy_grammar.specs.Lexemes.{policy_lexemes}
 use Rattle.policy_grammar.specs.Correct.{IsWithin}
 use Rattle.policy_printer.specs.PolicyTexts.{policy_texts}
 
@@ -17,7 +17,7 @@ printed syntax = join_with_byte 32 (policy_texts syntax) ++ (10 ∷ [])
 pub record IsTextOf (text : List ℕ) (syntax : SyntaxTree) : Type 0 where
   pub tokens : List Token
   pub spells : SpellsTokens text tokens
-  pub is : IsWithin POLICY_LIMITS text (lexemes_of text tokens) syntax
+  pub is : IsWithin POLICY_LIMITS text (policy_lexemes text tokens) syntax
 
 -- the printed text of a syntax that some text has is again a text of it, its places included
 abbrev pub IsReadAgain : Type 0

@@ -8,8 +8,8 @@ use Rattle.policy_lexer.specs.Tokens.{SpellsTokens}
 use Rattle.policy_grammar.specs.declared.fault.ParseFault.{ParseFault}
 use Rattle.policy_grammar.specs.declared.limits.TheConstants.{POLICY_LIMITS}
 use Rattle.policy_grammar.specs.declared.language.Language.TheVariants.{Policies, LevelTexts}
-use Rattle.policy_grammar.specs.Correct.{AreWithin, IsWithin}
-use Rattle.policy_grammar.specs.Lexemes.{language_of, lexeme_in, lexemes_in, lexemes_of}
+use Rattle.policy_grammar.specs.Correct.{IsLevelTextWithin, IsWithin}
+use Rattle.policy_grammar.specs.Lexemes.{language_of, lexeme_in, lexemes_in, policy_lexemes}
 use Rattle.policy_parser.proofs.Lexed.{map-length, tokens-few}
 use Rattle.policy_tree.specs.declared.typed.Policy.{Policy}
 use Rattle.policy_tree.specs.Meaning.{Meaning, meaning_of}
@@ -30,14 +30,14 @@ use Rattle.policy_reader.proofs.OneFault.{one_fault, one_policy, never_both}
 
 -- the syntax of a text is one that the grammar has
 pub of_grammar : (text : List ℕ) (tokens : List Token) (s : SyntaxTree) → length text ≤ MAX_POLICY_BYTES → SpellsTokens text tokens →
-    IsWithin POLICY_LIMITS text (lexemes_of text tokens) s → IsOfGrammar s
+    IsWithin POLICY_LIMITS text (policy_lexemes text tokens) s → IsOfGrammar s
 of_grammar text tokens s small spells is =
     let few = tokens-few text spells in
     let size = map-length (lexeme_in Policies text) tokens in
-    record { text = text; tokens = lexemes_of text tokens; is = is; few = omega (arith, few, size, small) }
+    record { text = text; tokens = policy_lexemes text tokens; is = is; few = omega (arith, few, size, small) }
 
 pub of_level_grammar : (text : List ℕ) (tokens : List Token) (s : LevelSyntaxTree) → length text ≤ MAX_POLICY_BYTES → SpellsTokens text tokens →
-    AreWithin POLICY_LIMITS text (lexemes_in LevelTexts text tokens) s → IsOfLevelGrammar s
+    IsLevelTextWithin POLICY_LIMITS text (lexemes_in LevelTexts text tokens) s → IsOfLevelGrammar s
 of_level_grammar text tokens s small spells is =
     let few = tokens-few text spells in
     let size = map-length (lexeme_in LevelTexts text) tokens in

@@ -12,7 +12,7 @@ use Rattle.policy_grammar.specs.declared.fault.ParseFault.TheVariants as parse
 use Rattle.policy_grammar.specs.declared.limits.TheConstants.{POLICY_LIMITS}
 use Rattle.policy_grammar.specs.declared.language.Language.{Language}
 use Rattle.policy_grammar.specs.declared.language.Language.TheVariants.{Policies, LevelTexts}
-use Rattle.policy_grammar.specs.Lexemes.{language_of, lexemes_in, lexemes_of}
+use Rattle.policy_grammar.specs.Lexemes.{language_of, lexemes_in, policy_lexemes}
 use Rattle.policy_grammar.proofs.Total.{each_has_answer, each_has_level_answer}
 use Rattle.policy_types.specs.declared.fault.TypeFault.{TypeFault}
 use Rattle.policy_types.specs.declared.fault.TypeFault.TheVariants as type
@@ -65,7 +65,7 @@ module _ (text : List ℕ) (small : length text ≤ MAX_POLICY_BYTES) where
   of_fault tokens f spells is real = let told = parse_told (offset_of text tokens) f real in inr (told.0, no_syntax tokens f spells is told.1)
 
   by_language : (tokens : List Token) (language : Language) → SpellsTokens text tokens → language_of text tokens ≡ language → HasAnswer text
-  by_language tokens Policies spells e = elim (each_has_answer POLICY_LIMITS text (lexemes_of text tokens)) [
+  by_language tokens Policies spells e = elim (each_has_answer POLICY_LIMITS text (policy_lexemes text tokens)) [
     | inl (s, is) ↦ of_syntax tokens (of_policy s) (record { spells = spells; is = (e, is) }) (policy_answer s (of_grammar text tokens s small spells is))
     | inr (f, is, real) ↦ of_fault tokens f spells (subst (λ l. IsFaultOf l text tokens f) (sym e) is) real
   ]

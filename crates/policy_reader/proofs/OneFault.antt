@@ -12,9 +12,9 @@ use Rattle.policy_grammar.specs.declared.limits.TheConstants.{POLICY_LIMITS}
 use Rattle.policy_grammar.specs.declared.language.Language.{Language}
 use Rattle.policy_grammar.specs.declared.language.Language.TheVariants.{Policies, LevelTexts}
 use Rattle.policy_grammar.specs.Breaks.{breaks_policy}
-use Rattle.policy_grammar.specs.LevelBreaks.{breaks_levels}
+use Rattle.policy_grammar.specs.LevelBreaks.{breaks_level_text}
 use Rattle.policy_grammar.specs.Levels.{IsLevels}
-use Rattle.policy_grammar.specs.Lexemes.{language_of, lexemes_in, lexemes_of}
+use Rattle.policy_grammar.specs.Lexemes.{language_of, lexemes_in, policy_lexemes}
 use Rattle.policy_grammar.specs.Policies.{IsPolicy}
 use Rattle.policy_grammar.proofs.OneLevels.{level_text-one}
 use Rattle.policy_grammar.proofs.OnePolicies.{policy-one}
@@ -87,7 +87,7 @@ module _ (text : List ℕ) where
   clash one other = let e = sym one ∙ other in cc
 
   syntax-one : (ts : List Token) (s r : TextSyntax) → IsTextSyntax text ts s → IsTextSyntax text ts r → s ≡ r
-  syntax-one ts (of_policy s) (of_policy r) x y = ap of_policy (policy-one text (lexemes_of text ts) x.1.is y.1.is)
+  syntax-one ts (of_policy s) (of_policy r) x y = ap of_policy (policy-one text (policy_lexemes text ts) x.1.is y.1.is)
   syntax-one ts (of_policy s) (of_levels r) x y = absurd (clash x.0 y.0)
   syntax-one ts (of_levels s) (of_policy r) x y = absurd (clash y.0 x.0)
   syntax-one ts (of_levels s) (of_levels r) x y = ap of_levels (level_text-one text (lexemes_in LevelTexts text ts) x.1.is y.1.is)
@@ -97,9 +97,9 @@ module _ (text : List ℕ) where
 
   none-of : (ts : List Token) (s : TextSyntax) (f : ParseFault) → IsTextSyntax text ts s → IsFaultOf (language_of text ts) text ts f → (f ≡ parse.Memory → ⊥) → ⊥
   none-of ts (of_policy s) f has is real =
-      no-fault SyntaxTree (IsPolicy text) (breaks_policy POLICY_LIMITS) (lexemes_of text ts) f s has.1 (subst (λ l. IsFaultOf l text ts f) has.0 is) real
+      no-fault SyntaxTree (IsPolicy text) (breaks_policy POLICY_LIMITS) (policy_lexemes text ts) f s has.1 (subst (λ l. IsFaultOf l text ts f) has.0 is) real
   none-of ts (of_levels s) f has is real =
-      no-fault LevelSyntaxTree (IsLevels text) (breaks_levels POLICY_LIMITS) (lexemes_in LevelTexts text ts) f s has.1 (subst (λ l. IsFaultOf l text ts f) has.0 is) real
+      no-fault LevelSyntaxTree (IsLevels text) (breaks_level_text POLICY_LIMITS) (lexemes_in LevelTexts text ts) f s has.1 (subst (λ l. IsFaultOf l text ts f) has.0 is) real
 
   syntax-fault : (ts us : List Token) (s : TextSyntax) (f : ParseFault) → SpellsTokens text ts → IsFaultOf (language_of text ts) text ts f →
       SpellsSyntax text us s → (f ≡ parse.Memory → ⊥) → ⊥
@@ -107,8 +107,8 @@ module _ (text : List ℕ) where
 
   fault-one : (language : Language) (ts : List Token) (f g : ParseFault) → IsFaultOf language text ts f → IsFaultOf language text ts g →
       (f ≡ parse.Memory → ⊥) → (g ≡ parse.Memory → ⊥) → f ≡ g
-  fault-one Policies ts f g is other = one-fault SyntaxTree (IsPolicy text) (breaks_policy POLICY_LIMITS) (lexemes_of text ts) f g is other
-  fault-one LevelTexts ts f g is other = one-fault LevelSyntaxTree (IsLevels text) (breaks_levels POLICY_LIMITS) (lexemes_in LevelTexts text ts) f g is other
+  fault-one Policies ts f g is other = one-fault SyntaxTree (IsPolicy text) (breaks_policy POLICY_LIMITS) (policy_lexemes text ts) f g is other
+  fault-one LevelTexts ts f g is other = one-fault LevelSyntaxTree (IsLevels text) (breaks_level_text POLICY_LIMITS) (lexemes_in LevelTexts text ts) f g is other
 
   parse-same : (ts us : List Token) (f g : ParseFault) (x y : TextFault) → ts ≡ us →
       IsFaultOf (language_of text ts) text ts f → IsFaultOf (language_of text us) text us g →

@@ -6,8 +6,8 @@ use Rattle.policy_grammar.specs.declared.fault.ParseFault.{ParseFault}
 use Rattle.policy_grammar.specs.declared.language.Language.{Language}
 use Rattle.policy_grammar.specs.declared.language.Language.TheVariants.{Policies, LevelTexts}
 use Rattle.policy_grammar.specs.declared.limits.TheConstants.{POLICY_LIMITS}
-use Rattle.policy_grammar.specs.Correct.{AreWithin, IsLevelFault, IsParseFault, IsWithin}
-use Rattle.policy_grammar.specs.Lexemes.{language_of, lexemes_in, lexemes_of}
+use Rattle.policy_grammar.specs.Correct.{IsLevelTextWithin, IsLevelTextFault, IsParseFault, IsWithin}
+use Rattle.policy_grammar.specs.Lexemes.{language_of, lexemes_in, policy_lexemes}
 use Rattle.policy_syntax.specs.LevelTrees.{LevelSyntaxTree}
 use Rattle.policy_syntax.specs.SyntaxTrees.{SyntaxTree}
 use Rattle.policy_tree.specs.Meaning.{Meaning}
@@ -23,14 +23,14 @@ pub data TextSyntax : Type 0 where
 -- the tokens of the text have this syntax, within the limits, and it is of the text's language
 abbrev pub IsTextSyntax : List ℕ → List Token → TextSyntax → Type 0
 IsTextSyntax text tokens (of_policy s) =
-    (language_of text tokens ≡ Policies) × IsWithin POLICY_LIMITS text (lexemes_of text tokens) s
+    (language_of text tokens ≡ Policies) × IsWithin POLICY_LIMITS text (policy_lexemes text tokens) s
 IsTextSyntax text tokens (of_levels s) =
-    (language_of text tokens ≡ LevelTexts) × AreWithin POLICY_LIMITS text (lexemes_in LevelTexts text tokens) s
+    (language_of text tokens ≡ LevelTexts) × IsLevelTextWithin POLICY_LIMITS text (lexemes_in LevelTexts text tokens) s
 
 -- the fault of the tokens in that language
 abbrev pub IsFaultOf : Language → List ℕ → List Token → ParseFault → Type 0
-IsFaultOf Policies text tokens fault = IsParseFault POLICY_LIMITS text (lexemes_of text tokens) fault
-IsFaultOf LevelTexts text tokens fault = IsLevelFault POLICY_LIMITS text (lexemes_in LevelTexts text tokens) fault
+IsFaultOf Policies text tokens fault = IsParseFault POLICY_LIMITS text (policy_lexemes text tokens) fault
+IsFaultOf LevelTexts text tokens fault = IsLevelTextFault POLICY_LIMITS text (lexemes_in LevelTexts text tokens) fault
 
 -- the rules of names, ranges and phases that a syntax breaks
 abbrev pub rule_faults : TextSyntax → List TypeFault

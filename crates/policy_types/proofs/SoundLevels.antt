@@ -9,28 +9,27 @@ use Rattle.policy_syntax.specs.LevelTrees.{OneLevelSyntaxTree, LevelSyntaxTree}
 use Rattle.policy_grammar.specs.declared.terminal.Lexeme.{Lexeme}
 use Rattle.policy_grammar.specs.declared.fault.ParseFault.{ParseFault}
 use Rattle.policy_grammar.specs.declared.limits.TheConstants.{POLICY_LIMITS}
-use Rattle.policy_grammar.specs.Breaks.{breaks_attrs, breaks_batch, breaks_condition, breaks_elect, breaks_handlers, breaks_order, breaks_place, first_of, many}
-use Rattle.policy_grammar.specs.LevelBreaks.{breaks_level, breaks_level_list, breaks_levels}
+use Rattle.policy_grammar.specs.Breaks.{breaks_attrs, breaks_batch, breaks_choices, breaks_condition, breaks_elect, breaks_handlers, breaks_order, breaks_place, first_of, many}
+use Rattle.policy_grammar.specs.LevelBreaks.{breaks_level, breaks_level_list}
 use Rattle.policy_grammar.specs.Levels.{IsLevels, levels_of}
-use Rattle.policy_eval.specs.Forms.{EachSide, RefersTo}
+use Rattle.policy_eval.specs.Forms.{RefersTo}
 use Rattle.level_policy.specs.declared.typed.Levels.{Levels}
-use Rattle.level_policy.specs.Levels.{LevelsMeaning, levels_meaning}
+use Rattle.level_policy.specs.Levels.{levels_meaning}
 use Rattle.level_policy.specs.ResolvedLevels.{AreResolved, IsResolvedFilter, IsResolvedLevel, IsResolvedWithin, is_core_attribute}
 use Rattle.policy_types.specs.declared.fault.TypeFault.{TypeFault}
 use Rattle.policy_types.specs.declared.scope.Scope.{Scope}
-use Rattle.policy_types.specs.declared.sites.Site.TheVariants.{Choose, Filter, Steal, Within}
-use Rattle.policy_types.specs.Conditions.{condition_faults, condition_meaning, elect_faults, order_faults}
+use Rattle.policy_types.specs.declared.sites.Site.TheVariants.{Filter, Within}
+use Rattle.policy_types.specs.Conditions.{condition_faults, condition_meaning}
 use Rattle.policy_types.specs.Correct.{IsOfLevelGrammar}
 use Rattle.policy_types.specs.Declarations.{attrs_faults, load_faults, load_meaning, nothing_declared}
-use Rattle.policy_types.specs.Handlers.{handlers_faults}
-use Rattle.policy_types.specs.Levels.{beside_levels, headed, level_faults, level_list_faults, level_meaning, level_scope, level_text_faults, level_text_meaning, levels_in}
-use Rattle.policy_types.specs.Policies.{batch_faults, place_faults, policy_faults}
+use Rattle.policy_types.specs.Levels.{beside_levels, headed, level_faults, level_list_faults, level_meaning, level_scope, level_text_faults, level_text_meaning, level_text_meaning_in}
+use Rattle.policy_types.specs.Policies.{choices_faults, running_faults}
 use Rattle.policy_types.proofs.Allowed.{declared}
 use Rattle.policy_types.proofs.Counted.{keeps_many, keeps_parts}
 use Rattle.policy_types.proofs.Firsts.{none_parts}
 use Rattle.policy_types.proofs.SoundConditions.{each_side, order_few, resolved_expr, resolved_few}
 use Rattle.policy_types.proofs.SoundExpressions.{near_expr}
-use Rattle.policy_types.proofs.SoundPolicies.{breaks_with, kept_resolved}
+use Rattle.policy_types.proofs.SoundPolicies.{kept_resolved}
 
 module _ (p : Meaning) (cores : length p.core_attrs ≤ 8) (threads : length p.thread_attrs ≤ 8) where
   within_resolved : (c : ConditionTree) → condition_faults (declared p) Within c ≡ [] → breaks_condition POLICY_LIMITS 1 0 0 c ≡ None → IsResolvedWithin p (condition_meaning (declared p) c)
@@ -79,15 +78,12 @@ kept_beside None None (Some f) d levels rest e = absurd (cc)
 kept_beside None (Some f) c d levels rest e = absurd (cc)
 kept_beside (Some f) b c d levels rest e = absurd (cc)
 
-none_beside : (a b c d e levels rest : List TypeFault) → a ++ (b ++ (c ++ (d ++ (e ++ (levels ++ rest))))) ≡ [] →
-    (a ++ (b ++ (c ++ (d ++ (e ++ rest)))) ≡ []) × (levels ≡ [])
-none_beside [] [] [] [] [] [] rest none = (none, refl)
-none_beside [] [] [] [] [] (f ∷ fs) rest none = absurd (cc)
-none_beside [] [] [] [] (f ∷ fs) levels rest none = absurd (cc)
-none_beside [] [] [] (f ∷ fs) e levels rest none = absurd (cc)
-none_beside [] [] (f ∷ fs) d e levels rest none = absurd (cc)
-none_beside [] (f ∷ fs) c d e levels rest none = absurd (cc)
-none_beside (f ∷ fs) b c d e levels rest none = absurd (cc)
+none_beside : (a b c levels rest : List TypeFault) → a ++ (b ++ (c ++ (levels ++ rest))) ≡ [] → (a ++ (b ++ (c ++ rest)) ≡ []) × (levels ≡ [])
+none_beside [] [] [] [] rest none = (none, refl)
+none_beside [] [] [] (f ∷ fs) rest none = absurd (cc)
+none_beside [] [] (f ∷ fs) levels rest none = absurd (cc)
+none_beside [] (f ∷ fs) c levels rest none = absurd (cc)
+none_beside (f ∷ fs) b c levels rest none = absurd (cc)
 
 some_levels : {text : List ℕ} {ts : List Lexeme} {s : LevelSyntaxTree} → IsLevels text ts s → 1 ≤ length s.levels
 some_levels (levels_of k0 k1 dl da dp de dh d more kc dc ks ds db) = omega arith
@@ -104,13 +100,13 @@ choose_kept (Some f) b c d levels choose rest e = absurd (cc)
 pub level_text_resolved : (s : LevelSyntaxTree) → IsOfLevelGrammar s → level_text_faults s ≡ [] → AreResolved (level_text_meaning s)
 level_text_resolved s of none =
     let scope = level_scope s in let plain = beside_levels s in
-    let rest = first_of (breaks_order POLICY_LIMITS 2 s.choose) (first_of (breaks_order POLICY_LIMITS 4 s.steal) (breaks_batch POLICY_LIMITS s.batch)) in
+    let behind = first_of (breaks_order POLICY_LIMITS 4 s.steal) (breaks_batch POLICY_LIMITS s.batch) in
     let kept = kept_beside (breaks_attrs POLICY_LIMITS 0 0 s.attrs) (breaks_place POLICY_LIMITS s.place) (breaks_elect POLICY_LIMITS s.elect) (breaks_handlers POLICY_LIMITS s.handlers)
-    (breaks_level_list POLICY_LIMITS 0 s.levels) rest of.is.keeps in
+    (breaks_level_list POLICY_LIMITS 0 s.levels) (breaks_choices POLICY_LIMITS 2 s.choose s.steal s.batch) of.is.keeps in
     let keys = choose_kept (breaks_attrs POLICY_LIMITS 0 0 s.attrs) (breaks_place POLICY_LIMITS s.place) (breaks_elect POLICY_LIMITS s.elect) (breaks_handlers POLICY_LIMITS s.handlers)
-    (breaks_level_list POLICY_LIMITS 0 s.levels) (breaks_order POLICY_LIMITS 2 s.choose) (first_of (breaks_order POLICY_LIMITS 4 s.steal) (breaks_batch POLICY_LIMITS s.batch)) of.is.keeps in
-    let empty = none_beside (load_faults s.load) (attrs_faults nothing_declared s.attrs) (place_faults scope s.place) (elect_faults scope s.elect) (handlers_faults scope [] s.handlers)
-    (level_list_faults scope s.levels) (order_faults scope Choose s.choose ++ (order_faults scope Steal s.steal ++ batch_faults scope s.batch)) none in
+    (breaks_level_list POLICY_LIMITS 0 s.levels) (breaks_order POLICY_LIMITS 2 s.choose) behind of.is.keeps in
+    let empty = none_beside (load_faults s.load) (attrs_faults nothing_declared s.attrs) (running_faults scope s.place s.elect s.handlers)
+    (level_list_faults scope s.levels) (choices_faults scope s.choose s.steal s.batch) none in
     let resolved = kept_resolved 2 (omega arith) plain kept.0 empty.0 in
     let few = levels_few 0 s.levels (omega arith) kept.1 in
     let some = some_levels of.is.is in
@@ -126,7 +122,7 @@ level_text_resolved s of none =
 
 -- the policy by what was read of its declarations
 pub levels_as : (r : Result Levels TypeFault) (s : LevelSyntaxTree) (scope : Scope) (name : List ℕ) (load : Load) → scope ≡ level_scope s → name ≡ s.name → load ≡ load_meaning s.load →
-    IfOk r (λ l. levels_meaning l ≡ headed name load (levels_in scope s)) →
+    IfOk r (λ l. levels_meaning l ≡ headed name load (level_text_meaning_in scope s)) →
     IfOk r (λ l. levels_meaning l ≡ level_text_meaning s)
 levels_as (Ok l) s scope name load declares names loads is = is ∙ (rw (declares, names, loads) refl)
 levels_as (Err fault) s scope name load declares names loads is = tt

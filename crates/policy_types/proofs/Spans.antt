@@ -1,5 +1,5 @@
 -- Faults in the order of their tokens, from one token up to another.
-use Rattle.std.proofs.Common.{◌≡◌, ◌≢◌, ℕ, ◌+◌, ◌^◌, ◌<◌, ◌≤◌, Bool, true, false, List, [], ◌∷◌, ◌++◌, All, refl, subst, arith, Some}
+use Rattle.std.proofs.Common.{◌≡◌, ◌≢◌, ◌⊎◌, inl, inr, ℕ, ◌+◌, ◌^◌, ◌<◌, ◌≤◌, Bool, true, false, List, [], ◌∷◌, ◌++◌, All, refl, subst, arith, Some}
 use Rattle.std.proofs.lemmas.List.Elements.{All-cons, All-nil}
 use Rattle.policy_types.specs.declared.fault.TypeFault.{TypeFault}
 use Rattle.policy_types.specs.declared.fault.TypeFault.TheVariants.{Unknown, Twice, NotLinear, NotHere, BadRange, Big, Memory}
@@ -99,3 +99,11 @@ first_real to (NotHere at) rest is = (refl, λ e. cc)
 first_real to (BadRange at) rest is = (refl, λ e. cc)
 first_real to (Big at) rest is = (refl, λ e. cc)
 first_real to Memory rest is = let least = is.rises.0 in absurd (omega arith)
+
+-- faults in order are none, or there is a first one, which has the least token and is no want of memory
+pub first_answer : (to : ℕ) (faults : List TypeFault) → Spans 1 to faults
+    → (faults ≡ []) ⊎ ((fault : TypeFault) × IsFirst faults fault × IsLeast faults fault × (fault ≢ Memory))
+first_answer to [] is = inl refl
+first_answer to (fault ∷ rest) is =
+    let real = first_real to fault rest is in
+    inr (fault, real.0, first_least 1 to (fault ∷ rest) fault is real.0, real.1)

@@ -1,5 +1,5 @@
 -- The faults of a level text stand in the order of its tokens.
-use Rattle.std.proofs.Common.{◌≡◌, ◌≢◌, ◌⊎◌, inl, inr, ℕ, ◌+◌, ◌^◌, ◌<◌, ◌≤◌, List, [], ◌∷◌, ◌++◌, length, refl, arith, Result, Ok, Err, IfErr}
+use Rattle.std.proofs.Common.{◌≡◌, ◌≢◌, ◌⊎◌, ℕ, ◌+◌, ◌^◌, ◌<◌, ◌≤◌, List, [], ◌∷◌, length, arith, Result, Ok, Err, IfErr}
 use Rattle.policy_syntax.specs.LevelTrees.{OneLevelSyntaxTree, LevelSyntaxTree}
 use Rattle.policy_grammar.specs.declared.terminal.Lexeme.{Lexeme}
 use Rattle.policy_grammar.specs.Levels.{IsLevel, level_of, IsLevelList, levels_none, levels_more, IsLevels, levels_of}
@@ -7,18 +7,16 @@ use Rattle.policy_grammar.proofs.CompleteLevels.{within-unit}
 use Rattle.policy_types.specs.declared.fault.TypeFault.{TypeFault}
 use Rattle.policy_types.specs.declared.fault.TypeFault.TheVariants.{Memory}
 use Rattle.policy_types.specs.declared.scope.Scope.{Scope}
-use Rattle.policy_types.specs.declared.sites.Site.TheVariants.{Choose, Filter, Steal, Within}
-use Rattle.policy_types.specs.Conditions.{condition_faults, elect_faults, order_faults}
+use Rattle.policy_types.specs.declared.sites.Site.TheVariants.{Filter, Within}
+use Rattle.policy_types.specs.Conditions.{condition_faults}
 use Rattle.policy_types.specs.Correct.{IsLeast, IsOfLevelGrammar}
 use Rattle.policy_types.specs.Declarations.{attrs_faults, load_faults, nothing_declared, scope_after}
 use Rattle.policy_types.specs.Faults.{IsFirst}
-use Rattle.policy_types.specs.Handlers.{handlers_faults}
 use Rattle.policy_types.specs.Levels.{level_faults, level_list_faults, level_text_faults}
-use Rattle.policy_types.specs.Policies.{batch_faults, place_faults}
-use Rattle.policy_types.proofs.Spans.{Spans, first_least, first_real, spans_append, spans_none, spans_wider}
+use Rattle.policy_types.specs.Policies.{running_faults}
+use Rattle.policy_types.proofs.Spans.{Spans, first_answer, first_least, spans_append, spans_none, spans_wider}
 use Rattle.policy_types.proofs.WalkConditions.{guard_spans, test_spans}
-use Rattle.policy_types.proofs.WalkOrders.{order_spans}
-use Rattle.policy_types.proofs.WalkPolicies.{attrs_spans, batch_spans, elect_spans, handlers_spans, load_spans, place_spans}
+use Rattle.policy_types.proofs.WalkPolicies.{attrs_spans, choices_spans, load_spans, running_spans}
 
 module _ (text : List ℕ) (ts : List Lexeme) where
   level_spans : (scope : Scope) {at to : ℕ} {l : OneLevelSyntaxTree} → IsLevel text ts at l to → to ≤ 2 ^ 32 → Spans at to (level_faults scope l)
@@ -36,29 +34,19 @@ module _ (text : List ℕ) (ts : List Lexeme) where
       spans_append at mid to (level_faults scope l) (level_list_faults scope rest) (level_spans scope d (omega arith)) later
 
   level_text_spans : {s : LevelSyntaxTree} → IsLevels text ts s → length ts < 2 ^ 32 → Spans 1 (length ts) (level_text_faults s)
-  level_text_spans (levels_of {at_attrs = at_attrs} {at_place = at_place} {at_elect = at_elect} {at_handlers = at_handlers} {at_levels = at_levels} {at_further = at_further} {at_choose = at_choose} {at_steal = at_steal}
-      {at_batch = at_batch} {load = load} {attrs = attrs} {place = place} {elect = elect} {handlers = handlers} {first = first} {further = further} {choose = choose} {steal = steal} {batch = batch}
+  level_text_spans (levels_of {at_attrs = at_attrs} {at_place = at_place} {at_levels = at_levels} {at_choose = at_choose}
+      {load = load} {attrs = attrs} {place = place} {elect = elect} {handlers = handlers} {first = first} {further = further}
       word name l attributes placed elected handled d more cw c sw st b) room =
-      let goes_on = batch_spans text ts scope b (omega arith) in let s7 = goes_on.ordered in
-      let steals = order_spans text ts scope Steal st (omega arith) in let s6 = steals.ordered in
-      let chooses = order_spans text ts scope Choose c (omega arith) in let s5 = chooses.ordered in
-      let lists = levels_spans scope (levels_more d more) (omega arith) in let s4 = lists.ordered in
-      let handles = handlers_spans text ts scope [] handled (omega arith) in let s3 = handles.ordered in
-      let elects = elect_spans text ts scope elected (omega arith) in let s2 = elects.ordered in
-      let places = place_spans text ts scope placed (omega arith) in let s1 = places.ordered in
+      let choices = choices_spans text ts scope c st b (omega arith) in let s3 = choices.ordered in
+      let lists = levels_spans scope (levels_more d more) (omega arith) in let s2 = lists.ordered in
+      let runs = running_spans text ts scope placed elected handled (omega arith) in let s1 = runs.ordered in
       let declares = attrs_spans text ts nothing_declared attributes (omega arith) in let s0 = declares.ordered in
       let loads = load_spans text ts l in let start = loads.ordered in
       spans_wider 1 2 (length ts) (length ts) _ (omega arith) (omega arith)
       (spans_append 2 at_attrs (length ts) (load_faults load) _ loads
       (spans_append at_attrs at_place (length ts) (attrs_faults nothing_declared attrs) _ declares
-      (spans_append at_place at_elect (length ts) (place_faults scope place) _ places
-      (spans_append at_elect at_handlers (length ts) (elect_faults scope elect) _ elects
-      (spans_append at_handlers at_levels (length ts) (handlers_faults scope [] handlers) _ handles
-      (spans_append at_levels at_choose (length ts) (level_list_faults scope (first ∷ further)) _ lists
-      (spans_append at_choose at_steal (length ts) (order_faults scope Choose choose) _
-      (spans_wider at_choose (at_choose + 1) at_steal at_steal (order_faults scope Choose choose) (omega arith) (omega arith) chooses)
-      (spans_append at_steal at_batch (length ts) (order_faults scope Steal steal) (batch_faults scope batch)
-      (spans_wider at_steal (at_steal + 1) at_batch at_batch (order_faults scope Steal steal) (omega arith) (omega arith) steals) goes_on))))))))
+      (spans_append at_place at_levels (length ts) (running_faults scope place elect handlers) _ runs
+      (spans_append at_levels at_choose (length ts) (level_list_faults scope (first ∷ further)) _ lists choices))))
     where
       scope : Scope
       scope = scope_after nothing_declared attrs
@@ -71,11 +59,4 @@ levels_answer_least (Err fault) s first = λ of. first_least 1 (length of.tokens
 -- a syntax of the grammar breaks no rule, or it has a first fault
 pub levels_answer : (s : LevelSyntaxTree) → IsOfLevelGrammar s
     → (level_text_faults s ≡ []) ⊎ ((fault : TypeFault) × IsFirst (level_text_faults s) fault × IsLeast (level_text_faults s) fault × (fault ≢ Memory))
-levels_answer s of = by (level_text_faults s) (level_text_spans of.text of.tokens of.is.is of.few)
-  where
-    by : (faults : List TypeFault) → Spans 1 (length of.tokens) faults
-        → (faults ≡ []) ⊎ ((fault : TypeFault) × IsFirst faults fault × IsLeast faults fault × (fault ≢ Memory))
-    by [] spans = inl refl
-    by (fault ∷ rest) spans =
-        let real = first_real (length of.tokens) fault rest spans in
-        inr (fault, real.0, first_least 1 (length of.tokens) (fault ∷ rest) fault spans real.0, real.1)
+levels_answer s of = first_answer (length of.tokens) (level_text_faults s) (level_text_spans of.text of.tokens of.is.is of.few)

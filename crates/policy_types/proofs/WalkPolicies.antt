@@ -1,5 +1,5 @@
 -- The faults of a policy stand in the order of its tokens.
-use Rattle.std.proofs.Common.{◌≡◌, ◌≢◌, ◌⊎◌, inl, inr, ℕ, ◌+◌, ◌^◌, ◌<◌, ◌≤◌, not, List, [], ◌∷◌, ◌++◌, length, refl, arith, Option, Some, None, Result, Ok, Err, IfErr}
+use Rattle.std.proofs.Common.{◌≡◌, ◌≢◌, ◌⊎◌, ℕ, ◌+◌, ◌^◌, ◌<◌, ◌≤◌, not, List, [], ◌∷◌, ◌++◌, length, refl, arith, Option, Some, None, Result, Ok, Err, IfErr}
 use Rattle.policy_syntax.specs.declared.syntax.AttrSyntax.{AttrSyntax}
 use Rattle.policy_syntax.specs.declared.syntax.IntSyntax.{IntSyntax}
 use Rattle.policy_syntax.specs.declared.syntax.LoadSyntax.{LoadSyntax}
@@ -7,8 +7,9 @@ use Rattle.policy_syntax.specs.declared.syntax.PlaceSyntax.{PlaceSyntax}
 use Rattle.policy_syntax.specs.declared.syntax.RangeSyntax.{RangeSyntax}
 use Rattle.policy_syntax.specs.declared.syntax.SetSyntax.{SetSyntax}
 use Rattle.policy_tree.specs.declared.typed.Event.{Event}
-use Rattle.policy_syntax.specs.SyntaxTrees.{ElectSyntaxTree, BatchSyntaxTree, CaseSyntaxTree, HandlerSyntaxTree, SyntaxTree}
+use Rattle.policy_syntax.specs.SyntaxTrees.{ElectSyntaxTree, BatchSyntaxTree, CaseSyntaxTree, HandlerSyntaxTree, OrderSyntaxTree, SyntaxTree}
 use Rattle.policy_grammar.specs.declared.terminal.Lexeme.{Lexeme}
+use Rattle.policy_grammar.specs.Orders.{IsOrder}
 use Rattle.policy_grammar.specs.Expressions.{IsInt, int_plain, int_signed, IsRange, range_of}
 use Rattle.policy_grammar.specs.Policies.{IsLoad, load_count, load_weight, IsAttr, attr_of, IsAttrs, attrs_none, attrs_more, IsPlace, place_none, place_here, place_least, IsElect, elect_none, elect_some, IsBatch, batch_none, batch_some, IsSets, sets_none, sets_more, IsCase, case_of, IsCases, cases_none, cases_more, handler_of, IsHandlers, handlers_none, handlers_more, IsPolicy, policy_of}
 use Rattle.policy_grammar.specs.Terminals.{value_at, word_at}
@@ -24,9 +25,9 @@ use Rattle.policy_types.specs.Declarations.{attr_faults, attrs_faults, declared_
 use Rattle.policy_types.specs.Expressions.{expr_faults}
 use Rattle.policy_types.specs.Faults.{IsFirst, behind, where_broken}
 use Rattle.policy_types.specs.Handlers.{case_faults, cases_faults, handlers_faults, is_among, sets_faults, target_faults}
-use Rattle.policy_types.specs.Policies.{batch_faults, is_batch_limit, limit_faults, place_faults, policy_faults}
+use Rattle.policy_types.specs.Policies.{batch_faults, choices_faults, is_batch_limit, limit_faults, place_faults, policy_faults, running_faults}
 use Rattle.policy_types.specs.References.{allows_put, feature_among}
-use Rattle.policy_types.proofs.Spans.{Spans, behind_is, first_least, first_real, spans_append, spans_none, spans_one, spans_where, spans_wider}
+use Rattle.policy_types.proofs.Spans.{Spans, behind_is, first_answer, first_least, spans_append, spans_none, spans_one, spans_where, spans_wider}
 use Rattle.policy_types.proofs.WalkConditions.{guard_spans}
 use Rattle.policy_types.proofs.WalkExpressions.{expr_spans}
 use Rattle.policy_types.proofs.WalkOrders.{order_spans}
@@ -128,31 +129,42 @@ module _ (text : List ℕ) (ts : List Lexeme) where
         (spans_append (at + 3) (last + 1) to (cases_faults scope event (c ∷ cs)) (handlers_faults scope (event ∷ before) rest)
         (spans_wider (at + 3) (at + 3) last (last + 1) (cases_faults scope event (c ∷ cs)) (omega arith) (omega arith) cases) later)
 
+    pub running_spans : {at_place at_elect at_handlers to : ℕ} {place : Option PlaceSyntax} {elect : Option ElectSyntaxTree} {handlers : List HandlerSyntaxTree} → IsPlace text ts at_place place at_elect →
+        IsElect text ts at_elect elect at_handlers → IsHandlers text ts at_handlers handlers to → to ≤ 2 ^ 32 → Spans at_place to (running_faults scope place elect handlers)
+    running_spans {at_place = at_place} {at_elect = at_elect} {at_handlers = at_handlers} {to = to} {place = place} {elect = elect} {handlers = handlers} placed elected handled room =
+        let handles = handlers_spans [] handled room in let s2 = handles.ordered in
+        let elects = elect_spans elected (omega arith) in let s1 = elects.ordered in
+        let places = place_spans placed (omega arith) in
+        spans_append at_place at_elect to (place_faults scope place) _ places
+        (spans_append at_elect at_handlers to (elect_faults scope elect) (handlers_faults scope [] handlers) elects handles)
+
+    pub choices_spans : {at_choose at_steal at_batch to : ℕ} {choose steal : OrderSyntaxTree} {batch : Option BatchSyntaxTree} → IsOrder text ts (at_choose + 1) choose at_steal →
+        IsOrder text ts (at_steal + 1) steal at_batch → IsBatch text ts at_batch batch to → to ≤ 2 ^ 32 → Spans at_choose to (choices_faults scope choose steal batch)
+    choices_spans {at_choose = at_choose} {at_steal = at_steal} {at_batch = at_batch} {to = to} {choose = choose} {steal = steal} {batch = batch} chosen stolen further room =
+        let goes_on = batch_spans further room in let s2 = goes_on.ordered in
+        let steals = order_spans text ts scope Steal stolen (omega arith) in let s1 = steals.ordered in
+        let chooses = order_spans text ts scope Choose chosen (omega arith) in let s0 = chooses.ordered in
+        spans_append at_choose at_steal to (order_faults scope Choose choose) _
+        (spans_wider at_choose (at_choose + 1) at_steal at_steal (order_faults scope Choose choose) (omega arith) (omega arith) chooses)
+        (spans_append at_steal at_batch to (order_faults scope Steal steal) (batch_faults scope batch)
+        (spans_wider at_steal (at_steal + 1) at_batch at_batch (order_faults scope Steal steal) (omega arith) (omega arith) steals) goes_on)
+
   policy_spans : {s : SyntaxTree} → IsPolicy text ts s → length ts < 2 ^ 32 → Spans 1 (length ts) (policy_faults s)
-  policy_spans (policy_of {at_attrs = at_attrs} {at_place = at_place} {at_elect = at_elect} {at_handlers = at_handlers} {at_filter = at_filter} {at_choose = at_choose} {at_steal = at_steal} {at_batch = at_batch}
-      {load = load} {attrs = attrs} {place = place} {elect = elect} {handlers = handlers} {filter = filter} {choose = choose} {steal = steal} {batch = batch}
+  policy_spans (policy_of {at_attrs = at_attrs} {at_place = at_place} {at_filter = at_filter} {at_choose = at_choose}
+      {load = load} {attrs = attrs} {place = place} {elect = elect} {handlers = handlers} {filter = filter}
       word name l attributes placed elected handled fw f cw c sw st b) room =
-      let goes_on = batch_spans scope b (omega arith) in let s7 = goes_on.ordered in
-      let steals = order_spans text ts scope Steal st (omega arith) in let s6 = steals.ordered in
-      let chooses = order_spans text ts scope Choose c (omega arith) in let s5 = chooses.ordered in
-      let filters = guard_spans text ts scope Filter f (omega arith) in let s4 = filters.ordered in
-      let handles = handlers_spans scope [] handled (omega arith) in let s3 = handles.ordered in
-      let elects = elect_spans scope elected (omega arith) in let s2 = elects.ordered in
-      let places = place_spans scope placed (omega arith) in let s1 = places.ordered in
+      let choices = choices_spans scope c st b (omega arith) in let s3 = choices.ordered in
+      let filters = guard_spans text ts scope Filter f (omega arith) in let s2 = filters.ordered in
+      let runs = running_spans scope placed elected handled (omega arith) in let s1 = runs.ordered in
       let declares = attrs_spans nothing_declared attributes (omega arith) in let s0 = declares.ordered in
       let loads = load_spans l in let start = loads.ordered in
       spans_wider 1 2 (length ts) (length ts) _ (omega arith) (omega arith)
       (spans_append 2 at_attrs (length ts) (load_faults load) _ loads
       (spans_append at_attrs at_place (length ts) (attrs_faults nothing_declared attrs) _ declares
-      (spans_append at_place at_elect (length ts) (place_faults scope place) _ places
-      (spans_append at_elect at_handlers (length ts) (elect_faults scope elect) _ elects
-      (spans_append at_handlers at_filter (length ts) (handlers_faults scope [] handlers) _ handles
+      (spans_append at_place at_filter (length ts) (running_faults scope place elect handlers) _ runs
       (spans_append at_filter at_choose (length ts) (condition_faults scope Filter filter) _
       (spans_wider at_filter (at_filter + 1) at_choose at_choose (condition_faults scope Filter filter) (omega arith) (omega arith) filters)
-      (spans_append at_choose at_steal (length ts) (order_faults scope Choose choose) _
-      (spans_wider at_choose (at_choose + 1) at_steal at_steal (order_faults scope Choose choose) (omega arith) (omega arith) chooses)
-      (spans_append at_steal at_batch (length ts) (order_faults scope Steal steal) (batch_faults scope batch)
-      (spans_wider at_steal (at_steal + 1) at_batch at_batch (order_faults scope Steal steal) (omega arith) (omega arith) steals) goes_on))))))))
+      choices))))
     where
       scope : Scope
       scope = scope_after nothing_declared attrs
@@ -165,11 +177,4 @@ answer_least (Err fault) s first = λ of. first_least 1 (length of.tokens) (poli
 -- a syntax of the grammar breaks no rule, or it has a first fault
 pub policy_answer : (s : SyntaxTree) → IsOfGrammar s
     → (policy_faults s ≡ []) ⊎ ((fault : TypeFault) × IsFirst (policy_faults s) fault × IsLeast (policy_faults s) fault × (fault ≢ Memory))
-policy_answer s of = by (policy_faults s) (policy_spans of.text of.tokens of.is.is of.few)
-  where
-    by : (faults : List TypeFault) → Spans 1 (length of.tokens) faults
-        → (faults ≡ []) ⊎ ((fault : TypeFault) × IsFirst faults fault × IsLeast faults fault × (fault ≢ Memory))
-    by [] spans = inl refl
-    by (fault ∷ rest) spans =
-        let real = first_real (length of.tokens) fault rest spans in
-        inr (fault, real.0, first_least 1 (length of.tokens) (fault ∷ rest) fault spans real.0, real.1)
+policy_answer s of = first_answer (length of.tokens) (policy_faults s) (policy_spans of.text of.tokens of.is.is of.few)

@@ -2,7 +2,7 @@
 use Rattle.std.specs.Prelude.{ℕ, ◌^◌, ◌<◌, ◌≤◌, List, All, length}
 use Rattle.policy_syntax.specs.SyntaxTrees.{SyntaxTree}
 use Rattle.policy_syntax.specs.LevelTrees.{LevelSyntaxTree}
-use Rattle.policy_grammar.specs.Correct.{AreWithin, IsWithin}
+use Rattle.policy_grammar.specs.Correct.{IsLevelTextWithin, IsWithin}
 use Rattle.policy_types.specs.declared.fault.TypeFault.{TypeFault}
 use Rattle.policy_types.specs.declared.fault.TypeFault.TheVariants.{Unknown, Twice, NotLinear, NotHere, BadRange, Big}
 use Rattle.policy_types.specs.declared.fault.TypeFault.TheVariants.{Memory}
@@ -20,7 +20,7 @@ pub record IsOfGrammar (s : SyntaxTree) : Type 0 where
 pub record IsOfLevelGrammar (s : LevelSyntaxTree) : Type 0 where
   pub text : List ℕ
   pub tokens : List Lexeme
-  pub is : AreWithin POLICY_LIMITS text tokens s
+  pub is : IsLevelTextWithin POLICY_LIMITS text tokens s
   pub few : length tokens < 2 ^ 32
 
 -- the number of the token that a fault names

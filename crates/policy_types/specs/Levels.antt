@@ -6,11 +6,10 @@ use Rattle.policy_syntax.specs.SyntaxTrees.{SyntaxTree, always}
 use Rattle.level_policy.specs.Levels.{LevelTree, LevelsMeaning}
 use Rattle.policy_types.specs.declared.fault.TypeFault.{TypeFault}
 use Rattle.policy_types.specs.declared.scope.Scope.{Scope}
-use Rattle.policy_types.specs.declared.sites.Site.TheVariants.{Choose, Filter, Steal, Within}
-use Rattle.policy_types.specs.Conditions.{condition_faults, condition_meaning, elect_faults, order_faults}
+use Rattle.policy_types.specs.declared.sites.Site.TheVariants.{Filter, Within}
+use Rattle.policy_types.specs.Conditions.{condition_faults, condition_meaning}
 use Rattle.policy_types.specs.Declarations.{attrs_faults, load_faults, nothing_declared, scope_after}
-use Rattle.policy_types.specs.Handlers.{handlers_faults}
-use Rattle.policy_types.specs.Policies.{batch_faults, meaning_in, place_faults}
+use Rattle.policy_types.specs.Policies.{choices_faults, meaning_in, running_faults}
 
 -- a level
 abbrev pub level_meaning : Scope → OneLevelSyntaxTree → LevelTree
@@ -43,8 +42,9 @@ beside_levels s = record {
 }
 
 -- the policy by levels, where what it declares is this
-abbrev pub levels_in : Scope → LevelSyntaxTree → LevelsMeaning
-levels_in scope s = record { plain = meaning_in scope (beside_levels s); levels = map (level_meaning scope) s.levels }
+abbrev pub level_text_meaning_in : Scope → LevelSyntaxTree → LevelsMeaning
+level_text_meaning_in scope s =
+    record { plain = meaning_in scope (beside_levels s); levels = map (level_meaning scope) s.levels }
 
 -- with that name and that load
 abbrev pub headed : List ℕ → Load → LevelsMeaning → LevelsMeaning
@@ -55,18 +55,14 @@ abbrev pub level_scope : LevelSyntaxTree → Scope
 level_scope s = scope_after nothing_declared s.attrs
 
 abbrev pub level_text_meaning : LevelSyntaxTree → LevelsMeaning
-level_text_meaning s = levels_in (level_scope s) s
+level_text_meaning s = level_text_meaning_in (level_scope s) s
 
 -- the rules that are broken behind the declarations
-abbrev pub level_faults_in : Scope → LevelSyntaxTree → List TypeFault
-level_faults_in scope s =
-    place_faults scope s.place
-    ++ (elect_faults scope s.elect
-    ++ (handlers_faults scope [] s.handlers
-    ++ (level_list_faults scope s.levels
-    ++ (order_faults scope Choose s.choose
-    ++ (order_faults scope Steal s.steal ++ batch_faults scope s.batch)))))
+abbrev pub level_text_faults_in : Scope → LevelSyntaxTree → List TypeFault
+level_text_faults_in scope s =
+    running_faults scope s.place s.elect s.handlers
+    ++ (level_list_faults scope s.levels ++ choices_faults scope s.choose s.steal s.batch)
 
 abbrev pub level_text_faults : LevelSyntaxTree → List TypeFault
 level_text_faults s =
-    load_faults s.load ++ (attrs_faults nothing_declared s.attrs ++ level_faults_in (level_scope s) s)
+    load_faults s.load ++ (attrs_faults nothing_declared s.attrs ++ level_text_faults_in (level_scope s) s)

@@ -8,6 +8,7 @@ pub mod Declarations
 pub mod Handlers
 pub mod Policies
 pub mod Levels
+pub mod Parts
 pub mod Products
 pub mod Given
 pub mod Correct

@@ -4,7 +4,8 @@ use Rattle.sched_base.specs.declared.limits.TheConstants.{MAX_STOLEN}
 use Rattle.policy_syntax.specs.declared.syntax.PlaceSyntax.{PlaceSyntax}
 use Rattle.policy_syntax.specs.declared.syntax.PlaceSyntax.TheVariants.{Here, Least}
 use Rattle.policy_tree.specs.Meaning.{BatchTree, Meaning, PlaceTree, here, least}
-use Rattle.policy_syntax.specs.SyntaxTrees.{BatchSyntaxTree, SyntaxTree}
+use Rattle.policy_syntax.specs.SyntaxTrees.{BatchSyntaxTree, ElectSyntaxTree, HandlerSyntaxTree, OrderSyntaxTree}
+use Rattle.policy_syntax.specs.SyntaxTrees.{SyntaxTree}
 use Rattle.policy_types.specs.declared.fault.TypeFault.{TypeFault}
 use Rattle.policy_types.specs.declared.fault.TypeFault.TheVariants.{BadRange}
 use Rattle.policy_types.specs.declared.scope.Scope.{Scope}
@@ -66,15 +67,22 @@ meaning_in scope s = record {
 abbrev pub policy_meaning : SyntaxTree → Meaning
 policy_meaning s = meaning_in (scope_of s) s
 
+-- the rules that are broken by what is said of threads that stay on their core
+abbrev pub running_faults : Scope → Option PlaceSyntax → Option ElectSyntaxTree → List HandlerSyntaxTree →
+    List TypeFault
+running_faults scope place elect handlers =
+    place_faults scope place ++ (elect_faults scope elect ++ handlers_faults scope [] handlers)
+
+-- and by the orders and the batch of steals
+abbrev pub choices_faults : Scope → OrderSyntaxTree → OrderSyntaxTree → Option BatchSyntaxTree → List TypeFault
+choices_faults scope choose steal batch =
+    order_faults scope Choose choose ++ (order_faults scope Steal steal ++ batch_faults scope batch)
+
 -- the rules that are broken behind the declarations
 abbrev pub faults_in : Scope → SyntaxTree → List TypeFault
 faults_in scope s =
-    place_faults scope s.place
-    ++ (elect_faults scope s.elect
-    ++ (handlers_faults scope [] s.handlers
-    ++ (condition_faults scope Filter s.filter
-    ++ (order_faults scope Choose s.choose
-    ++ (order_faults scope Steal s.steal ++ batch_faults scope s.batch)))))
+    running_faults scope s.place s.elect s.handlers
+    ++ (condition_faults scope Filter s.filter ++ choices_faults scope s.choose s.steal s.batch)
 
 abbrev pub policy_faults : SyntaxTree → List TypeFault
 policy_faults s = load_faults s.load ++ (attrs_faults nothing_declared s.attrs ++ faults_in (scope_of s) s)

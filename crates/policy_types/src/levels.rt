@@ -6,8 +6,9 @@ ghost use Rattle.level_policy.specs.ResolvedLevels.{AreResolved};
 ghost use Rattle.policy_syntax.specs.LevelTrees.{level_syntax_tree, one_level_syntax_tree};
 ghost use Rattle.policy_types.specs.Correct.{IsLeast, IsOfLevelGrammar};
 ghost use Rattle.policy_types.specs.Faults.{IsFirst};
-ghost use Rattle.policy_types.specs.Levels.{headed, level_faults, level_faults_in, level_list_faults, level_meaning};
-ghost use Rattle.policy_types.specs.Levels.{level_text_faults, level_text_meaning, levels_in};
+ghost use Rattle.policy_types.specs.Levels.{headed, level_faults, level_text_faults_in, level_list_faults};
+ghost use Rattle.policy_types.specs.Levels.{level_meaning};
+ghost use Rattle.policy_types.specs.Levels.{level_text_faults, level_text_meaning, level_text_meaning_in};
 
 use crate::declarations::{attributes, copy_of_name, load};
 use crate::fault::TypeFault;
@@ -16,7 +17,7 @@ use crate::sites::Site;
 use level_policy::{Level, LevelList, Levels};
 use lists::Items;
 use policy_syntax::{LevelSyntax, OneLevelSyntax};
-use policy_tree::{Cond, Load, Name, Policy};
+use policy_tree::{Cond, Load, Name};
 use std::alloc::Global;
 
 /// The policy by levels of that syntax, or the first rule of names, ranges and phases that it breaks.
@@ -57,31 +58,15 @@ impl Scope<'_> {
         syntax: &LevelSyntax,
     ) -> Result<Levels, TypeFault>
         ensures levels { IfOk result (λ l.
-            levels_meaning l ≡ headed name load (levels_in self.entry (level_syntax_tree syntax.now))) }
-        ensures sound { IfOk result (λ l. level_faults_in self.entry (level_syntax_tree syntax.now) ≡ []) }
-        ensures fault { IfErr result (IsFirst (level_faults_in self.entry (level_syntax_tree syntax.now))) }
+            levels_meaning l ≡ headed name load (level_text_meaning_in self.entry (level_syntax_tree syntax.now))) }
+        ensures sound { IfOk result (λ l. level_text_faults_in self.entry (level_syntax_tree syntax.now) ≡ []) }
+        ensures fault { IfErr result (IsFirst (level_text_faults_in self.entry (level_syntax_tree syntax.now))) }
     {
-        let place = self.place(alloc, &syntax.place)?;
-        let elect = self.elect(alloc, &syntax.elect)?;
-        let handlers = self.handlers(alloc, syntax.handlers.as_slice())?;
+        let handlers = syntax.handlers.as_slice();
+        let running = self.running(alloc, &syntax.place, &syntax.elect, handlers)?;
         let levels = self.level_list(alloc, syntax.levels.as_slice())?;
-        let choose = self.order(alloc, Site::Choose, &syntax.choose)?;
-        let steal = self.order(alloc, Site::Steal, &syntax.steal)?;
-        let batch = self.batch(alloc, &syntax.batch)?;
-        let Scope { cores, threads } = self;
-        let plain = Policy {
-            name,
-            load,
-            core_attrs: cores.into_list(),
-            thread_attrs: threads.into_list(),
-            place,
-            elect,
-            handlers,
-            filter: Cond::Always,
-            choose,
-            steal,
-            batch,
-        };
+        let choices = self.choices(alloc, &syntax.choose, &syntax.steal, &syntax.batch)?;
+        let plain = self.policy_with(name, load, running, Cond::Always, choices);
         Ok(Levels { plain, levels })
     }
 

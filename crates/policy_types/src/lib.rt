@@ -8,6 +8,7 @@ mod expressions;
 mod fault;
 mod handlers;
 mod levels;
+mod parts;
 mod products;
 mod resolution;
 mod scope;

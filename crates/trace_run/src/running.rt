@@ -56,8 +56,8 @@ pub fn run_text<R: Threads + Wait + Sync, G: Gate + Sync>(
     }
 }
 
-/// What a run of the plan under the policy comes to, by these players: the cores that ran it. Which players they were is
-/// no clause.
+/// What a run of the plan under the policy comes to, by these players: the cores that ran it. Which players they were
+/// is no clause.
 ///
 /// # Errors
 ///

@@ -1,5 +1,5 @@
 -- A turn that is told one thing after the other.
-use Rattle.std.proofs.Common.{◌≡◌, ◌+◌, ◌∷◌, [], ◌++◌, ℕ, List, length, length-append, refl, ap, ◌∙◌, subst}
+use Rattle.std.proofs.Common.{◌≡◌, ◌+◌, ◌∷◌, [], ◌++◌, ℕ, length, length-append, refl, ap, ◌∙◌, subst}
 use Rattle.round_model.specs.declared.plan.Plan.{Plan}
 use Rattle.core_table.specs.Logs.{own_log}
 use Rattle.turn_steps.specs.declared.asking.Told.{Told}

@@ -1,5 +1,5 @@
-//! Turns by the calls of a core in memory, whole and step by step: under a policy without placement, one with it and one
-//! with a batch. The files `NAME.trace` and `NAME.history` have the plan, and the history that its turns come to.
+//! Turns by the calls of a core in memory, whole and step by step: under a policy without placement, one with it and
+//! one with a batch. The files `NAME.trace` and `NAME.history` have the plan, and the history that its turns come to.
 
 ghost use Rattle.std.specs.Prelude.{◌≡◌, ◌≤◌, ◌⊎◌, ℕ, IsTrue, length};
 ghost use Rattle.sched_base.specs.declared.limits.TheConstants.{MAX_ENTRIES};

@@ -3,7 +3,7 @@ use Rattle.std.proofs.Common.{◌≡◌, IfOk, subst, sym}
 use Rattle.policy_tree.specs.declared.typed.Policy.{Policy}
 use Rattle.policy_tree.specs.Meaning.{meaning_of}
 use Rattle.c_printer.specs.CText.{c_text}
-use Rattle.ipanema_cli.specs.Answers.{exporting_of}
+use Rattle.ipanema_cli.specs.PolicyAnswers.{exporting_of}
 use Rattle.ipanema_cli.specs.declared.kinds.ExportCommand.{ExportCommand}
 use Rattle.ipanema_cli.proofs.answers.exported_of.Goals as goal
 

@@ -3,7 +3,7 @@ use Rattle.policy_syntax.specs.declared.levels.LevelSyntax.{LevelSyntax}
 use Rattle.policy_syntax.specs.LevelTrees.{LevelSyntaxTree, level_syntax_tree}
 use Rattle.policy_grammar.specs.declared.language.Language.TheVariants.{LevelTexts}
 use Rattle.policy_grammar.specs.declared.limits.TheConstants.{POLICY_LIMITS}
-use Rattle.policy_grammar.specs.LevelBreaks.{breaks_levels}
+use Rattle.policy_grammar.specs.LevelBreaks.{breaks_level_text}
 use Rattle.policy_grammar.specs.Lexemes.{lexeme_in, lexemes_in}
 use Rattle.policy_grammar.specs.Machine.{level_start}
 use Rattle.policy_grammar.specs.Levels.{IsLevels}
@@ -32,28 +32,28 @@ invariant_of-source c =
 
 pub returns-clause-syntax : goal.returns-clause-syntax
 returns-clause-syntax c =
-    within-exact POLICY_LIMITS c.args.text.now LevelSyntaxTree (IsLevels c.args.text.now) (breaks_levels POLICY_LIMITS) (level_start POLICY_LIMITS)
+    within-exact POLICY_LIMITS c.args.text.now LevelSyntaxTree (IsLevels c.args.text.now) (breaks_level_text POLICY_LIMITS) (level_start POLICY_LIMITS)
     (level_texts POLICY_LIMITS c.args.text.now) LevelSyntax level_syntax_tree _ (lexemes_in LevelTexts c.args.text.now c.args.tokens.now)
     (c.as_slice.ensures.value ∙ c.in_ok-lexemes.ensures.are) c.level_text.result
     c.level_text.ensures.is c.level_text.ensures.reads
 
 pub returns-clause-only : goal.returns-clause-only
 returns-clause-only c =
-    only-exact POLICY_LIMITS c.args.text.now LevelSyntaxTree (IsLevels c.args.text.now) (breaks_levels POLICY_LIMITS) (level_start POLICY_LIMITS)
+    only-exact POLICY_LIMITS c.args.text.now LevelSyntaxTree (IsLevels c.args.text.now) (breaks_level_text POLICY_LIMITS) (level_start POLICY_LIMITS)
     (level_texts POLICY_LIMITS c.args.text.now) LevelSyntax level_syntax_tree _ (lexemes_in LevelTexts c.args.text.now c.args.tokens.now)
     (c.as_slice.ensures.value ∙ c.in_ok-lexemes.ensures.are) c.level_text.result
     (λ us s t is also. level_text-one c.args.text.now us is also) c.level_text.ensures.is
 
 pub returns-clause-fault : goal.returns-clause-fault
 returns-clause-fault c =
-    faults-exact POLICY_LIMITS c.args.text.now LevelSyntaxTree (IsLevels c.args.text.now) (breaks_levels POLICY_LIMITS) (level_start POLICY_LIMITS)
+    faults-exact POLICY_LIMITS c.args.text.now LevelSyntaxTree (IsLevels c.args.text.now) (breaks_level_text POLICY_LIMITS) (level_start POLICY_LIMITS)
     (level_texts POLICY_LIMITS c.args.text.now) LevelSyntax level_syntax_tree _ (lexemes_in LevelTexts c.args.text.now c.args.tokens.now)
     (c.as_slice.ensures.value ∙ c.in_ok-lexemes.ensures.are) c.level_text.result
     c.level_text.ensures.reads
 
 pub returns-clause-reads : goal.returns-clause-reads
 returns-clause-reads c =
-    reads-exact POLICY_LIMITS c.args.text.now LevelSyntaxTree (IsLevels c.args.text.now) (breaks_levels POLICY_LIMITS) (level_start POLICY_LIMITS)
+    reads-exact POLICY_LIMITS c.args.text.now LevelSyntaxTree (IsLevels c.args.text.now) (breaks_level_text POLICY_LIMITS) (level_start POLICY_LIMITS)
     (level_texts POLICY_LIMITS c.args.text.now) LevelSyntax level_syntax_tree _ (lexemes_in LevelTexts c.args.text.now c.args.tokens.now)
     (c.as_slice.ensures.value ∙ c.in_ok-lexemes.ensures.are) c.level_text.result
     c.level_text.ensures.reads

@@ -1,4 +1,4 @@
-use Rattle.std.proofs.Common.{◌≡◌, ◌∙◌, Some, refl, sym, ap, subst}
+use Rattle.std.proofs.Common.{◌≡◌, ◌∙◌, refl, sym, ap, subst}
 use Rattle.turn_steps.specs.declared.asking.Ask.{Ask}
 use Rattle.turn_steps.specs.declared.asking.Told.TheVariants as told
 use Rattle.turn_steps.specs.declared.reached.Reached.TheVariants as reached

@@ -1,7 +1,8 @@
 use Rattle.std.proofs.Common.{◌∙◌, refl}
 use Rattle.std.proofs.lemmas.Result.{err_from_is_err_and}
 use Rattle.policy_grammar.specs.Expressions.{factor_plain}
-use Rattle.policy_parser.proofs.Moves.{yes, isnt, passes, sign-goes, sign-many, sign-deep}
+use Rattle.policy_parser.proofs.Judged.{yes, isnt, passes}
+use Rattle.policy_parser.proofs.Moves.{sign-goes, sign-many, sign-deep}
 use Rattle.policy_parser.proofs.Parts.{signed_of}
 use Rattle.policy_parser.proofs.source.Source.+factor.Goals as goal
 

@@ -2,8 +2,9 @@ use Rattle.std.proofs.Common.{◌∷◌, ◌∙◌, ◌++◌, [], sym, ap, subst
 use Rattle.std.proofs.lemmas.Result.{err_from_is_err_and}
 use Rattle.policy_syntax.specs.SyntaxTrees.{condition_tree, no_more, grouped}
 use Rattle.policy_grammar.specs.Conditions.{IsUnit, unit_always, unit_not, unit_group, ands_none, ors_none, conjunction_of, condition_of}
-use Rattle.policy_grammar.specs.Machine.{ands, ors, close}
-use Rattle.policy_parser.proofs.Moves.{yes, isnt, inside, passes, fails-at, answers-as, go-from, ands-goes, ands-over, ors-goes, ors-over, always-goes, not-goes, not-deep, open-goes, open-deep, close-goes, close-none, test-begins}
+use Rattle.policy_grammar.specs.Symbols.{ands, ors, close}
+use Rattle.policy_parser.proofs.Judged.{yes, isnt, inside, passes, fails-at, answers-as, go-from}
+use Rattle.policy_parser.proofs.Moves.{ands-goes, ands-over, ors-goes, ors-over, always-goes, not-goes, not-deep, open-goes, open-deep, close-goes, close-none, test-begins}
 use Rattle.policy_parser.proofs.Chains.{anded-one, anded-snoc, anded-all, ored-one, ored-snoc, ored-any}
 use Rattle.policy_parser.proofs.source.Source.+nested.Goals as goal
 

@@ -1,7 +1,8 @@
 use Rattle.std.proofs.Common.{◌≡◌, ◌<◌, ◌+◌, ◌*◌, ◌-◌, ◌∷◌, List, length}
 use Rattle.policy_grammar.specs.declared.terminal.Terminal.TheVariants.{And, Or}
 use Rattle.policy_grammar.specs.Terminals.{code, kind_at}
-use Rattle.policy_grammar.specs.Machine.{Symbol, unit, ands, ors, go}
+use Rattle.policy_grammar.specs.Symbols.{Symbol, unit, ands, ors}
+use Rattle.policy_grammar.specs.Machine.{go}
 use Rattle.policy_parser.proofs.Chains.{Anded, Ored}
 use Rattle.policy_parser.proofs.source.Source.+nested.Given as goal
 

@@ -1,8 +1,9 @@
 use Rattle.std.proofs.Common.{◌∷◌, ◌∙◌, ◌+◌, refl, sym, subst, arith}
 use Rattle.std.proofs.lemmas.Result.{err_from_is_err_and}
 use Rattle.policy_grammar.specs.Policies.{IsSets, sets_none}
-use Rattle.policy_grammar.specs.Machine.{actions}
-use Rattle.policy_parser.proofs.Moves.{yes, isnt, passes, set-goes, set-many, put-goes, put-none}
+use Rattle.policy_grammar.specs.Symbols.{actions}
+use Rattle.policy_parser.proofs.Judged.{yes, isnt, passes}
+use Rattle.policy_parser.proofs.PartMoves.{set-goes, set-many, put-goes, put-none}
 use Rattle.policy_parser.proofs.Parts.{sets-snoc}
 use Rattle.policy_parser.proofs.source.Source.actions.Goals as goal
 

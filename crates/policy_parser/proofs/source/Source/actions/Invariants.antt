@@ -1,6 +1,7 @@
 use Rattle.std.proofs.Common.{◌≡◌, ◌≤◌, ◌-◌, ◌∷◌, List, length, vec_len}
 use Rattle.policy_grammar.specs.Policies.{IsSets}
-use Rattle.policy_grammar.specs.Machine.{Symbol, actions, go}
+use Rattle.policy_grammar.specs.Symbols.{Symbol, actions}
+use Rattle.policy_grammar.specs.Machine.{go}
 use Rattle.policy_parser.proofs.source.Source.actions.Given as goal
 
 abbrev pub invariant-sets : goal.invariant-sets

@@ -2,7 +2,8 @@ use Rattle.std.proofs.Common.{◌∙◌, List, refl, sym, subst, arith}
 use Rattle.std.proofs.lemmas.Result.{err_from_is_err_and}
 use Rattle.policy_syntax.specs.declared.syntax.AddedSyntax.{AddedSyntax}
 use Rattle.policy_grammar.specs.Expressions.{IsAdded, added_none}
-use Rattle.policy_parser.proofs.Moves.{passes, added-goes, added-many, operators-over}
+use Rattle.policy_parser.proofs.Judged.{passes}
+use Rattle.policy_parser.proofs.Moves.{added-goes, added-many, operators-over}
 use Rattle.policy_parser.proofs.Parts.{added-snoc}
 use Rattle.policy_parser.proofs.source.Source.added.Goals as goal
 

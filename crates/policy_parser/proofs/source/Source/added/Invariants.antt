@@ -2,7 +2,8 @@ use Rattle.std.proofs.Common.{ℕ, ◌≡◌, ◌≤◌, ◌-◌, ◌∷◌, ◌
 use Rattle.policy_grammar.specs.declared.terminal.Terminal.TheVariants.{Star}
 use Rattle.policy_grammar.specs.Terminals.{code, kind_at}
 use Rattle.policy_grammar.specs.Expressions.{IsAdded}
-use Rattle.policy_grammar.specs.Machine.{Symbol, operators, go}
+use Rattle.policy_grammar.specs.Symbols.{Symbol, operators}
+use Rattle.policy_grammar.specs.Machine.{go}
 use Rattle.policy_parser.proofs.source.Source.added.Given as goal
 
 abbrev pub invariant-sums : goal.invariant-sums

@@ -1,8 +1,8 @@
 use Rattle.std.proofs.Common.{◌∷◌, ◌∙◌}
 use Rattle.std.proofs.lemmas.Result.{err_from_is_err_and}
 use Rattle.policy_grammar.specs.declared.terminal.Terminal.TheVariants.{In, Range, Start}
-use Rattle.policy_grammar.specs.Machine.{the, int}
-use Rattle.policy_parser.proofs.Moves.{passes}
+use Rattle.policy_grammar.specs.Symbols.{the, int}
+use Rattle.policy_parser.proofs.Judged.{passes}
 use Rattle.policy_parser.proofs.Parts.{attr-parts}
 use Rattle.policy_parser.proofs.source.Source.attr.Goals as goal
 

@@ -1,9 +1,11 @@
 use Rattle.std.proofs.Common.{not, ◌∷◌, ◌∙◌, refl, sym, ap, subst, arith}
 use Rattle.std.proofs.lemmas.Result.{err_from_is_err_and}
 use Rattle.policy_grammar.specs.Policies.{IsAttrs, attrs_none}
-use Rattle.policy_grammar.specs.Machine.{attrs, go}
+use Rattle.policy_grammar.specs.Symbols.{attrs}
+use Rattle.policy_grammar.specs.Machine.{go}
 use Rattle.policy_grammar.specs.Breaks.{of_cores_more, of_threads_more}
-use Rattle.policy_parser.proofs.Moves.{passes, attr-goes, attr-many, attrs-over, cores-more, threads-more, at-most-one}
+use Rattle.policy_parser.proofs.Judged.{passes, cores-more, threads-more, at-most-one}
+use Rattle.policy_parser.proofs.PartMoves.{attr-goes, attr-many, attrs-over}
 use Rattle.policy_parser.proofs.Parts.{attrs-snoc}
 use Rattle.policy_parser.proofs.source.Source.attrs.Goals as goal
 

@@ -1,6 +1,7 @@
 use Rattle.std.proofs.Common.{◌≡◌, ◌≤◌, ◌-◌, ◌∷◌, List, length, vec_len}
 use Rattle.policy_grammar.specs.Policies.{IsAttrs}
-use Rattle.policy_grammar.specs.Machine.{Symbol, attrs, go}
+use Rattle.policy_grammar.specs.Symbols.{Symbol, attrs}
+use Rattle.policy_grammar.specs.Machine.{go}
 use Rattle.policy_parser.proofs.source.Source.attrs.Given as goal
 
 abbrev pub invariant-attrs : goal.invariant-attrs

@@ -3,8 +3,9 @@ use Rattle.std.proofs.lemmas.Result.{err_from_is_err_and}
 use Rattle.policy_grammar.specs.declared.terminal.Terminal.TheVariants.{Filter, Choose, Steal}
 use Rattle.policy_syntax.specs.SyntaxTrees.{condition_tree}
 use Rattle.policy_grammar.specs.Conditions.{IsCondition}
-use Rattle.policy_grammar.specs.Machine.{the, condition, order, batch}
-use Rattle.policy_parser.proofs.Moves.{passes, condition-begins}
+use Rattle.policy_grammar.specs.Symbols.{the, condition, order, batch}
+use Rattle.policy_parser.proofs.Judged.{passes}
+use Rattle.policy_parser.proofs.Moves.{condition-begins}
 use Rattle.policy_parser.proofs.source.Source.back.Goals as goal
 
 pub returns-in_err-handlers-clause-reads : goal.returns-in_err-handlers-clause-reads

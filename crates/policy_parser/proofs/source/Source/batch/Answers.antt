@@ -3,9 +3,10 @@ use Rattle.std.proofs.lemmas.Result.{err_from_is_err_and}
 use Rattle.policy_syntax.specs.SyntaxTrees.{condition_tree}
 use Rattle.policy_grammar.specs.declared.terminal.Terminal.TheVariants.{Limit, Number}
 use Rattle.policy_grammar.specs.Conditions.{IsCondition}
-use Rattle.policy_grammar.specs.Machine.{the}
+use Rattle.policy_grammar.specs.Symbols.{the}
 use Rattle.policy_grammar.specs.Policies.{batch_none}
-use Rattle.policy_parser.proofs.Moves.{yes, isnt, passes, batch-over, batch-goes}
+use Rattle.policy_parser.proofs.Judged.{yes, isnt, passes}
+use Rattle.policy_parser.proofs.PartMoves.{batch-over, batch-goes}
 use Rattle.policy_parser.proofs.Whole.{batch-parts}
 use Rattle.policy_parser.proofs.source.Source.batch.Goals as goal
 

@@ -1,9 +1,10 @@
 use Rattle.std.proofs.Common.{◌∷◌, ◌∙◌, ◌+◌, sym, subst, arith}
 use Rattle.std.proofs.lemmas.Result.{err_from_is_err_and}
 use Rattle.policy_syntax.specs.SyntaxTrees.{condition_tree}
-use Rattle.policy_grammar.specs.Machine.{cases, actions}
+use Rattle.policy_grammar.specs.Symbols.{cases, actions}
 use Rattle.policy_parser.specs.Sections.{IsGuard}
-use Rattle.policy_parser.proofs.Moves.{yes, isnt, passes, case-goes, case-many, case-none}
+use Rattle.policy_parser.proofs.Judged.{yes, isnt, passes}
+use Rattle.policy_parser.proofs.PartMoves.{case-goes, case-many, case-none}
 use Rattle.policy_parser.proofs.Parts.{case-parts}
 use Rattle.policy_parser.proofs.source.Source.case.Goals as goal
 

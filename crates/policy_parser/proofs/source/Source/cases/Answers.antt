@@ -1,6 +1,7 @@
 use Rattle.std.proofs.Common.{◌∷◌, ◌∙◌, ◌++◌, [], ap, arith}
 use Rattle.std.proofs.lemmas.Result.{err_from_is_err_and}
-use Rattle.policy_parser.proofs.Moves.{yes, isnt, passes, cases-case, cases-over}
+use Rattle.policy_parser.proofs.Judged.{yes, isnt, passes}
+use Rattle.policy_parser.proofs.PartMoves.{cases-case, cases-over}
 use Rattle.policy_parser.proofs.Parts.{cased-one, cased-snoc}
 use Rattle.policy_parser.proofs.source.Source.cases.Goals as goal
 

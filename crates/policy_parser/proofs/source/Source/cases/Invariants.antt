@@ -1,5 +1,6 @@
 use Rattle.std.proofs.Common.{◌≡◌, ◌≤◌, ◌<◌, ◌-◌, ◌∷◌, List, length, vec_len}
-use Rattle.policy_grammar.specs.Machine.{Symbol, case, cases, go}
+use Rattle.policy_grammar.specs.Symbols.{Symbol, case, cases}
+use Rattle.policy_grammar.specs.Machine.{go}
 use Rattle.policy_parser.specs.Cases.{Cased}
 use Rattle.policy_parser.proofs.source.Source.cases.Given as goal
 

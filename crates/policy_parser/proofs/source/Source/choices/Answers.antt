@@ -2,9 +2,9 @@ use Rattle.std.proofs.Common.{◌∷◌, ◌∙◌, ◌+◌, [], sym, subst}
 use Rattle.std.proofs.lemmas.Result.{err_from_is_err_and}
 use Rattle.policy_syntax.specs.SyntaxTrees.{order_syntax_tree}
 use Rattle.policy_grammar.specs.declared.terminal.Terminal.TheVariants.{Steal}
-use Rattle.policy_grammar.specs.Machine.{the, order, batch}
+use Rattle.policy_grammar.specs.Symbols.{the, order, batch}
 use Rattle.policy_grammar.specs.Orders.{IsOrder}
-use Rattle.policy_parser.proofs.Moves.{passes}
+use Rattle.policy_parser.proofs.Judged.{passes}
 use Rattle.policy_parser.proofs.source.Source.choices.Goals as goal
 
 pub returns-in_err-choose-clause-reads : goal.returns-in_err-choose-clause-reads

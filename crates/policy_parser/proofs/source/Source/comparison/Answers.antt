@@ -2,8 +2,9 @@ use Rattle.std.proofs.Common.{◌∷◌, ◌∙◌, ◌+◌}
 use Rattle.std.proofs.lemmas.Result.{err_from_is_err_and}
 use Rattle.policy_grammar.specs.Conditions.{unit_test}
 use Rattle.policy_grammar.specs.Levels.{within_test}
-use Rattle.policy_grammar.specs.Machine.{compare}
-use Rattle.policy_parser.proofs.Moves.{passes, compare-goes, compare-many, compare-none}
+use Rattle.policy_grammar.specs.Symbols.{compare}
+use Rattle.policy_parser.proofs.Judged.{passes}
+use Rattle.policy_parser.proofs.Moves.{compare-goes, compare-many, compare-none}
 use Rattle.policy_parser.proofs.source.Source.comparison.Goals as goal
 
 pub returns-in_err-left-clause-reads : goal.returns-in_err-left-clause-reads

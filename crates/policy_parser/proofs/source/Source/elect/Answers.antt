@@ -1,7 +1,8 @@
 use Rattle.std.proofs.Common.{◌∙◌}
 use Rattle.std.proofs.lemmas.Result.{err_from_is_err_and}
 use Rattle.policy_grammar.specs.Policies.{elect_none, elect_some}
-use Rattle.policy_parser.proofs.Moves.{yes, isnt, passes, elect-over, elect-goes}
+use Rattle.policy_parser.proofs.Judged.{yes, isnt, passes}
+use Rattle.policy_parser.proofs.PartMoves.{elect-over, elect-goes}
 use Rattle.policy_parser.proofs.source.Source.elect.Goals as goal
 
 pub returns-then-not-has-clause-is : goal.returns-then-not-has-clause-is

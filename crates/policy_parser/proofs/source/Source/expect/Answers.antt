@@ -1,9 +1,9 @@
 use Rattle.std.proofs.Common.{◌∷◌, eq-eqb, refl}
 use Rattle.policy_grammar.specs.Terminals.{code}
-use Rattle.policy_grammar.specs.Machine.{the}
+use Rattle.policy_grammar.specs.Symbols.{the}
 use Rattle.policy_grammar.proofs.Steps.{go-stuck}
 use Rattle.policy_grammar.proofs.CompleteExpressions.{the-read}
-use Rattle.policy_parser.proofs.Moves.{yes, isnt}
+use Rattle.policy_parser.proofs.Judged.{yes, isnt}
 use Rattle.policy_parser.proofs.source.Source.expect.Goals as goal
 
 pub returns-then-has-clause-reads : goal.returns-then-has-clause-reads

@@ -1,7 +1,7 @@
 use Rattle.std.proofs.Common.{◌∙◌, sym, subst, arith}
 use Rattle.std.proofs.lemmas.Result.{err_from_is_err_and}
 use Rattle.policy_grammar.specs.Expressions.{IsTerm, expr_of}
-use Rattle.policy_parser.proofs.Moves.{passes}
+use Rattle.policy_parser.proofs.Judged.{passes}
 use Rattle.policy_parser.proofs.source.Source.expression.Goals as goal
 
 pub returns-in_err-first-clause-reads : goal.returns-in_err-first-clause-reads

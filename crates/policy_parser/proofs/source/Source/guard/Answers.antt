@@ -3,8 +3,8 @@ use Rattle.std.proofs.lemmas.Result.{err_from_is_err_and}
 use Rattle.policy_syntax.specs.SyntaxTrees.{condition_tree}
 use Rattle.policy_grammar.specs.declared.terminal.Terminal.TheVariants.{Colon}
 use Rattle.policy_grammar.specs.Conditions.{IsCondition}
-use Rattle.policy_grammar.specs.Machine.{the}
-use Rattle.policy_parser.proofs.Moves.{passes}
+use Rattle.policy_grammar.specs.Symbols.{the}
+use Rattle.policy_parser.proofs.Judged.{passes}
 use Rattle.policy_parser.proofs.source.Source.guard.Goals as goal
 
 pub returns-in_err-guard-clause-reads : goal.returns-in_err-guard-clause-reads

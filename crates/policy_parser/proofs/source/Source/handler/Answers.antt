@@ -1,8 +1,9 @@
 use Rattle.std.proofs.Common.{◌∷◌, ◌∙◌, ◌+◌}
 use Rattle.std.proofs.lemmas.Result.{err_from_is_err_and}
 use Rattle.policy_grammar.specs.declared.terminal.Terminal.TheVariants.{Begin, Finish}
-use Rattle.policy_grammar.specs.Machine.{the, case, handlers}
-use Rattle.policy_parser.proofs.Moves.{passes, handler-goes, event-goes, event-none, go-from, plus-two}
+use Rattle.policy_grammar.specs.Symbols.{the, case, handlers}
+use Rattle.policy_parser.proofs.Judged.{passes, go-from, plus-two}
+use Rattle.policy_parser.proofs.PartMoves.{handler-goes, event-goes, event-none}
 use Rattle.policy_parser.proofs.Parts.{handler-parts}
 use Rattle.policy_parser.proofs.source.Source.handler.Goals as goal
 

@@ -1,6 +1,7 @@
 use Rattle.std.proofs.Common.{◌∙◌, refl, arith}
 use Rattle.std.proofs.lemmas.Result.{err_from_is_err_and}
-use Rattle.policy_parser.proofs.Moves.{isnt, passes, handlers-over}
+use Rattle.policy_parser.proofs.Judged.{isnt, passes}
+use Rattle.policy_parser.proofs.PartMoves.{handlers-over}
 use Rattle.policy_parser.proofs.Parts.{handlers-first, handlers-more}
 use Rattle.policy_parser.proofs.source.Source.handlers.Goals as goal
 

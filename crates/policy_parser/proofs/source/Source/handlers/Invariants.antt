@@ -1,7 +1,8 @@
 use Rattle.std.proofs.Common.{◌≡◌, ◌≤◌, ◌-◌, ◌∷◌, List, length, vec_len, map}
 use Rattle.policy_syntax.specs.SyntaxTrees.{handler_syntax_tree}
 use Rattle.policy_grammar.specs.Policies.{IsHandlers}
-use Rattle.policy_grammar.specs.Machine.{Symbol, handlers, go}
+use Rattle.policy_grammar.specs.Symbols.{Symbol, handlers}
+use Rattle.policy_grammar.specs.Machine.{go}
 use Rattle.policy_parser.proofs.source.Source.handlers.Given as goal
 
 abbrev pub invariant-handlers : goal.invariant-handlers

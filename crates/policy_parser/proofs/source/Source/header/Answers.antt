@@ -1,8 +1,8 @@
 use Rattle.std.proofs.Common.{◌∷◌, ◌∙◌}
 use Rattle.std.proofs.lemmas.Result.{err_from_is_err_and}
 use Rattle.policy_grammar.specs.declared.terminal.Terminal.TheVariants.{Name, Load}
-use Rattle.policy_grammar.specs.Machine.{the, load_rule}
-use Rattle.policy_parser.proofs.Moves.{passes}
+use Rattle.policy_grammar.specs.Symbols.{the, load_rule}
+use Rattle.policy_parser.proofs.Judged.{passes}
 use Rattle.policy_parser.proofs.Whole.{header-parts}
 use Rattle.policy_parser.proofs.source.Source.header.Goals as goal
 

@@ -1,7 +1,8 @@
 use Rattle.std.proofs.Common.{◌∙◌, ap}
 use Rattle.std.proofs.lemmas.Result.{err_from_is_err_and}
 use Rattle.policy_grammar.specs.Expressions.{int_plain}
-use Rattle.policy_parser.proofs.Moves.{yes, isnt, passes, int-none, minus-goes}
+use Rattle.policy_parser.proofs.Judged.{yes, isnt, passes}
+use Rattle.policy_parser.proofs.PartMoves.{int-none, minus-goes}
 use Rattle.policy_parser.proofs.Parts.{signed-int}
 use Rattle.policy_grammar.proofs.CompleteExpressions.{int_read}
 use Rattle.policy_parser.proofs.source.Source.int.Goals as goal

@@ -1,10 +1,10 @@
 use Rattle.std.proofs.Common.{◌∷◌, ◌∙◌, ◌+◌, sym, subst, arith}
 use Rattle.std.proofs.lemmas.Result.{err_from_is_err_and}
 use Rattle.policy_syntax.specs.SyntaxTrees.{condition_tree}
-use Rattle.policy_grammar.specs.declared.terminal.Terminal.TheVariants.{Within, Filter}
+use Rattle.policy_grammar.specs.declared.terminal.Terminal.TheVariants.{Filter}
 use Rattle.policy_grammar.specs.Levels.{IsLevelWithin}
-use Rattle.policy_grammar.specs.Machine.{the, levels, within, condition}
-use Rattle.policy_parser.proofs.Moves.{yes, isnt, passes}
+use Rattle.policy_grammar.specs.Symbols.{the, levels, within, condition}
+use Rattle.policy_parser.proofs.Judged.{yes, isnt, passes}
 use Rattle.policy_parser.proofs.LevelMoves.{level-goes, level-many, level-none}
 use Rattle.policy_parser.proofs.LevelParts.{level-parts}
 use Rattle.policy_parser.proofs.source.Source.level.Goals as goal

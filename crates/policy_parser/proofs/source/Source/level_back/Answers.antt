@@ -1,10 +1,10 @@
-use Rattle.std.proofs.Common.{◌≡◌, ◌∷◌, ◌∙◌, [], List, map, sym, ap}
+use Rattle.std.proofs.Common.{◌∷◌, ◌∙◌, [], List, map, ap}
 use Rattle.std.proofs.lemmas.Result.{err_from_is_err_and}
 use Rattle.policy_syntax.specs.declared.levels.OneLevelSyntax.{OneLevelSyntax}
 use Rattle.policy_syntax.specs.LevelTrees.{one_level_syntax_tree}
 use Rattle.policy_grammar.specs.declared.terminal.Terminal.TheVariants.{Choose, Steal}
-use Rattle.policy_grammar.specs.Machine.{the, level, order, batch}
-use Rattle.policy_parser.proofs.Moves.{passes}
+use Rattle.policy_grammar.specs.Symbols.{the, level, order, batch}
+use Rattle.policy_parser.proofs.Judged.{passes}
 use Rattle.policy_parser.proofs.source.Source.level_back.Goals as goal
 
 pub returns-in_err-handlers-clause-reads : goal.returns-in_err-handlers-clause-reads

@@ -1,10 +1,11 @@
-use Rattle.std.proofs.Common.{◌∷◌, ◌∙◌, ◌+◌, subst, arith}
+use Rattle.std.proofs.Common.{◌∷◌, ◌∙◌, subst, arith}
 use Rattle.std.proofs.lemmas.Result.{err_from_is_err_and}
 use Rattle.policy_syntax.specs.SyntaxTrees.{condition_tree}
 use Rattle.policy_grammar.specs.Conditions.{IsCondition}
-use Rattle.policy_grammar.specs.Machine.{levels, condition}
+use Rattle.policy_grammar.specs.Symbols.{levels, condition}
 use Rattle.policy_grammar.proofs.CompleteLevels.{levels-anew}
-use Rattle.policy_parser.proofs.Moves.{passes, condition-begins}
+use Rattle.policy_parser.proofs.Judged.{passes}
+use Rattle.policy_parser.proofs.Moves.{condition-begins}
 use Rattle.policy_parser.proofs.source.Source.level_filter.Goals as goal
 
 pub returns-in_err-guard_at-clause-reads : goal.returns-in_err-guard_at-clause-reads

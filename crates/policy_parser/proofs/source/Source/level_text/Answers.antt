@@ -1,11 +1,11 @@
 use Rattle.std.proofs.Common.{◌∷◌, ◌∙◌, [], option_map, sym, subst}
 use Rattle.std.proofs.lemmas.Result.{err_from_is_err_and}
 use Rattle.policy_grammar.specs.declared.terminal.Terminal.TheVariants.{Levels, Choose, Steal}
-use Rattle.policy_grammar.specs.Machine.{the, handlers, level, order, batch}
+use Rattle.policy_grammar.specs.Symbols.{the, handlers, level, order, batch}
 use Rattle.policy_syntax.specs.SyntaxTrees.{elect_syntax_tree}
 use Rattle.policy_parser.specs.Sections.{IsFront}
 use Rattle.policy_parser.specs.declared.sections.Front.{Front}
-use Rattle.policy_parser.proofs.Moves.{passes}
+use Rattle.policy_parser.proofs.Judged.{passes}
 use Rattle.policy_parser.proofs.LevelParts.{level_text-parts}
 use Rattle.policy_parser.proofs.source.Source.level_text.Goals as goal
 

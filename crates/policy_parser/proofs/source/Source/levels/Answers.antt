@@ -1,6 +1,6 @@
 use Rattle.std.proofs.Common.{◌∷◌, ◌∙◌, ◌++◌, [], ap, arith}
 use Rattle.std.proofs.lemmas.Result.{err_from_is_err_and}
-use Rattle.policy_parser.proofs.Moves.{yes, isnt, passes}
+use Rattle.policy_parser.proofs.Judged.{yes, isnt, passes}
 use Rattle.policy_parser.proofs.LevelMoves.{levels-level, levels-over}
 use Rattle.policy_parser.proofs.LevelParts.{leveled-one, leveled-snoc}
 use Rattle.policy_parser.proofs.source.Source.levels.Goals as goal

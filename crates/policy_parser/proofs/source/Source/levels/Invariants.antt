@@ -1,5 +1,6 @@
 use Rattle.std.proofs.Common.{◌≡◌, ◌≤◌, ◌<◌, ◌-◌, ◌∷◌, List, length, vec_len}
-use Rattle.policy_grammar.specs.Machine.{Symbol, level, levels, go}
+use Rattle.policy_grammar.specs.Symbols.{Symbol, level, levels}
+use Rattle.policy_grammar.specs.Machine.{go}
 use Rattle.policy_parser.specs.LevelSections.{Leveled}
 use Rattle.policy_parser.proofs.source.Source.levels.Given as goal
 

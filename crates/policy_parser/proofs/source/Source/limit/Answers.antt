@@ -1,8 +1,8 @@
 use Rattle.std.proofs.Common.{◌∷◌}
 use Rattle.std.proofs.lemmas.Result.{err_from_is_err_and}
 use Rattle.policy_grammar.specs.declared.terminal.Terminal.TheVariants.{Number}
-use Rattle.policy_grammar.specs.Machine.{the}
-use Rattle.policy_parser.proofs.Moves.{passes}
+use Rattle.policy_grammar.specs.Symbols.{the}
+use Rattle.policy_parser.proofs.Judged.{passes}
 use Rattle.policy_parser.proofs.source.Source.limit.Goals as goal
 
 pub returns-in_err-number_at-clause-reads : goal.returns-in_err-number_at-clause-reads

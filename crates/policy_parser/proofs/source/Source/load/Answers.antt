@@ -1,7 +1,8 @@
 use Rattle.std.proofs.Common.{◌∷◌, ◌∙◌, refl}
 use Rattle.std.proofs.lemmas.Result.{err_from_is_err_and}
-use Rattle.policy_grammar.specs.Machine.{load_rule}
-use Rattle.policy_parser.proofs.Moves.{yes, isnt, passes, count-goes, weight-goes, load-none}
+use Rattle.policy_grammar.specs.Symbols.{load_rule}
+use Rattle.policy_parser.proofs.Judged.{yes, isnt, passes}
+use Rattle.policy_parser.proofs.PartMoves.{count-goes, weight-goes, load-none}
 use Rattle.policy_parser.proofs.Parts.{count-load, weight-load}
 use Rattle.policy_parser.proofs.source.Source.load.Goals as goal
 

@@ -4,10 +4,10 @@ use Rattle.std.proofs.lemmas.Result.{err_from_is_err_and}
 use Rattle.policy_grammar.specs.Expressions.{operand_number}
 use Rattle.policy_grammar.specs.declared.terminal.Terminal.TheVariants as terminal
 use Rattle.policy_grammar.specs.Terminals.{code}
-use Rattle.policy_grammar.specs.Machine.{operand, dot, word}
+use Rattle.policy_grammar.specs.Symbols.{operand, dot, word}
 use Rattle.policy_grammar.proofs.Steps.{go-stuck, go-move}
 use Rattle.policy_grammar.proofs.CompleteExpressions.{operand_read, owner-read}
-use Rattle.policy_parser.proofs.Moves.{yes, isnt, passes, fails-at, word-fails, word-stuck, go-from}
+use Rattle.policy_parser.proofs.Judged.{yes, isnt, passes, fails-at, word-fails, word-stuck, go-from}
 use Rattle.policy_parser.proofs.Parts.{reference_of}
 use Rattle.policy_parser.proofs.source.Source.operand.Goals as goal
 

@@ -3,7 +3,8 @@ use Rattle.std.proofs.lemmas.Result.{err_from_is_err_and}
 use Rattle.policy_syntax.specs.declared.syntax.KeySyntax.{KeySyntax}
 use Rattle.policy_syntax.specs.SyntaxTrees.{key_syntax_tree}
 use Rattle.policy_grammar.specs.Orders.{IsOrder, order_first}
-use Rattle.policy_parser.proofs.Moves.{yes, isnt, passes, order-first, order-key, keys-goes, keys-over}
+use Rattle.policy_parser.proofs.Judged.{yes, isnt, passes}
+use Rattle.policy_parser.proofs.Moves.{order-first, order-key, keys-goes, keys-over}
 use Rattle.policy_parser.proofs.Chains.{keyed-one, keyed-snoc, keyed-order}
 use Rattle.policy_parser.proofs.source.Source.order.Goals as goal
 

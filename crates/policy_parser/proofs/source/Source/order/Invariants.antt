@@ -1,5 +1,6 @@
 use Rattle.std.proofs.Common.{◌≡◌, ◌≤◌, ◌<◌, ◌-◌, ◌∷◌, List, length, vec_len}
-use Rattle.policy_grammar.specs.Machine.{Symbol, order, keys, go}
+use Rattle.policy_grammar.specs.Symbols.{Symbol, order, keys}
+use Rattle.policy_grammar.specs.Machine.{go}
 use Rattle.policy_parser.proofs.Chains.{Keyed}
 use Rattle.policy_parser.proofs.source.Source.order.Given as goal
 

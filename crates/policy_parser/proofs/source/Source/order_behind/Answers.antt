@@ -2,8 +2,8 @@ use Rattle.std.proofs.Common.{◌∷◌, ◌∙◌, subst}
 use Rattle.std.proofs.lemmas.Result.{err_from_is_err_and}
 use Rattle.policy_syntax.specs.SyntaxTrees.{order_syntax_tree}
 use Rattle.policy_grammar.specs.Orders.{IsOrder}
-use Rattle.policy_grammar.specs.Machine.{order}
-use Rattle.policy_parser.proofs.Moves.{passes}
+use Rattle.policy_grammar.specs.Symbols.{order}
+use Rattle.policy_parser.proofs.Judged.{passes}
 use Rattle.policy_parser.proofs.source.Source.order_behind.Goals as goal
 
 pub returns-in_err-order_at-clause-reads : goal.returns-in_err-order_at-clause-reads

@@ -1,7 +1,8 @@
 use Rattle.std.proofs.Common.{◌∙◌}
 use Rattle.std.proofs.lemmas.Result.{err_from_is_err_and}
 use Rattle.policy_grammar.specs.Policies.{place_none, place_here, place_least}
-use Rattle.policy_parser.proofs.Moves.{yes, isnt, passes, place-over, here-goes, least-goes, place-stuck}
+use Rattle.policy_parser.proofs.Judged.{yes, isnt, passes}
+use Rattle.policy_parser.proofs.PartMoves.{place-over, here-goes, least-goes, place-stuck}
 use Rattle.policy_parser.proofs.source.Source.place.Goals as goal
 
 pub returns-then-not-has-clause-is : goal.returns-then-not-has-clause-is

@@ -1,9 +1,10 @@
 use Rattle.std.proofs.Common.{◌∷◌, ◌∙◌, ◌+◌}
 use Rattle.std.proofs.lemmas.Result.{err_from_is_err_and}
-use Rattle.policy_grammar.specs.Machine.{keys}
+use Rattle.policy_grammar.specs.Symbols.{keys}
 use Rattle.policy_grammar.specs.Orders.{key_preferring}
 use Rattle.policy_grammar.proofs.CompleteOrders.{keys-anew}
-use Rattle.policy_parser.proofs.Moves.{passes, prefer-goes, prefer-many}
+use Rattle.policy_parser.proofs.Judged.{passes}
+use Rattle.policy_parser.proofs.Moves.{prefer-goes, prefer-many}
 use Rattle.policy_parser.proofs.source.Source.preference.Goals as goal
 
 pub returns-then-before-most-clause-reads : goal.returns-then-before-most-clause-reads

@@ -2,8 +2,8 @@ use Rattle.std.proofs.Common.{◌∷◌, ◌∙◌, subst}
 use Rattle.std.proofs.lemmas.Result.{err_from_is_err_and}
 use Rattle.policy_grammar.specs.declared.terminal.Terminal.TheVariants.{Range}
 use Rattle.policy_grammar.specs.Expressions.{IsInt, range_of}
-use Rattle.policy_grammar.specs.Machine.{the, int}
-use Rattle.policy_parser.proofs.Moves.{passes}
+use Rattle.policy_grammar.specs.Symbols.{the, int}
+use Rattle.policy_parser.proofs.Judged.{passes}
 use Rattle.policy_parser.proofs.source.Source.range.Goals as goal
 
 pub returns-in_err-low-clause-reads : goal.returns-in_err-low-clause-reads

@@ -1,8 +1,9 @@
 use Rattle.std.proofs.Common.{◌∷◌, ◌∙◌, ◌+◌}
 use Rattle.std.proofs.lemmas.Result.{err_from_is_err_and}
 use Rattle.policy_grammar.specs.Orders.{key_ranked}
-use Rattle.policy_grammar.specs.Machine.{keys}
-use Rattle.policy_parser.proofs.Moves.{passes, key-goes, key-many, key-none}
+use Rattle.policy_grammar.specs.Symbols.{keys}
+use Rattle.policy_parser.proofs.Judged.{passes}
+use Rattle.policy_parser.proofs.Moves.{key-goes, key-many, key-none}
 use Rattle.policy_parser.proofs.source.Source.rank.Goals as goal
 
 pub returns-in-None-clause-reads : goal.returns-in-None-clause-reads

@@ -1,8 +1,9 @@
 use Rattle.std.proofs.Common.{◌∷◌, ◌∙◌, sym}
 use Rattle.std.proofs.lemmas.Result.{err_from_is_err_and}
 use Rattle.policy_grammar.specs.declared.terminal.Terminal.TheVariants.{Gets, Comma}
-use Rattle.policy_grammar.specs.Machine.{the, field, operand}
-use Rattle.policy_parser.proofs.Moves.{passes, word-fails, field-stuck, field-goes, go-from}
+use Rattle.policy_grammar.specs.Symbols.{the, field, operand}
+use Rattle.policy_parser.proofs.Judged.{passes, word-fails, field-stuck, go-from}
+use Rattle.policy_parser.proofs.PartMoves.{field-goes}
 use Rattle.policy_parser.proofs.Parts.{set-parts}
 use Rattle.policy_parser.proofs.source.Source.set.Goals as goal
 

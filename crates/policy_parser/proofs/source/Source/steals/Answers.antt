@@ -1,11 +1,11 @@
 use Rattle.std.proofs.Common.{◌≡◌, ◌+◌, ◌∷◌, ◌∙◌, [], option_map, refl, sym, length, subst, arith}
 use Rattle.std.proofs.lemmas.Result.{err_from_is_err_and}
 use Rattle.policy_syntax.specs.SyntaxTrees.{batch_syntax_tree, order_syntax_tree}
-use Rattle.policy_grammar.specs.Machine.{batch}
+use Rattle.policy_grammar.specs.Symbols.{batch}
 use Rattle.policy_grammar.specs.Orders.{IsOrder}
 use Rattle.policy_grammar.specs.Policies.{IsBatch}
 use Rattle.policy_grammar.proofs.Steps.{is-zero}
-use Rattle.policy_parser.proofs.Moves.{passes, past-end}
+use Rattle.policy_parser.proofs.Judged.{passes, past-end}
 use Rattle.policy_parser.proofs.source.Source.steals.Goals as goal
 
 pub returns-in_err-steal-clause-reads : goal.returns-in_err-steal-clause-reads

@@ -2,7 +2,8 @@ use Rattle.std.proofs.Common.{◌∙◌, List, sym, subst, arith}
 use Rattle.std.proofs.lemmas.Result.{err_from_is_err_and}
 use Rattle.policy_syntax.specs.declared.syntax.TimesSyntax.{TimesSyntax}
 use Rattle.policy_grammar.specs.Expressions.{IsTimes, times_none, term_of}
-use Rattle.policy_parser.proofs.Moves.{yes, passes, star-goes, star-many}
+use Rattle.policy_parser.proofs.Judged.{yes, passes}
+use Rattle.policy_parser.proofs.Moves.{star-goes, star-many}
 use Rattle.policy_parser.proofs.Parts.{times-snoc}
 use Rattle.policy_parser.proofs.source.Source.term.Goals as goal
 

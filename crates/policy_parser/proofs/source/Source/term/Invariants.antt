@@ -1,6 +1,7 @@
 use Rattle.std.proofs.Common.{ℕ, ◌≡◌, ◌≤◌, ◌<◌, ◌-◌, ◌∷◌, List, length, vec_len}
 use Rattle.policy_grammar.specs.Expressions.{IsTimes}
-use Rattle.policy_grammar.specs.Machine.{Symbol, operand, operators, go}
+use Rattle.policy_grammar.specs.Symbols.{Symbol, operand, operators}
+use Rattle.policy_grammar.specs.Machine.{go}
 use Rattle.policy_parser.proofs.source.Source.term.Given as goal
 
 abbrev pub invariant-stars : goal.invariant-stars

@@ -1,5 +1,5 @@
 use Rattle.policy_grammar.specs.Levels.{within_always}
-use Rattle.policy_parser.proofs.Moves.{yes, isnt, answers-as}
+use Rattle.policy_parser.proofs.Judged.{yes, isnt, answers-as}
 use Rattle.policy_parser.proofs.LevelMoves.{within-always-goes, within-test-begins}
 use Rattle.policy_parser.proofs.source.Source.within.Goals as goal
 

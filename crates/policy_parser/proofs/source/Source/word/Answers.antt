@@ -1,7 +1,7 @@
 use Rattle.std.proofs.Common.{◌≡◌, true, false, refl, sym, ap, arith, ◌∙◌}
 use Rattle.std.proofs.lemmas.Result.{err_from_is_err_and}
 use Rattle.policy_grammar.specs.Terminals.{code, kind_at, is_word}
-use Rattle.policy_parser.proofs.Moves.{inside, word-some}
+use Rattle.policy_parser.proofs.Judged.{inside, word-some}
 use Rattle.policy_parser.proofs.source.Source.word.Goals as goal
 
 pub returns-then-not-is_word-clause-fails : goal.returns-then-not-is_word-clause-fails

@@ -1,4 +1,4 @@
-use Rattle.std.proofs.Common.{[], ◌+◌, ◌≤◌, length, refl, sym, subst, arith}
+use Rattle.std.proofs.Common.{[], refl, sym, subst, arith}
 use Rattle.select_phase.specs.Seen.{AreLast, AreLate}
 use Rattle.select_phase.proofs.Deciding.{all_fit, has_looked}
 use Rattle.turn_tests.specs.Memory.{core_of, meaning_in_memory, plan_of, view_of}
