@@ -1,6 +1,7 @@
 //! How an entry is written.
 
 ghost use Rattle.std.specs.Prelude.{◌≡◌, ◌+◌, ◌≤◌, [], ◌∷◌, ◌++◌, All, codes, length};
+ghost use Rattle.round_model.specs.Entries.{reads_of};
 ghost use Rattle.sched_io.specs.Puts.{Puts};
 ghost use Rattle.sched_history.specs.Ranges.{CanBePrinted, IsCoreCount, IsPrintableFrom};
 ghost use Rattle.sched_history.specs.Spelling.{head_of, header, line_from, lines_of_history, reads_from};
@@ -67,7 +68,7 @@ pub fn print_entry(line: &mut Line, entry: &Entry, start: Pos)
     ensures { line.new ≡ line_from start entry.now }
 {
     add_head(line, entry);
-    add_distances(line, &entry.reads(), start);
+    add_reads(line, entry, start);
     line.add(b"\n");
 }
 
@@ -152,6 +153,20 @@ fn add_threads(line: &mut Line, threads: &Stolen)
 {
     for at in 0..threads.len() {
         add_spaced(line, threads.get(at));
+    }
+}
+
+/// Adds the reads of the entry. A Round and a unit of work read nothing.
+fn add_reads(line: &mut Line, entry: &Entry, start: Pos)
+    requires room { length line.old + length (reads_from start (reads_of entry.now)) + NUMBER_ROOM ≤ LINE_ROOM }
+    requires start { All (λ position. start ≤ position) (reads_of entry.now) }
+    ensures { line.new ≡ line.old ++ reads_from start (reads_of entry.now) }
+{
+    match entry {
+        Entry::Round { .. } | Entry::Work { .. } => {}
+        Entry::Enter { reads, .. } | Entry::Wake { reads, .. } => add_distances(line, reads, start),
+        Entry::Steal { reads, .. } | Entry::Fail { reads, .. } => add_distances(line, reads, start),
+        Entry::Pass { reads, .. } => add_distances(line, reads, start),
     }
 }
 

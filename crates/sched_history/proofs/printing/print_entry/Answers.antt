@@ -11,18 +11,18 @@ add_head-requires c =
     let head = length-head_of cores c.args.start c.args.entry.now is in
     rw c.requires.empty (omega (arith, head))
 
-pub add_distances-requires-clause-room : goal.add_distances-requires-clause-room
-add_distances-requires-clause-room c =
+pub add_reads-requires-clause-room : goal.add_reads-requires-clause-room
+add_reads-requires-clause-room c =
     let (cores, is) = c.requires.printable in let e = c.args.entry.now in
     let head = length-head_of cores c.args.start e is in
     let reads = reads-length cores c.args.start e is in
     let line = ap length (c.add_head.ensures ∙ ap (λ (bytes : List ℕ). bytes ++ head_of e) c.requires.empty) in
-    rw c.reads.ensures (omega (arith, line, head, reads))
+    omega (arith, line, head, reads)
 
-pub add_distances-requires-clause-start : goal.add_distances-requires-clause-start
-add_distances-requires-clause-start c =
+pub add_reads-requires-clause-start : goal.add_reads-requires-clause-start
+add_reads-requires-clause-start c =
     let (cores, is) = c.requires.printable in
-    rw c.reads.ensures (reads_behind cores c.args.start c.args.entry.now is)
+    reads_behind cores c.args.start c.args.entry.now is
 
 pub add-requires : goal.add-requires
 add-requires c =
@@ -30,14 +30,13 @@ add-requires c =
     let head = length-head_of cores c.args.start e is in
     let reads = reads-length cores c.args.start e is in
     let line = ap length (c.add_head.ensures ∙ ap (λ (bytes : List ℕ). bytes ++ head_of e) c.requires.empty) in
-    let whole = ap length (c.add_distances.ensures ∙ ap (λ (read : List ℕ). c.add_head.new.line ++ reads_from c.args.start read) c.reads.ensures) in
+    let whole = ap length c.add_reads.ensures in
     omega (arith, whole, line, head, reads, length-append c.add_head.new.line (reads_from c.args.start (reads_of e)))
 
 pub returns : goal.returns
 returns c =
     let e = c.args.entry.now in let start : ℕ = c.args.start in
     let head = c.add_head.ensures ∙ ap (λ (bytes : List ℕ). bytes ++ head_of e) c.requires.empty in
-    let words = c.add_distances.ensures
-    ∙ (ap (λ (read : List ℕ). c.add_head.new.line ++ reads_from start read) c.reads.ensures
-    ∙ (ap (λ (bytes : List ℕ). bytes ++ reads_from start (reads_of e)) head ∙ sym (words_parts start e))) in
+    let words = c.add_reads.ensures
+    ∙ (ap (λ (bytes : List ℕ). bytes ++ reads_from start (reads_of e)) head ∙ sym (words_parts start e)) in
     c.add.ensures ∙ ap (λ (bytes : List ℕ). bytes ++ codes "\n") words
