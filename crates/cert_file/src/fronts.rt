@@ -1,6 +1,5 @@
 //! The lines that a system announces, cut off before they are read. Nothing is made of their number.
 
-ghost use Rattle.std.specs.Prelude.{◌≡◌};
 ghost use Rattle.cert_file.specs.Reading.{IsFront};
 
 use cert_text::cut;

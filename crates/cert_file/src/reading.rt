@@ -1,6 +1,6 @@
 //! Reads the systems of a file, one certificate at a time.
 
-ghost use Rattle.std.specs.Prelude.{◌≡◌, ℕ, ◌+◌, ◌<◌, ◌^◌, List, [], ◌∷◌, IfErr, IfOk, length, suc};
+ghost use Rattle.std.specs.Prelude.{ℕ, ◌+◌, ◌<◌, List, [], ◌∷◌, IfErr, IfOk, length, suc};
 ghost use Rattle.linear_cert.specs.Right.{cert_tree};
 ghost use Rattle.obligations.specs.declared.names.ObName.{ObName};
 ghost use Rattle.sched_base.specs.declared.limits.TheConstants.{MAX_SPLITS};

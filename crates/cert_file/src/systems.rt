@@ -1,8 +1,7 @@
 //! Reads the obligations of a file, and compares each with the policy's own.
 
-ghost use Rattle.std.specs.Prelude.{◌≡◌, ◌↔◌, ℕ, ◌+◌, ◌<◌, ◌≤◌, ◌^◌, List, [], ◌∷◌, ◌++◌, IfErr, IfOk};
+ghost use Rattle.std.specs.Prelude.{◌≡◌, ◌↔◌, ◌+◌, ◌<◌, ◌≤◌, ◌^◌, List, [], ◌∷◌, ◌++◌, IfErr, IfOk};
 ghost use Rattle.std.specs.Prelude.{IsTrue, length, map};
-ghost use Rattle.linear_form.specs.System.{LinearSystem};
 ghost use Rattle.linear_cert.specs.Right.{CertTree, IsShallow, cert_tree};
 ghost use Rattle.policy_tree.specs.Meaning.{Meaning};
 ghost use Rattle.obligations.specs.declared.names.ObName.{ObName};

@@ -4,7 +4,7 @@ ghost use Rattle.std.specs.Prelude.{◌≡◌, ◌<◌, refl};
 ghost use Rattle.std.proofs.Common.{◌∙◌};
 ghost use Rattle.core_table.specs.Public.{IsOf, plan_of, policy_of, view_of};
 ghost use Rattle.core_table.specs.Told.{IsSeatOf};
-ghost use Rattle.core_calls.specs.Actors.{actor_of, core_of, seat_of, table_of};
+ghost use Rattle.core_calls.specs.Actors.{actor_of, seat_of, table_of};
 ghost use Rattle.core_calls.specs.Turns.{IsAtTable};
 
 use crate::actor::Actor;

@@ -1,6 +1,5 @@
 //! A thread enters.
 
-ghost use Rattle.std.specs.Prelude.{◌≡◌};
 ghost use Rattle.core_table.specs.Public.{IsOf, view_of};
 ghost use Rattle.core_calls.specs.Actors.{core_of, table_of};
 ghost use Rattle.core_calls.specs.Steps.{Entered, MayEnter};

@@ -56,7 +56,8 @@ impl Cores {
             (meaning_of policy.now) plan.now.cores (values_now (meaning_of policy.now) plan.now history core) core) }
         ensures there { IfSome result (λ v. v < plan.now.cores) }
     {
-        let values = self.values(plan);
+        let mut values = NOTHING_SEEN;
+        self.see_all(plan, &mut values);
         choice(policy, &values[..plan.cores as usize], core)
     }
 
@@ -69,25 +70,24 @@ impl Cores {
         ensures { OfEach (meaning_of policy.now) plan.now self.now (λ history. target_of (meaning_of policy.now)
             plan.now.cores (values_now (meaning_of policy.now) plan.now history core) core ≡ Some result) }
     {
-        let values = self.values(plan);
+        let mut values = NOTHING_SEEN;
+        self.see_all(plan, &mut values);
         target(policy, &values[..plan.cores as usize], core)
     }
 
-    /// What is to be seen of each core of the plan as it is.
-    fn values(&self, plan: &Plan) -> [CoreValues; MAX_CORES]
+    /// Writes what is to be seen of each core of the plan as it is, in its place.
+    fn see_all(&self, plan: &Plan, values: &mut [CoreValues; MAX_CORES])
         requires few { plan.now.cores ≤ MAX_CORES }
         requires consts { length plan.now.consts ≡ plan.now.cores }
         requires cores { length self.now.cores ≡ plan.now.cores }
         requires countable { All IsCountable self.now.cores }
-        ensures len { length result ≡ MAX_CORES }
+        ensures len { length values.new ≡ MAX_CORES }
         ensures each { (c : ℕ) → HoldsAt self.now.cores c
-            (λ y. values_in result c ≡ values_by plan.now c (seen_of y.core)) }
+            (λ y. values_in values.new c ≡ values_by plan.now c (seen_of y.core)) }
     {
-        let mut values = [CoreValues::NONE; MAX_CORES];
         for core in 0..plan.cores {
             values[core as usize] = self.present(plan, core);
         }
-        values
     }
 
     /// What is to be seen of the core as it is.
@@ -105,3 +105,6 @@ impl Cores {
         values_of(plan, core, seen)
     }
 }
+
+/// What is known of all cores before any is seen.
+const NOTHING_SEEN: [CoreValues; MAX_CORES] = [CoreValues::NONE; MAX_CORES];

@@ -1,7 +1,7 @@
 //! One core.
 
-ghost use Rattle.std.specs.Prelude.{◌≡◌, ◌<◌, ◌≤◌, ◌++◌, [], ◌∷◌, Contains, IfOk, IfSome, IsSome, MatchOption, None};
-ghost use Rattle.std.specs.Prelude.{Some, find, length, option_map};
+ghost use Rattle.std.specs.Prelude.{◌≡◌, ◌<◌, ◌≤◌, ◌++◌, [], ◌∷◌, Contains, IfOk, IsSome, MatchOption, None};
+ghost use Rattle.std.specs.Prelude.{Some, length, option_map};
 ghost use Rattle.sched_base.specs.declared.task.Task.{Task};
 ghost use Rattle.policy_tree.specs.Meaning.{meaning_of, order_tree};
 ghost use Rattle.policy_eval.specs.Fitting.{IsTask};

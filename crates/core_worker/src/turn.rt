@@ -1,6 +1,6 @@
 //! How far the cores have come in their turns of the open round.
 
-ghost use Rattle.std.specs.Prelude.{◌≡◌, ◌<◌, ℕ, None, Some, false, slice_index_or, slice_set, true};
+ghost use Rattle.std.specs.Prelude.{◌<◌, None, false};
 ghost use Rattle.sched_base.specs.declared.limits.TheConstants.{MAX_CORES};
 ghost use Rattle.core_worker.specs.Turns.{IsBegun};
 
@@ -38,14 +38,16 @@ impl Turns {
         }
     }
 
-    /// As a round begins: no core has done anything yet.
+    /// As a round begins: no core has done anything yet. A look is large, so only those that were made are forgotten.
     pub(crate) fn begin(&mut self)
         ensures { IsBegun self.new }
     {
         for core in 0..MAX_CORES {
             self.worked[core] = false;
             self.attempted[core] = false;
-            self.looks[core] = None;
+            if self.looks[core].is_some() {
+                self.looks[core] = None;
+            }
         }
     }
 }

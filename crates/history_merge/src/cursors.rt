@@ -49,12 +49,23 @@ impl Cursors {
         ensures entry { (history : List ModelEntry) → LogsOf history closed.now → result ≡ slice_get history at }
         ensures stand { StandAt closed.now (at + 1) self.new }
     {
+        self.lend_entry(closed, at).copied()
+    }
+
+    /// The same, lent by the log in which it stands.
+    pub(crate) fn lend_entry<'a>(&mut self, closed: &'a Closed, at: Pos) -> Option<&'a Entry>
+        requires logs { AreLogsOfOne closed.now }
+        requires stand { StandAt closed.now at self.old }
+        requires at { at < u32.MAX }
+        ensures entry { (history : List ModelEntry) → LogsOf history closed.now → lent result ≡ slice_get history at }
+        ensures stand { StandAt closed.now (at + 1) self.new }
+    {
         let mut found = self.next_round(closed.rounds(), at);
         for core in 0..closed.cores() {
             let next = self.next_of(core, closed.core(core).entries(), at);
             found = next.or(found);
         }
-        found.copied()
+        found
     }
 
     /// The entry where the cursor of the core stands in that log, if its position is that one. The cursor passes it.

@@ -22,11 +22,11 @@ pub fn write_merged<S: Sink>(closed: &Closed, out: &mut S) -> Result<u32, PutFau
     let mut cursors = Cursors::start();
     let mut start = 0;
     for at in 0..count {
-        let Some(entry) = cursors.next_entry(closed, at) else {
+        let Some(entry) = cursors.lend_entry(closed, at) else {
             unreachable!()
         };
-        put_entry(out, &entry, start)?;
-        start = start_behind(start, &entry, at + 1);
+        put_entry(out, entry, start)?;
+        start = start_behind(start, entry, at + 1);
     }
     Ok(count)
 }

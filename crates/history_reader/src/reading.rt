@@ -1,6 +1,6 @@
 //! Reads histories.
 
-ghost use Rattle.std.specs.Prelude.{◌≡◌, ◌≤◌, IfErr, IfOk, MatchOption};
+ghost use Rattle.std.specs.Prelude.{◌≤◌, IfErr, IfOk, MatchOption};
 ghost use Rattle.history_reader.specs.Answers.{IsFaultOf, MustGive, MustRefuse};
 ghost use Rattle.history_reader.specs.Code.Faults.{IsFaultIn};
 ghost use Rattle.history_reader.specs.Code.Kinds.{IsFirstForm};

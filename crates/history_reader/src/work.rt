@@ -1,6 +1,6 @@
 //! Reads what stands behind the first word of a unit of work.
 
-ghost use Rattle.std.specs.Prelude.{◌≡◌, ◌≢◌, ◌++◌, ℕ, MatchOption};
+ghost use Rattle.std.specs.Prelude.{◌++◌, MatchOption};
 ghost use Rattle.history_reader.specs.Code.Cuts.{StartsWith};
 ghost use Rattle.round_model.specs.declared.entry.Did.{Did};
 ghost use Rattle.sched_history.specs.Ranges.{IsThreadNumber};

@@ -1,6 +1,6 @@
 //! Why texts give no whole history.
 
-ghost use Rattle.std.specs.Prelude.{◌≡◌, ◌++◌, ◌+◌, ◌≤◌, codes, decimal, length};
+ghost use Rattle.std.specs.Prelude.{◌≡◌, ◌+◌, ◌≤◌, length};
 ghost use Rattle.history_replay.specs.Lines.{numbered_line, refusal_line};
 
 use sched_base::Pos;

@@ -1,6 +1,6 @@
 //! The commands, each over the files that it loads.
 
-ghost use Rattle.std.specs.Prelude.{◌≡◌, ◌≢◌, ◌⊎◌, ℕ, List, Some, IfErr, IfOk, IsErrOf, IsTrue, OnOk};
+ghost use Rattle.std.specs.Prelude.{◌≡◌, ◌⊎◌, ℕ, Some, IfErr, IfOk, IsErrOf, IsTrue, OnOk};
 ghost use Rattle.sched_io.specs.Faults.{Rose};
 ghost use Rattle.sched_io.specs.Loads.{AreRequested};
 ghost use Rattle.ipanema_cli.specs.PolicyAnswers.{AnswersBound, AnswersCheck, AnswersExplain, AnswersExport};

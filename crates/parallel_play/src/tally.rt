@@ -1,10 +1,9 @@
 //! What is counted from round to round.
 
-ghost use Rattle.std.specs.Prelude.{◌≡◌, ◌+◌, ◌≤◌, ℕ, All, min};
+ghost use Rattle.std.specs.Prelude.{◌≡◌, ◌+◌, ◌≤◌, All, min};
 ghost use Rattle.sched_base.specs.declared.limits.TheConstants.{MAX_THREADS};
 ghost use Rattle.round_model.specs.declared.plan.Planned.{Planned};
-ghost use Rattle.core_calls.specs.Turns.{is_told};
-ghost use Rattle.parallel_play.specs.Tallies.{CountsTurn, IsEmpty, due_by, flag_of};
+ghost use Rattle.parallel_play.specs.Tallies.{CountsTurn, IsEmpty, due_by};
 
 use crate::sums::{IDS, Tally};
 use core_calls::Turned;

@@ -10,4 +10,4 @@ pub mod orders;
 pub use crate::env::{CoreValues, Env};
 pub use crate::evaluation::{holds, value};
 pub use crate::events::apply_case;
-pub use crate::orders::better;
+pub use crate::orders::{better, comes_first};

@@ -5,11 +5,27 @@ ghost use Rattle.policy_tree.specs.Meaning.{key_tree, order_tree};
 ghost use Rattle.policy_eval.specs.Evaluable.{IsEvaluableKey, IsEvaluableOrder};
 ghost use Rattle.policy_eval.specs.Orders.{key_order as order_by_key, precedes, truth_order as order_of_truth};
 ghost use Rattle.policy_eval.specs.Ranges.{AreIn, wide_ranges};
+ghost use Rattle.policy_eval.specs.Sights.{thread_values};
 
 use crate::env::Env;
 use crate::evaluation::{holds, value};
 use policy_tree::{Key, Order};
+use sched_base::Task;
 use std::cmp::Ordering;
+
+/// Whether the thread `a` comes strictly before the thread `b`. Where there is no key nothing of them is laid out.
+pub fn comes_first(order: &Order, a: &Task, b: &Task) -> bool
+    requires order { IsEvaluableOrder (order_tree order.now) }
+    requires first { AreIn wide_ranges (thread_values a.now.weight a.now.attrs) }
+    requires second { AreIn wide_ranges (thread_values b.now.weight b.now.attrs) }
+    ensures { result ≡ precedes (order_tree order.now)
+        (thread_values a.now.weight a.now.attrs) (thread_values b.now.weight b.now.attrs) }
+{
+    if order.is_empty() {
+        return false;
+    }
+    better(order, &Env::of_thread(a), &Env::of_thread(b))
+}
 
 /// Whether `a` comes strictly before `b`: the first key that tells them apart decides.
 pub fn better(order: &Order, a: &Env, b: &Env) -> bool

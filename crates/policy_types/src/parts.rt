@@ -1,6 +1,6 @@
 //! The parts that policies and level texts have in common: all but what they declare, and the filter or the levels.
 
-ghost use Rattle.std.specs.Prelude.{◌≡◌, ◌<◌, ◌^◌, IfOk, IfErr, [], length, map, option_map};
+ghost use Rattle.std.specs.Prelude.{◌≡◌, ◌<◌, IfOk, IfErr, [], map, option_map};
 ghost use Rattle.policy_tree.specs.Meaning.{batch_tree, meaning_of, order_tree, place_tree};
 ghost use Rattle.policy_tree.specs.Trees.{cond_tree};
 ghost use Rattle.policy_syntax.specs.SyntaxTrees.{batch_syntax_tree, elect_syntax_tree, handler_syntax_tree};

@@ -2,7 +2,7 @@
 //!
 //! Each thread is the best of those whose numbers aren't taken yet, and what is seen of both cores is summed up.
 
-ghost use Rattle.std.specs.Prelude.{◌≡◌, ◌+◌, ◌-◌, ◌≤◌, ◌<◌, ◌^◌, ◌∷◌, ℕ, All, IfSome, Some, length};
+ghost use Rattle.std.specs.Prelude.{◌≡◌, ◌+◌, ◌-◌, ◌≤◌, ◌<◌, ◌^◌, ◌∷◌, All, IfSome, Some};
 ghost use Rattle.sched_base.specs.declared.limits.TheConstants.{MAX_THREADS};
 ghost use Rattle.policy_tree.specs.Meaning.{batch_tree, meaning_of, order_tree};
 ghost use Rattle.policy_eval.specs.Evaluable.{IsEvaluableOrder};
@@ -19,7 +19,7 @@ ghost use Rattle.round_model.specs.Work.{before};
 
 use crate::filtering::may_steal;
 use crate::state::ModelCore;
-use policy_eval::{CoreValues, Env, better, holds};
+use policy_eval::{CoreValues, Env, comes_first, holds};
 use policy_tree::{Batch, Order, Policy};
 use sched_base::{Stolen, Task, ThreadId};
 
@@ -191,7 +191,7 @@ fn better_of(order: &Order, task: Task, later: Option<Task>) -> Task
     ensures seen { IsSeenTask result }
 {
     match later {
-        Some(later) if better(order, &Env::of_thread(&later), &Env::of_thread(&task)) => later,
+        Some(later) if comes_first(order, &later, &task) => later,
         _ => task,
     }
 }

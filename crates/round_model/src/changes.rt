@@ -1,7 +1,7 @@
 //! What each kind of entry makes of the cores.
 
 ghost use Rattle.std.specs.Prelude.{◌≡◌, ◌<◌, ◌≤◌, ℕ, All, List, OnErr, OnOk, length};
-ghost use Rattle.policy_tree.specs.Meaning.{Meaning, meaning_of};
+ghost use Rattle.policy_tree.specs.Meaning.{meaning_of};
 ghost use Rattle.policy_eval.specs.Obligations.{MeetsHandlerObligations};
 ghost use Rattle.policy_eval.specs.Resolved.{IsResolved};
 ghost use Rattle.round_model.specs.declared.entry.Did.{Did};

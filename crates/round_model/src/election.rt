@@ -6,7 +6,7 @@ ghost use Rattle.policy_eval.specs.Evaluable.{IsEvaluableOrder};
 ghost use Rattle.round_model.specs.Code.UnitSteps.{IsBestPlace, IsSeenTask};
 ghost use Rattle.round_model.specs.Work.{before as comes_before};
 
-use policy_eval::{Env, better};
+use policy_eval::comes_first;
 use policy_tree::Order;
 use sched_base::Task;
 
@@ -20,7 +20,7 @@ pub(crate) fn best_place(order: &Order, tasks: &[Task]) -> Option<u32>
     let mut best = None;
     for at in (0..tasks.len() as u32).rev() {
         best = match best {
-            Some(later) if comes_first(order, tasks, later, at) => Some(later),
+            Some(later) if stands_first(order, tasks, later, at) => Some(later),
             _ => Some(at),
         };
     }
@@ -28,7 +28,7 @@ pub(crate) fn best_place(order: &Order, tasks: &[Task]) -> Option<u32>
 }
 
 /// Whether the task in the first place comes strictly before the one in the second.
-fn comes_first(order: &Order, tasks: &[Task], first: u32, second: u32) -> bool
+fn stands_first(order: &Order, tasks: &[Task], first: u32, second: u32) -> bool
     requires order { IsEvaluableOrder (order_tree order.now) }
     requires tasks { All IsSeenTask tasks.now }
     requires first { first < length tasks.now }
@@ -36,9 +36,5 @@ fn comes_first(order: &Order, tasks: &[Task], first: u32, second: u32) -> bool
     ensures { (t u : Task) → slice_get tasks.now first ≡ Some t → slice_get tasks.now second ≡ Some u →
         result ≡ comes_before (order_tree order.now) t u }
 {
-    better(
-        order,
-        &Env::of_thread(&tasks[first as usize]),
-        &Env::of_thread(&tasks[second as usize]),
-    )
+    comes_first(order, &tasks[first as usize], &tasks[second as usize])
 }

@@ -7,8 +7,8 @@ ghost use Rattle.run_queue.specs.Code.Lines.{tasks_of};
 ghost use Rattle.run_queue.specs.Code.Scans.{CanScan};
 
 use crate::line::Line;
-use crate::scans::comes_first;
 use node_pool::Index;
+use policy_eval::comes_first;
 use policy_tree::Order;
 
 /// A node of a line, and the number of its arrival.

@@ -9,7 +9,7 @@ ghost use Rattle.run_queue.specs.Code.Scans.{HasNoThread, IsBestSpot, IsThreadSp
 ghost use Rattle.run_queue.specs.Tasks.{IsSeenTask, before};
 
 use crate::line::{Line, Spot};
-use policy_eval::{Env, better};
+use policy_eval::comes_first;
 use policy_tree::Order;
 use sched_base::{Task, ThreadId};
 
@@ -45,16 +45,6 @@ fn better_spot(line: &Line, order: &Order, earlier: Spot, later: Spot) -> Spot
     } else {
         earlier
     }
-}
-
-/// Whether the first task comes strictly before the second.
-pub(crate) fn comes_first(order: &Order, first: &Task, second: &Task) -> bool
-    requires order { IsEvaluableOrder (order_tree order.now) }
-    requires first { IsSeenTask first.now }
-    requires second { IsSeenTask second.now }
-    ensures { result ≡ before (order_tree order.now) first.now second.now }
-{
-    better(order, &Env::of_thread(first), &Env::of_thread(second))
 }
 
 /// The place of the earliest task of that number, if there is one.

@@ -1,7 +1,7 @@
 //! How an item of a heap comes to its place: up past its parents, or down past its children.
 
 ghost use Rattle.std.specs.Prelude.{◌≡◌, ◌<◌, IsPermutation, MatchOption, length};
-ghost use Rattle.std.specs.Vec.{vec_capacity, vec_len};
+ghost use Rattle.std.specs.Vec.{vec_capacity};
 ghost use Rattle.policy_tree.specs.Meaning.{order_tree};
 ghost use Rattle.run_queue.specs.Code.Ahead.{AllNodes, ahead};
 ghost use Rattle.run_queue.specs.Code.Heaps.{FollowsParent, IsChildAhead, IsFirstChild, IsHeap, IsHeapBut};

@@ -1,6 +1,5 @@
 //! A history that a person worked out, as a text.
 
-ghost use Rattle.std.specs.Prelude.{◌≡◌, ◌≤◌, length};
 ghost use Rattle.policy_tree.specs.Meaning.{meaning_of};
 ghost use Rattle.sched_history.specs.Ranges.{CanBePrinted};
 ghost use Rattle.table_players.specs.Crowds.{IsCrowd, IsTried};

@@ -1,9 +1,9 @@
 //! What is told of a round as it opens.
 
-ghost use Rattle.std.specs.Prelude.{◌≡◌, ◌==◌, ◌+◌, ◌<◌, ◌≤◌, ◌++◌, nat_le, All, IfOk, List, count_by, length, map};
+ghost use Rattle.std.specs.Prelude.{◌≡◌, ◌==◌, ◌+◌, ◌<◌, ◌≤◌, ◌++◌, nat_le, All, IfOk, count_by, length, map};
 ghost use Rattle.std.specs.Prelude.{option_to_list, take};
 ghost use Rattle.std.specs.List.{list_any};
-ghost use Rattle.sched_base.specs.declared.limits.TheConstants.{MAX_ENTRIES, MAX_LOAD};
+ghost use Rattle.sched_base.specs.declared.limits.TheConstants.{MAX_ENTRIES};
 ghost use Rattle.round_model.specs.declared.state.ModelCore.{ModelCore};
 ghost use Rattle.round_model.specs.Code.Outcomes.{IsCountable};
 ghost use Rattle.round_model.specs.Cores.{load_of, thread_count};

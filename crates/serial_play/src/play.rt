@@ -1,6 +1,6 @@
 //! How far serial play has come, and the next step of a core.
 
-ghost use Rattle.std.specs.Prelude.{◌≡◌, ◌<◌, ◌≤◌, ◌+◌, ℕ, [], ◌∷◌, ◌++◌, IfOk, IsFalse, OnOk, Some, cond, length, max};
+ghost use Rattle.std.specs.Prelude.{◌≡◌, ◌<◌, ◌≤◌, ◌+◌, ℕ, [], ◌∷◌, ◌++◌, IfOk, IsFalse, OnOk, Some, cond, length};
 ghost use Rattle.std.specs.Prelude.{slice_index};
 ghost use Rattle.policy_tree.specs.Meaning.{meaning_of};
 ghost use Rattle.policy_eval.specs.Obligations.{MeetsHandlerObligations};

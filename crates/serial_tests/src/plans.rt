@@ -1,6 +1,6 @@
 //! Plans that are drawn: a few cores, six rounds, and threads of weight 1 that run on or block once and end.
 
-ghost use Rattle.std.specs.Prelude.{◌≡◌, ◌<◌, ◌≤◌, IfOk, length, vec_len};
+ghost use Rattle.std.specs.Prelude.{◌≡◌, ◌<◌, ◌≤◌, IfOk, length};
 ghost use Rattle.round_model.specs.Fits.{IsProgram};
 ghost use Rattle.serial_tests.specs.Drawn.{AreMembers, IsDrawn, IsMember};
 

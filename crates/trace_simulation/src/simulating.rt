@@ -1,6 +1,6 @@
 //! Simulates a trace's text.
 
-ghost use Rattle.std.specs.Prelude.{◌<◌, ◌≡◌, IfErr, IfOk, length};
+ghost use Rattle.std.specs.Prelude.{◌<◌, IfErr, IfOk, length};
 ghost use Rattle.policy_tree.specs.Meaning.{meaning_of};
 ghost use Rattle.policy_eval.specs.Obligations.{MeetsHandlerObligations};
 ghost use Rattle.policy_eval.specs.Resolved.{IsResolved};

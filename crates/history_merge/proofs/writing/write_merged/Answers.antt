@@ -11,6 +11,7 @@ use Rattle.sched_io.proofs.PutsLemmas.{puts_next, puts_none, puts_whole, stops_h
 use Rattle.sched_history.specs.Ranges.{IsPrintableFrom}
 use Rattle.sched_history.specs.Spelling.{header, line_from, lines_of_history}
 use Rattle.sched_history.proofs.Writing.{count_lines, printable_at, start_next, written_line}
+use Rattle.history_merge.specs.Code.Moves.{lent}
 use Rattle.history_merge.specs.Merged.{CanBeWritten, merged}
 use Rattle.history_merge.proofs.MergedLists.{merged_history}
 use Rattle.history_merge.proofs.Walks.{none_beyond}
@@ -40,7 +41,7 @@ loop-at-init g c = record { stand = c.start-cursors.ensures c.args.closed.now; s
 pub unreachable-requires : goal.unreachable-requires
 unreachable-requires g c =
     let one = c.requires.logs in
-    let none = sym (c.next_entry.ensures.entry one.0 one.1) ∙ c.in_default.is in
+    let none = sym (c.lend_entry.ensures.entry one.0 one.1) ∙ ap lent c.in_default.is in
     let beyond = none_beyond one.0 c.loop-at.at none in
     let counts = c.entry_count-count.ensures one.0 one.1 in
     let less = c.loop-at-test.true in omega arith
@@ -51,16 +52,16 @@ found history other at e is there = ap (λ h. slice_get h at) is ∙ there
 
 pub put_entry-requires : goal.put_entry-requires
 put_entry-requires g c =
-    let history = merged c.args.closed.now in let at : ℕ = c.loop-at.at in let e = c.in-Some.entry in let one = c.requires.logs in
-    let there = found history one.0 at e (same c.args.closed.now c.requires) (sym (c.next_entry.ensures.entry one.0 one.1) ∙ c.in-Some.is) in
+    let history = merged c.args.closed.now in let at : ℕ = c.loop-at.at in let e = c.in-Some.entry.now in let one = c.requires.logs in
+    let there = found history one.0 at e (same c.args.closed.now c.requires) (sym (c.lend_entry.ensures.entry one.0 one.1) ∙ ap lent c.in-Some.is) in
     let is = get_or_from_slice_get history at e e there in
     subst (λ (n : ℕ). IsPrintableFrom n e) (sym c.loop-at.invariant.start)
     (subst (λ (x : Entry). IsPrintableFrom (round_start (take at history)) x) is (printable_at (length c.args.closed.now.cores) history at e (slice_get_within history at e there) c.requires.printable))
 
 pub returns-in_err-put_entry-clause-lines : goal.returns-in_err-put_entry-clause-lines
 returns-in_err-put_entry-clause-lines g c =
-    let history = merged c.args.closed.now in let at : ℕ = c.loop-at.at in let e = c.in-Some.entry in let one = c.requires.logs in
-    let there = found history one.0 at e (same c.args.closed.now c.requires) (sym (c.next_entry.ensures.entry one.0 one.1) ∙ c.in-Some.is) in
+    let history = merged c.args.closed.now in let at : ℕ = c.loop-at.at in let e = c.in-Some.entry.now in let one = c.requires.logs in
+    let there = found history one.0 at e (same c.args.closed.now c.requires) (sym (c.lend_entry.ensures.entry one.0 one.1) ∙ ap lent c.in-Some.is) in
     let inside = slice_get_within history at e there in
     let fault = err_from_is_err_and c.from_residual-in_err-put_entry.result c.from_residual-in_err-put_entry.ensures.1 in
     let given = ap₂ (λ (n : ℕ) (x : Entry). line_from n x) c.loop-at.invariant.start (sym (get_or_from_slice_get history at e e there)) ∙ sym (written_line (length c.args.closed.now.cores) history at e inside) in
@@ -68,13 +69,13 @@ returns-in_err-put_entry-clause-lines g c =
 
 pub loop-at-preserved : goal.loop-at-preserved
 loop-at-preserved g c =
-    let history = merged c.args.closed.now in let at : ℕ = c.loop-at.at in let e = c.in-Some.entry in let one = c.requires.logs in
-    let there = found history one.0 at e (same c.args.closed.now c.requires) (sym (c.next_entry.ensures.entry one.0 one.1) ∙ c.in-Some.is) in
+    let history = merged c.args.closed.now in let at : ℕ = c.loop-at.at in let e = c.in-Some.entry.now in let one = c.requires.logs in
+    let there = found history one.0 at e (same c.args.closed.now c.requires) (sym (c.lend_entry.ensures.entry one.0 one.1) ∙ ap lent c.in-Some.is) in
     let inside = slice_get_within history at e there in
     let is = sym (get_or_from_slice_get history at e e there) in let now = c.loop-at.invariant in
     let given = ap₂ (λ (n : ℕ) (x : Entry). line_from n x) now.start is ∙ sym (written_line (length c.args.closed.now.cores) history at e inside) in
     record {
-      stand = c.next_entry.ensures.stand;
+      stand = c.lend_entry.ensures.stand;
       start = c.start_behind-start.ensures
           ∙ (ap₂ (λ (n : ℕ) (x : Entry). cond (is_round x) (at + 1) n) now.start is
           ∙ sym (start_next history at e inside));

@@ -9,7 +9,7 @@ loop-at-preserved-in-Some c =
     let tasks = c.args.tasks.now in let first = before (order_tree c.args.order.now) in let at = c.loop-at.at - 1 in let later = c.in-Some.later in
     let from = subst (λ o. MatchOption o (drop c.loop-at.at tasks ≡ []) (BestFrom first tasks c.loop-at.at)) c.in-Some.is c.loop-at.invariant in
     let x = item_at tasks at (omega arith) in let y = item_at tasks later from.inside in
-    BestFrom-keep first tasks at later x.0 y.0 x.1 y.1 (sym (c.comes_first.ensures y.0 x.0 y.1 x.1) ∙ c.if-comes_first.true)
+    BestFrom-keep first tasks at later x.0 y.0 x.1 y.1 (sym (c.stands_first.ensures y.0 x.0 y.1 x.1) ∙ c.if-stands_first.true)
     (subst (λ n. BestFrom first tasks n later) (omega arith) from)
 
 pub loop-at-preserved-in_default : goal.loop-at-preserved-in_default
@@ -17,7 +17,7 @@ loop-at-preserved-in_default c =
     let tasks = c.args.tasks.now in let first = before (order_tree c.args.order.now) in let at = c.loop-at.at - 1 in let later = c.in-Some.later in
     let from = subst (λ o. MatchOption o (drop c.loop-at.at tasks ≡ []) (BestFrom first tasks c.loop-at.at)) c.in-Some.is c.loop-at.invariant in
     let x = item_at tasks at (omega arith) in let y = item_at tasks later from.inside in
-    BestFrom-take first tasks at later x.0 y.0 x.1 y.1 (sym (c.comes_first.ensures y.0 x.0 y.1 x.1) ∙ c.if-comes_first.false) (omega arith)
+    BestFrom-take first tasks at later x.0 y.0 x.1 y.1 (sym (c.stands_first.ensures y.0 x.0 y.1 x.1) ∙ c.if-stands_first.false) (omega arith)
     (subst (λ n. BestFrom first tasks n later) (omega arith) from)
 
 pub loop-at-preserved : goal.loop-at-preserved

@@ -6,7 +6,7 @@ use Rattle.core_state.specs.declared.logged.Logged.{Logged}
 use Rattle.history_merge.specs.Code.Moves.{entry_there, lent}
 use Rattle.history_merge.specs.Cursors.{CursorsView}
 use Rattle.history_merge.proofs.Walks.{IsWalked, cursor_few, passing_all, round_cursor_few, walk_begins, walk_ends, walk_goes}
-use Rattle.history_merge.proofs.cursors.Cursors.next_entry.Goals as goal
+use Rattle.history_merge.proofs.cursors.Cursors.lend_entry.Goals as goal
 
 lent_either : (one other : Option (Bor Entry)) → lent (option_or one other) ≡ option_or (lent one) (lent other)
 lent_either None other = refl
@@ -43,7 +43,7 @@ returns-clause-entry c history logs =
     let closed = c.args.closed.now in
     let last : c.loop-core.core ≡ length closed.cores = omega arith in
     let walked = subst (λ (k : ℕ). IsWalked closed c.args.at k c.loop-core.self (lent c.loop-core.found)) last c.loop-core.invariant in
-    c.copied.ensures ∙ (walked.entry history logs ∙ passing_all closed history logs c.args.at)
+    walked.entry history logs ∙ passing_all closed history logs c.args.at
 
 pub returns-clause-stand : goal.returns-clause-stand
 returns-clause-stand c =

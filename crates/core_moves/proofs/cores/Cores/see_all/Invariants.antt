@@ -2,7 +2,7 @@ use Rattle.std.proofs.Common.{◌≡◌, ℕ, ◌<◌, length}
 use Rattle.sched_base.specs.declared.limits.TheConstants.{MAX_CORES}
 use Rattle.round_model.specs.Choices.{values_in}
 use Rattle.core_moves.proofs.Seeing.{IsSeenAt}
-use Rattle.core_moves.proofs.cores.Cores.values.Given as goal
+use Rattle.core_moves.proofs.cores.Cores.see_all.Given as goal
 
 -- the cores passed over were seen
 abbrev pub invariant-loop-core : goal.invariant-loop-core
