@@ -56,7 +56,7 @@ impl Cores {
             (meaning_of policy.now) plan.now.cores (values_now (meaning_of policy.now) plan.now history core) core) }
         ensures there { IfSome result (λ v. v < plan.now.cores) }
     {
-        let mut values = NOTHING_SEEN;
+        let mut values = CoreValues::NOTHING_SEEN;
         self.see_all(plan, &mut values);
         choice(policy, &values[..plan.cores as usize], core)
     }
@@ -70,7 +70,7 @@ impl Cores {
         ensures { OfEach (meaning_of policy.now) plan.now self.now (λ history. target_of (meaning_of policy.now)
             plan.now.cores (values_now (meaning_of policy.now) plan.now history core) core ≡ Some result) }
     {
-        let mut values = NOTHING_SEEN;
+        let mut values = CoreValues::NOTHING_SEEN;
         self.see_all(plan, &mut values);
         target(policy, &values[..plan.cores as usize], core)
     }
@@ -105,6 +105,3 @@ impl Cores {
         values_of(plan, core, seen)
     }
 }
-
-/// What is known of all cores before any is seen.
-const NOTHING_SEEN: [CoreValues; MAX_CORES] = [CoreValues::NONE; MAX_CORES];

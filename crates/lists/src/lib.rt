@@ -3,6 +3,7 @@
 
 ghost use Rattle.std.specs.Prelude.{◌≡◌, ◌↔◌, ◌^◌, ◌+◌, ◌<◌, IsTrue, List, [], ◌∷◌, ◌++◌, OnErr, OnOk, Some, length};
 ghost use Rattle.std.specs.Prelude.{remove, slice_get, slice_index_or, slice_set, take, vec_len};
+ghost use Rattle.std.specs.Borrow.{sem};
 
 use std::alloc::AllocError;
 use std::marker::Model;
@@ -25,6 +26,8 @@ impl<T> Model for Items<T> {
 }
 
 impl<T> Items<T> {
+    ghost use Rattle.lists.specs.Lends.{lends_item};
+
     /// The list of these items. It takes no memory.
     pub fn from_vec(items: Vec<T>) -> Self
         requires { vec_len items < 2 ^ 32 }
@@ -63,6 +66,15 @@ impl<T> Items<T> {
         ensures value { result.now ≡ slice_index_or self.now at result.now }
     {
         &self.items[at as usize]
+    }
+
+    /// Lends the item in that place, from 0, to be changed there.
+    pub fn get_mut(&mut self, at: u32) -> &mut T
+        requires { at < length self.old }
+        ensures* writes_back { sem 𝓛 (lends_item T.row self.entry at result) }
+        ensures item { slice_get self.old at ≡ Some result.now }
+    {
+        &mut self.items[at as usize]
     }
 
     /// The items as a slice.

@@ -6,7 +6,7 @@ ghost use Rattle.policy_eval.specs.Sights.{core_values, event_values, move_value
 ghost use Rattle.policy_eval.specs.Sights.{thread_values};
 
 use policy_tree::variables;
-use sched_base::{MAX_ATTRIBUTES, MAX_LOAD, MAX_VARIABLES, Task};
+use sched_base::{MAX_ATTRIBUTES, MAX_CORES, MAX_LOAD, MAX_VARIABLES, Task};
 
 /// A value for each variable, by the variable's number.
 #[derive(Clone, Copy)]
@@ -32,6 +32,9 @@ impl CoreValues {
         load: 0,
         consts: NO_ATTRIBUTES,
     };
+
+    /// What is known of all cores before the first is looked at.
+    pub const NOTHING_SEEN: [CoreValues; MAX_CORES] = [CoreValues::NONE; MAX_CORES];
 }
 
 impl Env {

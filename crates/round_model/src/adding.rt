@@ -171,7 +171,6 @@ fn note(past: &mut Past, by: CoreId, entry: &Entry)
         note_end(&mut past.ended, *thread);
     }
     let last = past.rows.len() - 1;
-    let row = look(*past.rows.get(last), &past.state, entry);
-    let _before = past.rows.replace(last, row);
+    look(past.rows.get_mut(last), &past.state, entry);
     past.entries += 1;
 }

@@ -105,7 +105,8 @@ pub(crate) fn placed(
     ensures { OfEach (meaning_of policy.now) plan.now past.now (λ history. target_of (meaning_of policy.now)
         plan.now.cores (values_at (meaning_of policy.now) plan.now history reads.now) core ≡ Some result) }
 {
-    let values = values_read(plan, past, reads);
+    let mut values = CoreValues::NOTHING_SEEN;
+    read_values(plan, past, reads, &mut values);
     target(policy, &values[..plan.cores as usize], core)
 }
 
@@ -119,7 +120,8 @@ fn chosen(policy: &Policy, plan: &Plan, past: &Past, core: CoreId, reads: &Reads
     ensures choice { OfEach (meaning_of policy.now) plan.now past.now (λ history. result ≡ choice_of
         (meaning_of policy.now) plan.now.cores (values_at (meaning_of policy.now) plan.now history reads.now) core) }
 {
-    let values = values_read(plan, past, reads);
+    let mut values = CoreValues::NOTHING_SEEN;
+    read_values(plan, past, reads, &mut values);
     choice(policy, &values[..plan.cores as usize], core)
 }
 
@@ -133,23 +135,21 @@ fn were_made(plan: &Plan, past: &Past, reads: &Reads) -> bool
     reads_fit(reads, plan.cores, past.start(), past.entries)
 }
 
-/// What these reads saw: of each core, the row of the position at which it was read.
-fn values_read(plan: &Plan, past: &Past, reads: &Reads) -> [CoreValues; MAX_CORES]
+/// Writes what these reads saw of each core, in its place: by the row of the position at which it was read.
+fn read_values(plan: &Plan, past: &Past, reads: &Reads, values: &mut [CoreValues; MAX_CORES])
     requires window { IsWindow past.now }
     requires read { ReadIn plan.now past.now reads.now }
     requires few { plan.now.cores ≤ MAX_CORES }
     requires consts { length plan.now.consts ≡ plan.now.cores }
-    ensures len { length result ≡ MAX_CORES }
+    ensures len { length values.new ≡ MAX_CORES }
     ensures fits { (p : Meaning) → Fits p plan.now → IsPastOf p plan.now past.now → (c : ℕ) → c < plan.now.cores →
-        CoreFits p (values_in result c) }
+        CoreFits p (values_in values.new c) }
     ensures values { (p : Meaning) → OfEach p plan.now past.now (λ history. (c : ℕ) → c < plan.now.cores →
-        values_in result c ≡ values_at p plan.now history reads.now c) }
+        values_in values.new c ≡ values_at p plan.now history reads.now c) }
 {
-    let mut values = [CoreValues::NONE; MAX_CORES];
     for core in 0..plan.cores {
         values[core as usize] = value_of(plan, past, reads, core);
     }
-    values
 }
 
 /// What these reads saw of the core.

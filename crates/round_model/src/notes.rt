@@ -61,17 +61,15 @@ pub fn note_end(ended: &mut Items<bool>, thread: ThreadId)
     }
 }
 
-/// What is to be seen of the cores after the entry: of those that it touches anew, of the others as before.
-pub(crate) fn look(row: Row, state: &State, entry: &Entry) -> Row
+/// Puts in the row what is to be seen after the entry of the cores that it touches. The others stay as they were seen.
+pub(crate) fn look(row: &mut Row, state: &State, entry: &Entry)
     requires few { length state.now ≤ MAX_CORES }
     requires countable { All IsCountable state.now }
-    ensures { IsLook row state.now entry.now result }
+    ensures { IsLook row.old state.now entry.now row.new }
 {
-    let mut seen = row;
     for core in 0..state.len() {
         if entry.touches(core) {
-            seen[core as usize] = state.get(core).seen();
+            row[core as usize] = state.get(core).seen();
         }
     }
-    seen
 }

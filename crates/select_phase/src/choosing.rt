@@ -4,9 +4,10 @@ ghost use Rattle.std.specs.Prelude.{◌≡◌, ◌<◌};
 ghost use Rattle.core_table.specs.Public.{IsOf, plan_of, policy_of, view_of};
 ghost use Rattle.select_phase.specs.Seen.{AreAll, AreLast, AreLate, HasMoreNotes, Looked};
 
-use crate::glances::{NOTHING_READ, glance};
+use crate::glances::glance;
 use crate::looks::Look;
 use core_table::{Seat, Table};
+use policy_eval::CoreValues;
 use policy_tree::Policy;
 use round_model::choice;
 use sched_base::CoreId;
@@ -23,7 +24,7 @@ pub fn look(table: &Table, seat: &mut Seat, policy: &Policy, core: CoreId) -> Lo
     ensures last { AreLast (view_of seat.new) result.reads }
     ensures all { AreAll (view_of seat.old) (view_of seat.new) result.reads }
 {
-    let mut values = NOTHING_READ;
+    let mut values = CoreValues::NOTHING_SEEN;
     let reads = glance(table, seat, &mut values);
     let values = &values[..table.cores() as usize];
     Look {

@@ -34,6 +34,3 @@ pub(crate) fn glance(table: &Table, seat: &mut Seat, values: &mut [CoreValues; M
     }
     reads
 }
-
-/// What is known of all cores before any is read.
-pub(crate) const NOTHING_READ: [CoreValues; MAX_CORES] = [CoreValues::NONE; MAX_CORES];

@@ -4,8 +4,9 @@ ghost use Rattle.std.specs.Prelude.{◌≡◌, ◌<◌};
 ghost use Rattle.core_table.specs.Public.{IsOf, plan_of, policy_of, view_of};
 ghost use Rattle.select_phase.specs.Seen.{AreAll, AreLate, HasMoreNotes, Placed};
 
-use crate::glances::{NOTHING_READ, glance};
+use crate::glances::glance;
 use core_table::{Seat, Table};
+use policy_eval::CoreValues;
 use policy_tree::{PlaceRule, Policy};
 use round_model::target;
 use sched_base::{CoreId, Reads};
@@ -24,7 +25,7 @@ pub fn place(table: &Table, seat: &mut Seat, policy: &Policy, core: CoreId) -> (
     match &policy.place {
         PlaceRule::Here => (core, Reads::empty()),
         PlaceRule::Least(_) => {
-            let mut values = NOTHING_READ;
+            let mut values = CoreValues::NOTHING_SEEN;
             let reads = glance(table, seat, &mut values);
             let values = &values[..table.cores() as usize];
             (target(policy, values, core), reads)

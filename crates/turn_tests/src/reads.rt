@@ -46,7 +46,7 @@ impl MemoryCalls<'_> {
         ensures known { IsKnown (view_of self.now) }
         ensures read { AreGlanced (view_of self.now) reads.now result }
     {
-        let mut values = [CoreValues::NONE; MAX_CORES];
+        let mut values = CoreValues::NOTHING_SEEN;
         for core in 0..self.plan.cores {
             let seen = self.past.seen_at(core, reads.get(core));
             values[core as usize] = values_of(self.plan, core, seen);

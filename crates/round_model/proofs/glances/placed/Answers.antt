@@ -10,15 +10,15 @@ use Rattle.round_model.proofs.glances.placed.Goals as goal
 pub target-requires-clause-values : goal.target-requires-clause-values
 target-requires-clause-values c =
     let p = meaning_of c.args.policy.now in let few = c.requires.fits.few_cores in
-    values_All (CoreFits p) c.args.plan.now.cores c.values_read-values.result
-    (c.values_read-values.ensures.fits p c.requires.fits c.requires.past) (omega (arith, c.values_read-values.ensures.len))
+    values_All (CoreFits p) c.args.plan.now.cores c.read_values.new.values
+    (c.read_values.ensures.fits p c.requires.fits c.requires.past) (omega (arith, c.read_values.ensures.len))
 
 pub returns : goal.returns
 returns c history stands =
     let p = meaning_of c.args.policy.now in let plan = c.args.plan.now in let few = c.requires.fits.few_cores in
-    let values = c.values_read-values.result in let first = take plan.cores values in
-    let count : length first ≡ plan.cores = omega (arith, length-take plan.cores values, c.values_read-values.ensures.len) in
+    let values = c.read_values.new.values in let first = take plan.cores values in
+    let count : length first ≡ plan.cores = omega (arith, length-take plan.cores values, c.read_values.ensures.len) in
     let seen = values_at p plan history c.args.reads.now in
     sym (target_same p plan.cores (values_in first) seen
-    (λ k there. values_in-take plan.cores values k there ∙ c.values_read-values.ensures.values p history stands k there) c.args.core)
+    (λ k there. values_in-take plan.cores values k there ∙ c.read_values.ensures.values p history stands k there) c.args.core)
     ∙ (sym (ap (λ n. target_of p n (values_in first) c.args.core) count) ∙ c.target.ensures)

@@ -8,7 +8,7 @@ use Rattle.round_model.proofs.notes.look.Given as goal
 -- the cores passed over are seen as they are where they are touched, and the others as before
 abbrev pub invariant-loop-core : goal.invariant-loop-core
 invariant-loop-core l = record {
-  len : length l.seen ≡ length l.initial.seen;
-  done : (c : ℕ) (core : ModelCore) → c < l.core → slice_get l.state c ≡ Some core → seen_at l.seen c ≡ cond (touches c l.entry) (seen_of core) (seen_at l.initial.seen c);
-  left : (c : ℕ) → l.core ≤ c → seen_at l.seen c ≡ seen_at l.initial.seen c;
+  len : length l.row ≡ length l.initial.row;
+  done : (c : ℕ) (core : ModelCore) → c < l.core → slice_get l.state c ≡ Some core → seen_at l.row c ≡ cond (touches c l.entry) (seen_of core) (seen_at l.initial.row c);
+  left : (c : ℕ) → l.core ≤ c → seen_at l.row c ≡ seen_at l.initial.row c;
 }

@@ -1,6 +1,6 @@
 use Rattle.std.proofs.Common.{◌≡◌, subst, arith}
 use Rattle.round_model.proofs.Sightings.{AreReadBelow, values_fit, values_seen}
-use Rattle.round_model.proofs.glances.values_read.Goals as goal
+use Rattle.round_model.proofs.glances.read_values.Goals as goal
 
 -- the values of all cores
 all_read : (c : goal.After-loop-core) → AreReadBelow c.args.plan.now c.args.past.now c.args.reads.now c.loop-core.values c.args.plan.now.cores

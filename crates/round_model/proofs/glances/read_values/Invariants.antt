@@ -1,7 +1,7 @@
 use Rattle.std.proofs.Common.{◌≡◌, length}
 use Rattle.sched_base.specs.declared.limits.TheConstants.{MAX_CORES}
 use Rattle.round_model.proofs.Sightings.{AreReadBelow}
-use Rattle.round_model.proofs.glances.values_read.Given as goal
+use Rattle.round_model.proofs.glances.read_values.Given as goal
 
 -- the values of the cores passed over
 abbrev pub invariant-loop-core : goal.invariant-loop-core
