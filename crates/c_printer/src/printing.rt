@@ -9,8 +9,8 @@ use crate::printer::Printer;
 use policy_tree::{Event, Policy};
 use std::alloc::{AllocError, Global};
 
-/// The header: structs and ranges, the filter, orders, and what events do, each as a small function of C99. It says that
-/// the policy was accepted. Whether it was is for the caller to see.
+/// The header: structs and ranges, the filter, orders, and what events do, each as a small function of C99. It says
+/// that the policy was accepted. Whether it was is for the caller to see.
 pub fn c_text(alloc: Global, policy: &Policy) -> Result<Vec<u8>, AllocError>
     ensures { IfOk result (λ text. text.items ≡ c_text (meaning_of policy.now)) }
 {

@@ -1,6 +1,6 @@
 //! From the arguments of the process to its exit status.
 
-ghost use Rattle.std.specs.Prelude.{◌≡◌, ◌⊎◌, [], ◌∷◌, IfOk};
+ghost use Rattle.std.specs.Prelude.{◌≡◌, ◌⊎◌, [], ◌∷◌, IfOk, OnErr, OnOk};
 ghost use Rattle.std.specs.Process.{exit_status};
 ghost use Rattle.std.specs.Vec.Iter.{into_iter_items};
 ghost use Rattle.sched_io.specs.Faults.{Rose};
@@ -43,6 +43,18 @@ pub fn exit_code<R: Threads + Wait + Sync, F: Files, S: Sink>(
     match words_of_arguments(alloc, args) {
         Ok(words) => ExitCode::from(ipanema(rt, alloc, &words, files, out, &OpenGate)),
         Err(_unstored) => ExitCode::from(Status::Memory.code()),
+    }
+}
+
+/// The status of the process whose output was flushed in that way: the call's own, and that of output which wasn't
+/// written whole where its last bytes weren't.
+pub fn status_after(code: ExitCode, flushed: io::Result<()>) -> ExitCode
+    ensures written { OnOk flushed (result ≡ code) }
+    ensures lost { OnErr flushed (exit_status result ≡ 5) }
+{
+    match flushed {
+        Ok(()) => code,
+        Err(_lost) => ExitCode::from(Status::WriteFault.code()),
     }
 }
 

@@ -5,7 +5,7 @@ ghost use Rattle.sched_io.specs.Adapters.{writer_faults, writer_of};
 
 use crate::faults::PutFault;
 use crate::sinks::Sink;
-use std::io::{Printer, Write};
+use std::io::{BufWriter, Printer, Write};
 
 /// A sink over a writer. As a sink it tells nothing; what a put does to the bytes that the writer holds is a clause of
 /// its own.
@@ -15,8 +15,8 @@ pub struct WriterSink<W> {
     faults: u64,
 }
 
-/// Standard output as a sink: `WriterSink::new(io::writer(rt))`.
-pub type StdoutSink<'a, R> = WriterSink<Printer<'a, R>>;
+/// Standard output as a sink, over the buffer in which its bytes wait. Whoever has the buffer flushes it at the end.
+pub type StdoutSink<'b, 'a, R> = WriterSink<&'b mut BufWriter<Printer<'a, R>>>;
 
 impl<W> WriterSink<W> {
     /// A sink over this writer.
