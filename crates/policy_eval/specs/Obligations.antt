@@ -65,6 +65,11 @@ BatchLeavesLast p (Some batch) = (own victim : CoreValues) (weight : ℕ) (attrs
     → Holds (move_values own victim weight attrs) batch.condition
     → 1 ≤ victim.nr → victim.nr ≤ 2 → own.nr ≤ 1
 
+-- where the filter doesn't hold, the victim's load is at most so much greater than the thief's
+abbrev pub RestGap : Meaning → ℕ → Type 0
+RestGap p gap = (own victim : CoreValues) → CoreFits p own → CoreFits p victim
+    → ¬ Holds (pair_values own victim) p.filter → victim.load ≤ own.load + gap
+
 -- the names of the statements: what a policy owes, and what only some policies keep beside it
 pub data Statement : Type 0 where
   idle_sees_overloaded : Statement
@@ -75,6 +80,7 @@ pub data Statement : Type 0 where
   no_gap : Event → Statement
   filter_leaves_last : Statement
   batch_leaves_last : Statement
+  rest_gap : ℕ → Statement
 
 -- what a statement says of a policy
 abbrev pub IsMet : Meaning → Statement → Type 0
@@ -86,6 +92,7 @@ IsMet p (no_overlap e) = NoOverlap p e
 IsMet p (no_gap e) = NoGap p e
 IsMet p filter_leaves_last = FilterLeavesLast p
 IsMet p batch_leaves_last = BatchLeavesLast p p.batch
+IsMet p (rest_gap gap) = RestGap p gap
 
 -- what a policy owes, in the order in which it is reported
 unfoldable pub statements_of : Meaning → List Statement

@@ -24,6 +24,7 @@ use Rattle.round_model.specs.Code.Outcomes.{values_at}
 use Rattle.round_model.specs.Reads.{IsReadOf, round_start, value_read, values_of}
 use Rattle.round_model.specs.Rounds.{disturbs}
 use Rattle.round_model.proofs.Grows.{legal_prefix}
+use Rattle.round_laws.proofs.MoveObligations.{move_obligations}
 use Rattle.round_laws.proofs.SeenChanges.{changes_between, seen_same_or_not}
 use Rattle.round_laws.proofs.Choosing.{FailedSteal, PassesNow, legal_fail, some_wait}
 use Rattle.round_laws.proofs.KeptLoads.{keeps_loads}
@@ -75,7 +76,7 @@ module _ (p : Meaning) (plan : Plan) (history : List Entry) (fits : Fits p plan)
       by_kind : (at : ℕ) (e : Entry) → get_elem? history at ≡ some e → value_read p plan history c at ≢ value_read p plan history c (suc at) → IsFalse (disturbs e)
           → (b : Bool) → is_steal e ≡ b → IsTrue (is_steal e)
       by_kind at e stands changes calm true is = is
-      by_kind at e stands changes calm false is = absurd (changes (sym (keeps_loads p plan history fits obligations legal at c e stands is calm there)))
+      by_kind at e stands changes calm false is = absurd (changes (sym (keeps_loads p plan history fits (move_obligations p obligations) legal at c e stands is calm there)))
 
   -- the values read of a core that is as it was are its present ones
   values_same : (c : ℕ) → c < plan.cores → IsAsRead c → values_at p plan (take k history) reads c ≡ present_values plan (after p plan (take k history)) c

@@ -35,6 +35,7 @@ use Rattle.round_model.specs.Rows.{Row}
 use Rattle.round_model.specs.Scenes.{scene_of}
 use Rattle.round_model.proofs.Grows.{legal_prefix}
 use Rattle.policy_eval.specs.LastWaiting.{LeavesLastToIdle}
+use Rattle.round_laws.proofs.MoveObligations.{move_obligations}
 use Rattle.round_laws.proofs.Choosing.{legal_fail, legal_pass, some_wait}
 use Rattle.round_laws.proofs.CompleteRounds.{starts_behind}
 use Rattle.round_laws.proofs.IdleCounts.{counts_none, counts_one, idle_fewer, idle_no_more}
@@ -109,7 +110,7 @@ module _ (p : Meaning) (plan : Plan) (h : List Entry) (fits : Fits p plan) (meet
   kinds_after j by from threads reads is busy c = by_core (number_same c by) (number_same c from)
     where
       row : AreMoves plan by from threads (after p plan (take j h)) (after p plan (take (suc j) h))
-      row = (steal_at p plan h fits meets legal j by from threads reads is).1
+      row = (steal_at p plan h fits (move_obligations p meets) legal j by from threads reads is).1
 
       by_core : (c ≡ by) ⊎ (c ≢ by) → (c ≡ from) ⊎ (c ≢ from) → SameKind (count_at p plan h j c) (count_at p plan h (suc j) c)
       by_core (inl same) victim =
@@ -120,7 +121,7 @@ module _ (p : Meaning) (plan : Plan) (h : List Entry) (fits : Fits p plan) (meet
       by_core (inr not) (inl same) =
           let before = ap (count_at p plan h j) same in
           let now = ap (count_at p plan h (suc j)) same in
-          let enough = (steal_at p plan h fits meets legal j by from threads reads is).0 in
+          let enough = (steal_at p plan h fits (move_obligations p meets) legal j by from threads reads is).0 in
           let two = (row_there plan by from threads (after p plan (take j h)) (after p plan (take (suc j) h)) enough row).overloaded in
           let left = busy_leaves_two p plan h fits meets leaves legal j by from threads reads is busy in
           record { none = λ none. absurd (omega arith); many = λ many. omega arith }
@@ -131,7 +132,7 @@ module _ (p : Meaning) (plan : Plan) (h : List Entry) (fits : Fits p plan) (meet
   -- an entry that is no steal and doesn't disturb keeps all
   calm : (k : ℕ) (e : Entry) → get_elem? h k ≡ some e → is_steal e ≡ false → disturbs e ≡ false → KeepsAll p plan h k
   calm k e is other quiet c there =
-      kind_is (count_at p plan h k c) (count_at p plan h (suc k) c) (sym (ap (λ (s : CountAndLoad). s.nr) (keeps_loads p plan h fits meets legal k c e is other quiet there)))
+      kind_is (count_at p plan h k c) (count_at p plan h (suc k) c) (sym (ap (λ (s : CountAndLoad). s.nr) (keeps_loads p plan h fits (move_obligations p meets) legal k c e is other quiet there)))
 
   -- one by which threads come keeps all, unless an idle core gets one
   comes : (k : ℕ) (e : Entry) → get_elem? h k ≡ some e → takes_off e ≡ false → ((c : ℕ) → count_at p plan h k c ≤ count_at p plan h (suc k) c) → PaysNothing p plan h k → KeepsAll p plan h k

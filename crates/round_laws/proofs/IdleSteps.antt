@@ -34,6 +34,7 @@ use Rattle.round_model.specs.Programs.{Meeting, blocking, burst_of, ending_now, 
 use Rattle.round_model.specs.Rounds.{disturbs, is_leaving}
 use Rattle.round_model.specs.Work.{after_meeting, after_unit, core_after_work, elected, run_over, worked}
 use Rattle.round_laws.specs.IdleBound.{IdleRisesOnlyBy, idle_at, takes_off}
+use Rattle.round_laws.proofs.MoveObligations.{move_obligations}
 use Rattle.round_laws.proofs.Amounts.{amount_elected, amount_taken, count_is}
 use Rattle.round_laws.proofs.IdleCounts.{idle_fewer, idle_no_more, idle_one_more, idle_stays}
 use Rattle.round_laws.proofs.KeptLoads.{keeps_loads}
@@ -193,7 +194,7 @@ row_keeps plan by from (thread ∷ threads) m w (k, move, rest) c none = move_ke
 module _ (p : Meaning) (plan : Plan) (h : List Entry) (fits : Fits p plan) (meets : MeetsObligations p) (legal : Legal p plan h) where
   -- an entry that is no steal and doesn't disturb leaves their number
   calm_stays : (k : ℕ) (e : Entry) → get_elem? h k ≡ some e → is_steal e ≡ false → disturbs e ≡ false → idle_at p plan h (suc k) ≤ idle_at p plan h k
-  calm_stays k e is other calm = idle_stays plan (after p plan (take k h)) (after p plan (take (suc k) h)) (λ c there. keeps_loads p plan h fits meets legal k c e is other calm there)
+  calm_stays k e is other calm = idle_stays plan (after p plan (take k h)) (after p plan (take (suc k) h)) (λ c there. keeps_loads p plan h fits (move_obligations p meets) legal k c e is other calm there)
 
   leaves_one : (k by : ℕ) (what : Did) → get_elem? h k ≡ some (entry.Work by what) → idle_at p plan h (suc k) ≤ idle_at p plan h k + 1
   leaves_one k by what is =
@@ -216,7 +217,7 @@ module _ (p : Meaning) (plan : Plan) (h : List Entry) (fits : Fits p plan) (meet
   rises_only_by k (entry.Steal by from threads reads) is =
       let m = after p plan (take k h) in
       let w = after p plan (take (suc k) h) in
-      let keep = idle_no_more plan m w (λ c there. row_keeps plan by from threads m w (steal_at p plan h fits meets legal k by from threads reads is).1 c) in
+      let keep = idle_no_more plan m w (λ c there. row_keeps plan by from threads m w (steal_at p plan h fits (move_obligations p meets) legal k by from threads reads is).1 c) in
       omega arith
   rises_only_by k (entry.Fail by from reads) is = let calm = calm_stays k (entry.Fail by from reads) is refl refl in omega arith
   rises_only_by k (entry.Pass by reads) is = let calm = calm_stays k (entry.Pass by reads) is refl refl in omega arith
@@ -227,7 +228,7 @@ module _ (p : Meaning) (plan : Plan) (h : List Entry) (fits : Fits p plan) (meet
   idle_steal_lowers k by from threads reads is idle =
       let m = after p plan (take k h) in
       let w = after p plan (take (suc k) h) in
-      let steal = steal_at p plan h fits meets legal k by from threads reads is in
+      let steal = steal_at p plan h fits (move_obligations p meets) legal k by from threads reads is in
       let enough = steal.0 in
       let row = steal.1 in
       idle_fewer plan m w (λ c there. row_keeps plan by from threads m w row c) by (row_there plan by from threads m w enough row).own idle

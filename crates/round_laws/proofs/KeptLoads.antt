@@ -10,11 +10,10 @@ use Rattle.policy_tree.specs.declared.typed.Put.TheVariants as put
 use Rattle.policy_tree.specs.Meaning.{CaseTree, Meaning, SetTree}
 use Rattle.policy_eval.specs.Events.{holding_cases, outcome_of_case, outcomes_of, seen_by_handler, task_after_set, with_attribute}
 use Rattle.policy_eval.specs.Fitting.{IsTask}
-use Rattle.policy_eval.specs.Obligations.{MeetsHandlerObligations, MeetsObligations}
+use Rattle.policy_eval.specs.Obligations.{MeetsHandlerObligations}
 use Rattle.policy_eval.specs.Orders.{best_and_rest}
 use Rattle.policy_eval.specs.Resolved.{IsResolved}
 use Rattle.policy_eval.specs.Values.{value_of}
-use Rattle.policy_eval.proofs.Statements.{handler_obligations}
 use Rattle.round_model.specs.declared.entry.Did.{Did}
 use Rattle.round_model.specs.declared.entry.Did.TheVariants as did
 use Rattle.round_model.specs.declared.entry.Entry.{Entry}
@@ -41,6 +40,7 @@ use Rattle.round_model.proofs.Keeping.{stays_after}
 use Rattle.round_model.proofs.Moved.{moved_work, unmoved_fail, unmoved_pass, unmoved_round}
 use Rattle.round_model.proofs.Standing.{one_outcome}
 use Rattle.round_model.proofs.There.{acts_there}
+use Rattle.round_laws.specs.Rest.{MeetsMoveObligations}
 use Rattle.round_laws.proofs.Amounts.{amount, amount_current, amount_elected, amount_queued, amount_taken, seen_same}
 use Rattle.round_laws.proofs.Positions.{seen_behind}
 
@@ -160,7 +160,7 @@ module _ (p : Meaning) (plan : Plan) (fits : Fits p plan) (handlers : MeetsHandl
   entry_keeps_seen e legal other calm c = seen_same (after p plan h c) (moved p plan (round_of h) e (after p plan h) c) (entry_keeps e legal other calm c)
 
 -- so it is along a history
-pub keeps_loads : (p : Meaning) (plan : Plan) (history : List Entry) → Fits p plan → MeetsObligations p → Legal p plan history → StillKeepsLoads p plan history
+pub keeps_loads : (p : Meaning) (plan : Plan) (history : List Entry) → Fits p plan → MeetsMoveObligations p → Legal p plan history → StillKeepsLoads p plan history
 keeps_loads p plan history fits obligations legal k c e is other calm there =
     seen_behind p plan history k c e is
-    ∙ entry_keeps_seen p plan fits (handler_obligations p obligations) (take k history) (legal_prefix p plan history k legal) e (legal k e is) other calm c
+    ∙ entry_keeps_seen p plan fits obligations.handlers (take k history) (legal_prefix p plan history k legal) e (legal k e is) other calm c

@@ -5,9 +5,8 @@ use mathlib.Core.Option.{some}
 use lib.ListN.{get_elem?}
 use Rattle.sched_base.specs.declared.task.Task.{Task}
 use Rattle.policy_tree.specs.Meaning.{BatchTree, Meaning}
-use Rattle.policy_eval.specs.Obligations.{MeetsObligations, MoveNarrowsGap, NarrowsGapBy}
+use Rattle.policy_eval.specs.Obligations.{MoveNarrowsGap, NarrowsGapBy}
 use Rattle.policy_eval.specs.Orders.{best_of}
-use Rattle.policy_eval.proofs.Statements.{balance_obligations, handler_obligations}
 use Rattle.round_model.specs.declared.entry.Entry.{Entry}
 use Rattle.round_model.specs.declared.entry.Entry.TheVariants as entry
 use Rattle.round_model.specs.declared.plan.Plan.{Plan}
@@ -31,6 +30,7 @@ use Rattle.round_model.proofs.MovedOn.{come_cons, left_cons, none_come, none_lea
 use Rattle.round_model.proofs.MoveSteps.{kept_is}
 use Rattle.round_model.proofs.Once.{best-found}
 use Rattle.round_model.proofs.There.{acts_there}
+use Rattle.round_laws.specs.Rest.{MeetsMoveObligations}
 use Rattle.round_laws.proofs.Choosing.{choice_is, legal_steal}
 use Rattle.round_laws.proofs.Positions.{state_behind}
 use Rattle.round_laws.proofs.Thefts.{AreReady, AreWith, IsMove, Narrows, first_narrows, further_narrows, is_move, ready_after, ready_now}
@@ -143,7 +143,7 @@ module _ (by from : ℕ) (apart : by ≢ from) (m : Cores) where
               (λ ready queued. first_narrows p thief victim ready t queued plan fits by from own there first passes)
               (after_row batch further (received t thief) (handed t.id victim))
 
-module _ (p : Meaning) (plan : Plan) (fits : Fits p plan) (obligations : MeetsObligations p) (h : List Entry) (so_far : Legal p plan h) (by from : ℕ) where
+module _ (p : Meaning) (plan : Plan) (fits : Fits p plan) (obligations : MeetsMoveObligations p) (h : List Entry) (so_far : Legal p plan h) (by from : ℕ) where
   -- the moves of an attempt after a legal history are a row, by whichever batch each further move narrows the gap
   pub moves_are : by < plan.cores → from < plan.cores → by ≢ from → (batch : Option BatchTree) → NarrowsGapBy p batch → (threads reads : List ℕ)
       → let m = after p plan h in threads ≡ moves_of p plan by from batch (m by) (m from)
@@ -151,8 +151,8 @@ module _ (p : Meaning) (plan : Plan) (fits : Fits p plan) (obligations : MeetsOb
   moves_are own there apart batch narrows threads reads are =
       let m = after p plan h in
       let w = moved p plan (round_of h) (entry.Steal by from threads reads) m in
-      let first = (balance_obligations p obligations).move_narrows_gap in
-      let ready = ready_now p plan fits (handler_obligations p obligations) h so_far by from own there apart in
+      let first = obligations.move_narrows_gap in
+      let ready = ready_now p plan fits obligations.handlers h so_far by from own there apart in
       let self : AreWith by from m (m by) (m from) m = record { thief_is = refl; victim_is = refl; others = λ c this that. refl } in
       let rows : RowsFrom by from apart m p plan fits own there w threads (m by) (m from) =
       subst (λ (ids : List ℕ). RowsFrom by from apart m p plan fits own there w ids (m by) (m from)) (sym are)
@@ -166,11 +166,11 @@ module _ (p : Meaning) (plan : Plan) (fits : Fits p plan) (obligations : MeetsOb
       let means = legal_steal p plan h by from threads reads legal in
       let candidate = choice_is p plan.cores (values_at p plan h reads) by from means.choice in
       let own = acts_there p plan h (entry.Steal by from threads reads) by refl legal in
-      let further = (balance_obligations p obligations).further_move_narrows_gap in
+      let further = obligations.further_move_narrows_gap in
       (means.some, moves_are own candidate.there candidate.apart p.batch further threads reads means.moves)
 
 -- and so is each steal of a legal history
-pub steal_at : (p : Meaning) (plan : Plan) (history : List Entry) → Fits p plan → MeetsObligations p → Legal p plan history
+pub steal_at : (p : Meaning) (plan : Plan) (history : List Entry) → Fits p plan → MeetsMoveObligations p → Legal p plan history
     → (k by from : ℕ) (threads reads : List ℕ) → get_elem? history k ≡ some (entry.Steal by from threads reads)
     → (1 ≤ length threads) × AreMoves plan by from threads (after p plan (take k history)) (after p plan (take (suc k) history))
 steal_at p plan history fits obligations legal k by from threads reads is =

@@ -2,13 +2,13 @@
 use Rattle.std.proofs.Common.{◌≡◌, ℕ, suc, ◌+◌, ◌*◌, ◌<◌, ◌≤◌, List, [], ◌∷◌, length, get_or, ◌∙◌, subst, arith}
 use Rattle.std.specs.List.Sorted.{IsStrictlyIncreasing}
 use Rattle.policy_tree.specs.Meaning.{Meaning}
-use Rattle.policy_eval.specs.Obligations.{MeetsObligations}
 use Rattle.round_model.specs.declared.entry.Entry.{Entry}
 use Rattle.round_model.specs.declared.plan.Plan.{Plan}
 use Rattle.round_model.specs.Fits.{Fits}
 use Rattle.round_model.specs.Legal.{Legal}
 use Rattle.round_model.specs.Rounds.{BeginsAt, IsStill, round_at}
 use Rattle.round_model.specs.StillRounds.{StealsIn, spread_at}
+use Rattle.round_laws.specs.Rest.{MeetsMoveObligations}
 use Rattle.round_laws.proofs.StealsNarrow.{steals_narrow_two}
 use Rattle.round_laws.proofs.Stretches.{never_wider}
 use Rattle.round_laws.proofs.RoundNumbers.{behind_round, round_behind}
@@ -27,7 +27,7 @@ increasing_rest n rest increasing k inside =
     let next : suc k + 1 ≡ suc (k + 1) = omega arith in
     subst (λ i. get_or rest k 0 < get_or (n ∷ rest) i 0) next less
 
-module _ (p : Meaning) (plan : Plan) (h : List Entry) (fits : Fits p plan) (meets : MeetsObligations p) (legal : Legal p plan h) (first last opening : ℕ) (still : IsStill h first last) (begins : BeginsAt h first opening) (upper : ℕ) (inside : upper ≤ last) where
+module _ (p : Meaning) (plan : Plan) (h : List Entry) (fits : Fits p plan) (meets : MeetsMoveObligations p) (legal : Legal p plan h) (first last opening : ℕ) (still : IsStill h first last) (begins : BeginsAt h first opening) (upper : ℕ) (inside : upper ≤ last) where
   -- of rounds behind the start
   pub paid_from : (rounds : List ℕ) (start : ℕ) → opening ≤ start → round_at h start ≤ upper → (0 < length rounds → round_at h start < get_or rounds 0 0) → IsStrictlyIncreasing rounds
       → ((k : ℕ) → k < length rounds → (get_or rounds k 0 ≤ upper) × StealsIn p plan h (get_or rounds k 0)) → PaidFrom p plan h start upper (length rounds)

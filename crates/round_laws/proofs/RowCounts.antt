@@ -26,6 +26,7 @@ use Rattle.round_model.proofs.Grows.{legal_prefix}
 use Rattle.round_model.proofs.MovedOn.{left_cons, none_leave}
 use Rattle.round_model.proofs.MoveSteps.{kept_is}
 use Rattle.round_model.proofs.Once.{best-found}
+use Rattle.round_laws.proofs.MoveObligations.{move_obligations}
 use Rattle.round_laws.proofs.Amounts.{amount_received, count_is}
 use Rattle.round_laws.proofs.Choosing.{legal_steal}
 use Rattle.round_laws.proofs.MoveRows.{AreMoves, steal_after, steal_at}
@@ -122,7 +123,7 @@ busy_leaves_two p plan h fits meets leaves legal k by from threads reads is busy
     let e = entry.Steal by from threads reads in
     let so_far = legal_prefix p plan h k legal in
     let m = after p plan (take k h) in
-    let steal = steal_at p plan h fits meets legal k by from threads reads is in
+    let steal = steal_at p plan h fits (move_obligations p meets) legal k by from threads reads is in
     let both = row_there plan by from threads m (after p plan (take (suc k) h)) steal.0 steal.1 in
     let means = legal_steal p plan (take k h) by from threads reads (legal k e is) in
     let ready = ready_now p plan fits (handler_obligations p meets) (take k h) so_far by from both.own both.there both.apart in

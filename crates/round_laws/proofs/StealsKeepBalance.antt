@@ -4,7 +4,6 @@ use Rattle.std.proofs.Common.{◌≡◌, ◌≢◌, ℕ, suc, IsTrue, List, [], 
 use mathlib.Core.Option.{some}
 use lib.ListN.{get_elem?}
 use Rattle.policy_tree.specs.Meaning.{Meaning}
-use Rattle.policy_eval.specs.Obligations.{MeetsObligations}
 use Rattle.round_model.specs.declared.entry.Entry.{Entry}
 use Rattle.round_model.specs.declared.plan.Plan.{Plan}
 use Rattle.round_model.specs.declared.state.CountAndLoad.{CountAndLoad}
@@ -15,6 +14,7 @@ use Rattle.round_model.specs.Kinds.{is_steal}
 use Rattle.round_model.specs.Legal.{Legal}
 use Rattle.round_model.specs.Spread.{Beside}
 use Rattle.round_model.specs.StillRounds.{BesideAt}
+use Rattle.round_laws.specs.Rest.{MeetsMoveObligations}
 use Rattle.round_laws.proofs.MoveRows.{AreMoves, steal_at, steal_cases}
 use Rattle.round_laws.proofs.Thefts.{IsMove}
 
@@ -56,7 +56,7 @@ pub steal_opens_none : (round : ℕ) (e : Entry) → IsTrue (is_steal e) → rou
 steal_opens_none round e steal = steal_cases (λ x. round_after round x ≡ round) (λ by from threads reads. refl) e steal
 
 -- a steal of a legal history brings no idle core beside an overloaded one
-pub beside_before_steal : (p : Meaning) (plan : Plan) (h : List Entry) → Fits p plan → MeetsObligations p → Legal p plan h → (k : ℕ) (e : Entry) → get_elem? h k ≡ some e → IsTrue (is_steal e)
+pub beside_before_steal : (p : Meaning) (plan : Plan) (h : List Entry) → Fits p plan → MeetsMoveObligations p → Legal p plan h → (k : ℕ) (e : Entry) → get_elem? h k ≡ some e → IsTrue (is_steal e)
     → BesideAt p plan h (suc k) → BesideAt p plan h k
 beside_before_steal p plan h fits meets legal k e is steal beside =
     steal_cases (λ x. get_elem? h k ≡ some x → BesideAt p plan h k)

@@ -4,7 +4,6 @@ use Rattle.std.proofs.Common.{◌≡◌, ℕ, suc, ◌+◌, ◌*◌, ◌≤◌, 
 use mathlib.Core.Option.{some}
 use lib.ListN.{get_elem?}
 use Rattle.policy_tree.specs.Meaning.{Meaning}
-use Rattle.policy_eval.specs.Obligations.{MeetsObligations}
 use Rattle.round_model.specs.declared.entry.Entry.{Entry}
 use Rattle.round_model.specs.declared.plan.Plan.{Plan}
 use Rattle.round_model.specs.declared.state.CountAndLoad.{CountAndLoad}
@@ -16,6 +15,7 @@ use Rattle.round_model.specs.Kinds.{is_steal}
 use Rattle.round_model.specs.Legal.{Legal}
 use Rattle.round_model.specs.Spread.{spread, spread_of}
 use Rattle.round_model.specs.StillRounds.{StealsNarrow, spread_at}
+use Rattle.round_laws.specs.Rest.{MeetsMoveObligations}
 use Rattle.round_laws.proofs.MoveRows.{AreMoves, steal_at, steal_cases}
 use Rattle.round_laws.proofs.Narrowing.{narrows, range_same}
 use Rattle.round_laws.proofs.Thefts.{IsMove}
@@ -40,7 +40,7 @@ row_narrows plan by from (thread ∷ threads) m w (k, move, rest) =
     omega (arith, steal_narrows plan by from thread m k move, row_narrows plan by from threads k w rest) in e
 
 -- along a history
-pub steals_narrow : (p : Meaning) (plan : Plan) (history : List Entry) → Fits p plan → MeetsObligations p → Legal p plan history → StealsNarrow p plan history
+pub steals_narrow : (p : Meaning) (plan : Plan) (history : List Entry) → Fits p plan → MeetsMoveObligations p → Legal p plan history → StealsNarrow p plan history
 steals_narrow p plan history fits obligations legal k e is steal =
     steal_cases (λ x. get_elem? history k ≡ some x → spread_at p plan history (suc k) + 2 * length (threads_moved x) ≤ spread_at p plan history k)
     (λ by from threads reads here.
@@ -48,7 +48,7 @@ steals_narrow p plan history fits obligations legal k e is steal =
     e steal is
 
 -- so by 2 at least, since a steal moves a thread
-pub steals_narrow_two : (p : Meaning) (plan : Plan) (history : List Entry) → Fits p plan → MeetsObligations p → Legal p plan history
+pub steals_narrow_two : (p : Meaning) (plan : Plan) (history : List Entry) → Fits p plan → MeetsMoveObligations p → Legal p plan history
     → (k : ℕ) (e : Entry) → get_elem? history k ≡ some e → IsTrue (is_steal e) → spread_at p plan history (suc k) + 2 ≤ spread_at p plan history k
 steals_narrow_two p plan history fits obligations legal k e is steal =
     let less = steals_narrow p plan history fits obligations legal k e is steal in

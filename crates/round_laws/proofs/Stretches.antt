@@ -4,7 +4,6 @@ use Rattle.std.proofs.Common.{◌≡◌, ℕ, zero, suc, ◌<◌, ◌≤◌, ◌
 use mathlib.Core.Option.{some, some-injective}
 use lib.ListN.{get_elem?}
 use Rattle.policy_tree.specs.Meaning.{Meaning}
-use Rattle.policy_eval.specs.Obligations.{MeetsObligations}
 use Rattle.round_model.specs.declared.entry.Entry.{Entry}
 use Rattle.round_model.specs.declared.entry.Entry.TheVariants as entry
 use Rattle.round_model.specs.declared.plan.Plan.{Plan}
@@ -16,6 +15,7 @@ use Rattle.round_model.specs.Legal.{Legal}
 use Rattle.round_model.specs.Reads.{value_read}
 use Rattle.round_model.specs.Rounds.{BeginsAt, IsStill, disturbs, round_at}
 use Rattle.round_model.specs.StillRounds.{BesideAt, spread_at}
+use Rattle.round_laws.specs.Rest.{MeetsMoveObligations}
 use Rattle.round_laws.proofs.KeptLoads.{keeps_loads}
 use Rattle.round_laws.proofs.StealsNarrow.{steals_narrow_two}
 use Rattle.round_laws.proofs.Apart.{beside_same, spread_same}
@@ -27,7 +27,7 @@ pub data Step (p : Meaning) (plan : Plan) (h : List Entry) (k : ℕ) : Type 0 wh
   keeps_all : ((c : ℕ) → c < plan.cores → value_read p plan h c (suc k) ≡ value_read p plan h c k) → Step p plan h k
   steals : (e : Entry) → get_elem? h k ≡ some e → IsTrue (is_steal e) → Step p plan h k
 
-module _ (p : Meaning) (plan : Plan) (h : List Entry) (fits : Fits p plan) (meets : MeetsObligations p) (legal : Legal p plan h) (first last opening : ℕ) (still : IsStill h first last) (begins : BeginsAt h first opening) where
+module _ (p : Meaning) (plan : Plan) (h : List Entry) (fits : Fits p plan) (meets : MeetsMoveObligations p) (legal : Legal p plan h) (first last opening : ℕ) (still : IsStill h first last) (begins : BeginsAt h first opening) where
   -- from the first Round on, up to the Round behind the stretch, no entry disturbs
   pub undisturbed : (k : ℕ) (e : Entry) → get_elem? h k ≡ some e → opening ≤ k → round_at h k ≤ last → IsFalse (disturbs e)
   undisturbed k e is behind within = by_order (eq-or-lt_of_le behind)
@@ -66,17 +66,21 @@ module _ (p : Meaning) (plan : Plan) (h : List Entry) (fits : Fits p plan) (meet
           let one = narrower j (step j (omega arith) (omega arith)) in
           omega arith
 
+  -- what no entry brings about is at each earlier position where it is at a later one
+  pub earlier : (P : ℕ → Type 0) → ((k : ℕ) → Step p plan h k → P (suc k) → P k) → (k j : ℕ) → opening ≤ k → k ≤ j → round_at h j ≤ last → P j → P k
+  earlier P back k zero behind before within there = let first : 0 ≡ k = omega arith in subst P first there
+  earlier P back k (suc j) behind before within there = by_order (earlier P back k j behind) (eq-or-lt_of_le before)
+    where
+      by_order : (k ≤ j → round_at h j ≤ last → P j → P k) → (k ≡ suc j) ⊎ (k < suc j) → P k
+      by_order rest (inl same) = subst P (sym same) there
+      by_order rest (inr less) =
+          let rises = round_rises p plan h legal j (suc j) (omega arith) in
+          rest (omega arith) (omega arith) (back j (step j (omega arith) (omega arith)) there)
+
   beside_before : (k : ℕ) → Step p plan h k → BesideAt p plan h (suc k) → BesideAt p plan h k
   beside_before k (keeps_all same) beside = beside_same plan (after p plan (take (suc k) h)) (after p plan (take k h)) same beside
   beside_before k (steals e is steal) beside = beside_before_steal p plan h fits meets legal k e is steal beside
 
-  -- an idle core beside an overloaded one at a later position is one at each earlier one
+  -- so it is with an idle core beside an overloaded one
   pub beside_earlier : (k j : ℕ) → opening ≤ k → k ≤ j → round_at h j ≤ last → BesideAt p plan h j → BesideAt p plan h k
-  beside_earlier k zero behind before within beside = let first : 0 ≡ k = omega arith in subst (BesideAt p plan h) first beside
-  beside_earlier k (suc j) behind before within beside = by_order (beside_earlier k j behind) (eq-or-lt_of_le before)
-    where
-      by_order : (k ≤ j → round_at h j ≤ last → BesideAt p plan h j → BesideAt p plan h k) → (k ≡ suc j) ⊎ (k < suc j) → BesideAt p plan h k
-      by_order rest (inl same) = subst (BesideAt p plan h) (sym same) beside
-      by_order rest (inr less) =
-          let rises = round_rises p plan h legal j (suc j) (omega arith) in
-          rest (omega arith) (omega arith) (beside_before j (step j (omega arith) (omega arith)) beside)
+  beside_earlier = earlier (BesideAt p plan h) beside_before

@@ -22,7 +22,8 @@ use Rattle.round_model.specs.StillRounds.{BesideAt}
 use Rattle.policy_eval.specs.LastWaiting.{LeavesLastToIdle}
 use Rattle.round_model.specs.Spread.{idle_count}
 use Rattle.round_laws.specs.IdleBound.{BadRoundsFill, ConservesWorkSoon, EndsAt, StillWasteIsPaid, WasteIsPaid, WasteIsPaidLaw, idle_at, taken_off, takes_off}
-use Rattle.round_laws.proofs.Conserved.{bad_before, rising_numbers}
+use Rattle.round_laws.proofs.MoveObligations.{move_obligations}
+use Rattle.round_laws.proofs.EarlierRounds.{bad_before, rising_numbers}
 use Rattle.round_laws.proofs.Fills.{PaysIn, bad_round_pays}
 use Rattle.round_laws.proofs.IdleCounts.{counts_none, some_busy, some_idle}
 use Rattle.round_laws.proofs.IdleSteps.{off_before, off_more, rises_only_by}
@@ -122,7 +123,7 @@ module _ (p : Meaning) (plan : Plan) (h : List Entry) (fits : Fits p plan) (meet
       where
         calm : EntryAt h j → opening ≤ j → round_at h j ≤ last → off_before h (suc j) ≡ off_before h j
         calm (entry_at e is) later inside =
-            let none = counts_none (takes_off e) (calm_keeps e (undisturbed p plan h fits meets legal first last opening still begins j e is later inside)) in
+            let none = counts_none (takes_off e) (calm_keeps e (undisturbed p plan h fits (move_obligations p meets) legal first last opening still begins j e is later inside)) in
             let more = off_more h j e is in
             omega arith
         calm (past_end same) later inside = ap (count_by takes_off) same
@@ -142,14 +143,14 @@ module _ (p : Meaning) (plan : Plan) (h : List Entry) (fits : Fits p plan) (meet
         one (keeps_all same) = total_stays plan (after p plan (take j h)) (after p plan (take (suc j) h)) same
         one (steals e is steal) =
             steal_cases (λ x. get_elem? h j ≡ some x → thread_total plan (after p plan (take (suc j) h)) ≡ thread_total plan (after p plan (take j h)))
-            (λ by from threads reads here. row_total plan by from threads (after p plan (take j h)) (after p plan (take (suc j) h)) (steal_at p plan h fits meets legal j by from threads reads here).1) e steal is
+            (λ by from threads reads here. row_total plan by from threads (after p plan (take j h)) (after p plan (take (suc j) h)) (steal_at p plan h fits (move_obligations p meets) legal j by from threads reads here).1) e steal is
 
         by_order : (k ≤ j → round_at h j ≤ last → thread_total plan (after p plan (take j h)) ≡ thread_total plan (after p plan (take k h))) → (k ≡ suc j) ⊎ (k < suc j)
             → thread_total plan (after p plan (take (suc j) h)) ≡ thread_total plan (after p plan (take k h))
         by_order rest (inl is) = ap (λ i. thread_total plan (after p plan (take i h))) (sym is)
         by_order rest (inr less) =
             let rises = round_rises p plan h legal j (suc j) (omega arith) in
-            one (step p plan h fits meets legal first last opening still begins j (omega arith) (omega arith)) ∙ rest (omega arith) (omega arith)
+            one (step p plan h fits (move_obligations p meets) legal first last opening still begins j (omega arith) (omega arith)) ∙ rest (omega arith) (omega arith)
 
   module _ (leaves : LeavesLastToIdle p) where
     -- a bad and still round ends with fewer idle cores
@@ -206,7 +207,7 @@ module _ (p : Meaning) (plan : Plan) (h : List Entry) (fits : Fits p plan) (meet
         let to_last = one.1 in
         let this = one.2 in
         let closes = opens_next p plan h legal n this.position this.begins in
-        let beside = beside_earlier p plan h fits meets legal first last opening stretch.still begins opening this.position (omega arith)
+        let beside = beside_earlier p plan h fits (move_obligations p meets) legal first last opening stretch.still begins opening this.position (omega arith)
         (begins_in_order p plan h legal first n opening this.position begins this.begins from_first) (omega arith) this.beside in
         let m = after p plan (take opening h) in
         let busy = some_busy plan m beside.overloaded beside.overloaded_there (let two = beside.is_overloaded in omega arith) in
@@ -252,7 +253,7 @@ module _ (p : Meaning) (plan : Plan) (h : List Entry) (fits : Fits p plan) (meet
         let rises = round_rises p plan h legal from k behind in
         let within = there.not_after in
         never_so_late first last opening stretch.positive stretch.still begins rounds from ends (omega arith)
-        (beside_earlier p plan h fits meets legal first last opening stretch.still begins from k in_order behind within beside) (omega arith)
+        (beside_earlier p plan h fits (move_obligations p meets) legal first last opening stretch.still begins from k in_order behind within beside) (omega arith)
 
 -- the law
 pub waste_is_paid_law : WasteIsPaidLaw

@@ -9,6 +9,7 @@ use Rattle.round_model.specs.Fits.{Fits}
 use Rattle.round_model.specs.Legal.{Legal}
 use Rattle.round_model.specs.OnePlace.{OnePlace}
 use Rattle.round_model.specs.StillRounds.{StillRounds}
+use Rattle.round_laws.specs.Rest.{ComesToRest}
 
 -- The laws of every interleaving, of one history.
 pub record KeepsLaws (p : Meaning) (plan : Plan) (history : List Entry) : Type 0 where
@@ -19,6 +20,8 @@ pub record KeepsLaws (p : Meaning) (plan : Plan) (history : List Entry) : Type 0
   -- bad rounds are paid for by steals, and no core is idle beside an overloaded one N rounds after the first or later,
   -- for each N with 2 N at least the first spread
   pub still_rounds : StillRounds p plan history
+  -- and rounds in which some core could steal from another are paid for so too: then the cores are at rest, and stay so
+  pub rest : ComesToRest p plan history
 
 -- Under the policy every legal history of every plan that fits it keeps them.
 abbrev pub WastesNoCore : Meaning → Type 0

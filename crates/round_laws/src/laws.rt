@@ -12,6 +12,7 @@ ghost use Rattle.round_model.specs.OnePlace.{OnePlaceLaw};
 ghost use Rattle.round_model.specs.StillRounds.{StillRoundsLaw};
 ghost use Rattle.round_laws.specs.IdleBound.{WasteIsPaidLaw};
 ghost use Rattle.round_laws.specs.MainTheorem.{MainTheorem};
+ghost use Rattle.round_laws.specs.Rest.{RestLaw};
 
 /// Each live thread stands at exactly one core, each blocked one in exactly one blocked list, every other nowhere; and
 /// every number lies in its range. For this exactly one case of each handler has to hold, and no more.
@@ -49,4 +50,12 @@ pub fn law_waste_is_paid()
 /// Where all threads weigh the same, a policy that meets its obligations is one of those.
 pub fn law_equal_weights()
     ensures { EqualWeightsLaw }
+{}
+
+/// In still rounds the cores come to rest. As long as the filter holds of some thief and some victim as a round begins, the
+/// round has a steal, and twice the number of such rounds is at most the first spread. Once it holds of none, no entry of
+/// the still stretch is a steal and it holds of none later. So it is from the Round on that comes N rounds after the
+/// first, for each N with 2 N + 1 at least the first spread. A policy need not let idle cores see every overloaded one for this.
+pub fn law_rest()
+    ensures { RestLaw }
 {}

@@ -1,0 +1,9 @@
+pub mod Climbing
+pub mod Gap
+pub mod Levels
+pub mod LowestFirst
+pub mod LowestMoves
+pub mod LowestRounds
+pub mod LowestSteps
+pub mod StepsByOne
+pub mod TwoApart

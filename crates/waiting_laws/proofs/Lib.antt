@@ -1,0 +1,12 @@
+pub mod Least
+pub mod LeastQueues
+pub mod LeastUnits
+pub mod Slices
+pub mod SlicesUnits
+pub mod TasksInRange
+pub mod Waiting
+pub mod WaitingEntries
+pub mod WaitingPlaces
+pub mod WaitingRanges
+pub mod WaitingSteps
+pub mod WaitingUnits
