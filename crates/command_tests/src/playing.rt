@@ -20,12 +20,13 @@ use std::thread::Threads;
 use std::{fs, io};
 
 /// The tables, in the order in which they are played.
-const TABLES: [&str; 18] = [
+const TABLES: [&str; 19] = [
     "statuses.cases",
     "words.cases",
     "check.cases",
     "levels.cases",
     "bound.cases",
+    "rest.cases",
     "certs.cases",
     "emit.cases",
     "play.cases",

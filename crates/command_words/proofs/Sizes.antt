@@ -5,7 +5,7 @@ use Rattle.std.specs.List.{list_all}
 use Rattle.std.specs.Str.{bytes_eq}
 use Rattle.obligations.specs.declared.names.ObName.{ObName}
 use Rattle.command_words.specs.Command.{Asked, asked_by, asked_plainly, bench, bound, check, crew, emit, explain, is_plain}
-use Rattle.command_words.specs.Command.{make, migrate, name_of, play, prove, replay, report, run, simulate, verify, waste}
+use Rattle.command_words.specs.Command.{make, migrate, name_of, play, prove, replay, report, run, simulate, verify, waste, rest}
 use Rattle.command_words.specs.Numbers.{is_crew, is_size, seed_in, size_in, workers_in}
 
 -- if a trace is to be made, its size is one, and if one is to be played too, and the workers of a crew are so many
@@ -85,6 +85,9 @@ proved policy = record { made = λ s n e. absurd (let bad = e in cc); benched = 
 bounded : (policy : List ℕ) → IsSized (Some (bound policy))
 bounded policy = record { made = λ s n e. absurd (let bad = e in cc); benched = λ s n e. absurd (let bad = e in cc); crewed = λ p t n e. absurd (let bad = e in cc) }
 
+rested : (policy : List ℕ) → IsSized (Some (rest policy))
+rested policy = record { made = λ s n e. absurd (let bad = e in cc); benched = λ s n e. absurd (let bad = e in cc); crewed = λ p t n e. absurd (let bad = e in cc) }
+
 emitted : (policy : List ℕ) → IsSized (Some (emit policy))
 emitted policy = record { made = λ s n e. absurd (let bad = e in cc); benched = λ s n e. absurd (let bad = e in cc); crewed = λ p t n e. absurd (let bad = e in cc) }
 
@@ -150,7 +153,8 @@ plainly (verb ∷ a ∷ []) =
     either (bytes_eq (codes "check") verb) _ _ (checked a)
     (either (bytes_eq (codes "prove") verb) _ _ (proved a)
     (either (bytes_eq (codes "bound") verb) _ _ (bounded a)
-    (either (bytes_eq (codes "emit") verb) _ _ (emitted a) nothing)))
+    (either (bytes_eq (codes "rest") verb) _ _ (rested a)
+    (either (bytes_eq (codes "emit") verb) _ _ (emitted a) nothing))))
 plainly (verb ∷ a ∷ b ∷ []) =
     either (bytes_eq (codes "explain") verb) _ _ (explained a (name_of b))
     (either (bytes_eq (codes "verify") verb) _ _ (verified a b)
@@ -165,7 +169,7 @@ plainly (verb ∷ a ∷ b ∷ c ∷ []) =
     (either (bytes_eq (codes "replay") verb) _ _ (replayed a b c)
     (either (bytes_eq (codes "report") verb) _ _ (reported a b c)
     (either (bytes_eq (codes "migrate") verb) _ _ (migrated a b c) nothing)))
-plainly (verb ∷ a ∷ b ∷ c ∷ d ∷ rest) = nothing
+plainly (verb ∷ a ∷ b ∷ c ∷ d ∷ words) = nothing
 
 pub asked-sized : (words : List (List ℕ)) → IsSized (asked_by words)
 asked-sized words = either (list_all is_plain words) (asked_plainly words) None (plainly words) nothing

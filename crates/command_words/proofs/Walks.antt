@@ -60,6 +60,13 @@ bound (one a) = simp a.plain
 bound (two a b) = simp (a.plain, b.plain)
 bound (three a b c) = simp (a.plain, b.plain, c.plain)
 
+rested : (behind : Behind) → AgreesAt (codes "rest" ∷ texts behind)
+unfolding clap_on_literals
+rested none = refl
+rested (one a) = simp a.plain
+rested (two a b) = simp (a.plain, b.plain)
+rested (three a b c) = simp (a.plain, b.plain, c.plain)
+
 emit : (behind : Behind) → AgreesAt (codes "emit" ∷ texts behind)
 unfolding clap_on_literals
 emit none = refl
@@ -156,6 +163,7 @@ other : (v : Word) (behind : Behind)
     → bytes_eq (codes "check") (text v) ≡ false
     → bytes_eq (codes "prove") (text v) ≡ false
     → bytes_eq (codes "bound") (text v) ≡ false
+    → bytes_eq (codes "rest") (text v) ≡ false
     → bytes_eq (codes "emit") (text v) ≡ false
     → bytes_eq (codes "explain") (text v) ≡ false
     → bytes_eq (codes "verify") (text v) ≡ false
@@ -171,10 +179,10 @@ other : (v : Word) (behind : Behind)
     → bytes_eq (codes "bench") (text v) ≡ false
     → AgreesAt (text v ∷ texts behind)
 unfolding clap_on_literals
-other v none a b c d e f g h i j k l m n o p = simp (v.plain, a, b, c, d, e, f, g, h, i, j, k, l, m, n, o, p)
-other v (one w) a b c d e f g h i j k l m n o p = simp (v.plain, w.plain, a, b, c, d, e, f, g, h, i, j, k, l, m, n, o, p)
-other v (two w x) a b c d e f g h i j k l m n o p = simp (v.plain, w.plain, x.plain, a, b, c, d, e, f, g, h, i, j, k, l, m, n, o, p)
-other v (three w x y) a b c d e f g h i j k l m n o p = simp (v.plain, w.plain, x.plain, y.plain, a, b, c, d, e, f, g, h, i, j, k, l, m, n, o, p)
+other v none a b c d e f g h i j k l m n o p q = simp (v.plain, a, b, c, d, e, f, g, h, i, j, k, l, m, n, o, p, q)
+other v (one w) a b c d e f g h i j k l m n o p q = simp (v.plain, w.plain, a, b, c, d, e, f, g, h, i, j, k, l, m, n, o, p, q)
+other v (two w x) a b c d e f g h i j k l m n o p q = simp (v.plain, w.plain, x.plain, a, b, c, d, e, f, g, h, i, j, k, l, m, n, o, p, q)
+other v (three w x y) a b c d e f g h i j k l m n o p q = simp (v.plain, w.plain, x.plain, y.plain, a, b, c, d, e, f, g, h, i, j, k, l, m, n, o, p, q)
 
 -- the verb is this one, or it isn't
 at_verb : (verb word : Text) (P : Text → Type 0) → P verb → (bytes_eq verb word ≡ false → P word) → P word
@@ -190,20 +198,21 @@ with_verb v behind =
     at_verb (codes "check") (text v) P (check behind) (λ a.
     at_verb (codes "prove") (text v) P (prove behind) (λ b.
     at_verb (codes "bound") (text v) P (bound behind) (λ c.
-    at_verb (codes "emit") (text v) P (emit behind) (λ d.
-    at_verb (codes "explain") (text v) P (explain behind) (λ e.
-    at_verb (codes "verify") (text v) P (verify behind) (λ f.
-    at_verb (codes "play") (text v) P (play behind) (λ g.
-    at_verb (codes "run") (text v) P (run behind) (λ h.
-    at_verb (codes "simulate") (text v) P (simulate behind) (λ i.
-    at_verb (codes "waste") (text v) P (waste behind) (λ j.
-    at_verb (codes "crew") (text v) P (crew behind) (λ k.
-    at_verb (codes "replay") (text v) P (replay behind) (λ l.
-    at_verb (codes "report") (text v) P (report behind) (λ m.
-    at_verb (codes "migrate") (text v) P (migrate behind) (λ n.
-    at_verb (codes "make") (text v) P (make behind) (λ o.
-    at_verb (codes "bench") (text v) P (bench behind) (λ p.
-    other v behind a b c d e f g h i j k l m n o p))))))))))))))))
+    at_verb (codes "rest") (text v) P (rested behind) (λ d.
+    at_verb (codes "emit") (text v) P (emit behind) (λ e.
+    at_verb (codes "explain") (text v) P (explain behind) (λ f.
+    at_verb (codes "verify") (text v) P (verify behind) (λ g.
+    at_verb (codes "play") (text v) P (play behind) (λ h.
+    at_verb (codes "run") (text v) P (run behind) (λ i.
+    at_verb (codes "simulate") (text v) P (simulate behind) (λ j.
+    at_verb (codes "waste") (text v) P (waste behind) (λ k.
+    at_verb (codes "crew") (text v) P (crew behind) (λ l.
+    at_verb (codes "replay") (text v) P (replay behind) (λ m.
+    at_verb (codes "report") (text v) P (report behind) (λ n.
+    at_verb (codes "migrate") (text v) P (migrate behind) (λ o.
+    at_verb (codes "make") (text v) P (make behind) (λ p.
+    at_verb (codes "bench") (text v) P (bench behind) (λ q.
+    other v behind a b c d e f g h i j k l m n o p q)))))))))))))))))
 
 no_words : AgreesAt []
 unfolding clap_on_literals

@@ -1,17 +1,18 @@
 -- What a request asks for.
 use Rattle.std.specs.Prelude.{Option, Some, None}
 use Rattle.command_words.specs.Command.{Asked, bench, bound, check, crew, emit, explain, make, migrate}
-use Rattle.command_words.specs.Command.{play, prove, replay, report, run, simulate, verify, waste}
+use Rattle.command_words.specs.Command.{play, prove, replay, report, run, simulate, verify, waste, rest}
 use Rattle.command_words.specs.declared.request.Request.{Request}
 use Rattle.command_words.specs.declared.request.Request.TheVariants.{Bench, Bound, Check, Crew, Emit, Explain}
 use Rattle.command_words.specs.declared.request.Request.TheVariants.{Make, Migrate, Play, Prove, Replay, Report}
-use Rattle.command_words.specs.declared.request.Request.TheVariants.{Run, Simulate, Unknown, Verify, Waste}
+use Rattle.command_words.specs.declared.request.Request.TheVariants.{Run, Simulate, Unknown, Verify, Waste, Rest}
 
 abbrev pub asked : Request → Option Asked
 asked (Check policy) = Some (check policy.now)
 asked (Explain policy name) = Some (explain policy.now name)
 asked (Prove policy) = Some (prove policy.now)
 asked (Bound policy) = Some (bound policy.now)
+asked (Rest policy) = Some (rest policy.now)
 asked (Emit policy) = Some (emit policy.now)
 asked (Verify policy certs) = Some (verify policy.now certs.now)
 asked (Play policy trace) = Some (play policy.now trace.now)

@@ -17,6 +17,8 @@ pub data Asked : Type 0 where
   prove : (policy : List ℕ) → Asked
   -- to tell what bounds the bad rounds of a still stretch under the policy in this file
   bound : (policy : List ℕ) → Asked
+  -- to tell how far the loads of cores may differ of which none can steal from another, under the policy in this file
+  rest : (policy : List ℕ) → Asked
   -- to write the rules of the policy in this file as a header in C
   emit : (policy : List ℕ) → Asked
   -- to verify by the certificates in the second file that the policy in the first meets its obligations
@@ -73,6 +75,7 @@ asked_by_one verb policy =
     if bytes_eq (codes "check") verb then Some (check policy)
     else if bytes_eq (codes "prove") verb then Some (prove policy)
     else if bytes_eq (codes "bound") verb then Some (bound policy)
+    else if bytes_eq (codes "rest") verb then Some (rest policy)
     else if bytes_eq (codes "emit") verb then Some (emit policy)
     else None
 
@@ -122,6 +125,7 @@ IsSerial (Some (check policy)) = Unit {0}
 IsSerial (Some (explain policy name)) = Unit {0}
 IsSerial (Some (prove policy)) = Unit {0}
 IsSerial (Some (bound policy)) = Unit {0}
+IsSerial (Some (rest policy)) = Unit {0}
 IsSerial (Some (emit policy)) = Unit {0}
 IsSerial (Some (verify policy certs)) = Unit {0}
 IsSerial (Some (play policy trace)) = Unit {0}

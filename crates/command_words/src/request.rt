@@ -43,6 +43,10 @@ pub enum Request<'a> {
     Bound {
         policy: &'a str,
     },
+    /// To tell how far the loads of cores may differ of which none can steal from another under the policy in this file.
+    Rest {
+        policy: &'a str,
+    },
     /// To write the rules of the policy in this file as a header in C.
     Emit {
         policy: &'a str,
@@ -141,6 +145,7 @@ fn request_in<'a>(verb: &str, words: &ArgMatches<'a>) -> Request<'a>
         "check" => Request::Check { policy },
         "prove" => Request::Prove { policy },
         "bound" => Request::Bound { policy },
+        "rest" => Request::Rest { policy },
         "emit" => Request::Emit { policy },
         "explain" => explanation_of(policy, word_in(words, "NAME")),
         "verify" => Request::Verify {

@@ -79,6 +79,7 @@ benches seed size before after code (answer.Checked (checked.Judged (verdict.Und
 benches seed size before after code (answer.Checked (checked.Unjudged why)) is writes = absurd is
 benches seed size before after code (answer.Explained told) is writes = absurd is
 benches seed size before after code (answer.Bounded told) is writes = absurd is
+benches seed size before after code (answer.Rested told) is writes = absurd is
 benches seed size before after code (answer.Exported text) is writes = absurd is
 benches seed size before after code (answer.Verified v) is writes = absurd is
 benches seed size before after code (answer.Played outcome) is writes = absurd is

@@ -237,6 +237,7 @@ bounds policy before after code (answer.Bounded b) (text, read, is) writes = eli
   | inr e ↦ stopped_bound policy before.written after.written code (at_5 e)
   | inl e ↦ read_bound policy text b before.written after.written code read is e (whole _ _ _ _ writes (λ five. (no_stop (answer.Bounded b)).1 (sym e ∙ five)))
 ]
+bounds policy before after code (answer.Rested r) is writes = absurd is
 bounds policy before after code (answer.Exported text) is writes = absurd is
 bounds policy before after code (answer.Verified v) is writes = absurd is
 bounds policy before after code (answer.Played outcome) is writes = absurd is

@@ -10,6 +10,7 @@ use Rattle.policy_check.specs.Lines.{check_lines, refusal_line}
 use Rattle.policy_check.specs.declared.answer.CheckAnswer.{CheckAnswer}
 use Rattle.policy_check.specs.declared.answer.CheckAnswer.TheVariants as checked
 use Rattle.policy_check.specs.declared.bounding.BoundAnswer.TheVariants as bounded
+use Rattle.policy_check.specs.declared.resting.RestAnswer.TheVariants as rested
 use Rattle.policy_check.specs.declared.explaining.ExplainAnswer.TheVariants as explained
 use Rattle.policy_check.specs.declared.reading.Refusal.{Refusal}
 use Rattle.policy_check.specs.declared.reading.Refusal.TheVariants as refusal
@@ -26,7 +27,7 @@ use Rattle.trace_simulation.specs.Simulations.{IsSimulationOf, IsWasteOf}
 use Rattle.ipanema_cli.specs.PolicyAnswers.{AnswersExport, Exporting, IsHeader}
 use Rattle.ipanema_cli.specs.TraceAnswers.{AnswersJudging, AnswersPlay, Judging, Playing}
 use Rattle.ipanema_cli.specs.Answers.{IsAnswer, output_of, status_of}
-use Rattle.command_words.specs.Command.{Asked, bench, bound, check, crew, emit, explain, make, migrate, play, prove, replay, report, run, simulate, verify, waste}
+use Rattle.command_words.specs.Command.{Asked, bench, bound, check, crew, emit, explain, make, migrate, play, prove, replay, report, rest, run, simulate, verify, waste}
 use Rattle.ipanema_cli.specs.Ends.{Ends, answered, unread, no_memory}
 use Rattle.ipanema_cli.specs.Causes.{HasCause, SaysCrowded, SaysTooLong}
 use Rattle.ipanema_cli.specs.Simulations.{AnswersSimulation, Simulating}
@@ -38,7 +39,7 @@ use Rattle.ipanema_cli.specs.declared.answers.Answer.{Answer}
 use Rattle.ipanema_cli.specs.declared.answers.Answer.TheVariants as answer
 use Rattle.ipanema_cli.specs.declared.texts.TextKind.TheVariants as kind
 use Rattle.ipanema_cli.proofs.WritesLemmas.{code_among, cut, no_stop, one_line, whole}
-use Rattle.ipanema_cli.proofs.CodeLemmas.{eight, eleven, known_code, nine, outcome_low, seven, simulation_low}
+use Rattle.ipanema_cli.proofs.CodeLemmas.{eight, eleven, gap_low, known_code, nine, outcome_low, seven, simulation_low}
 use Rattle.ipanema_cli.proofs.CommandLemmas.{for_no_command, judged_for, no_command_code, played_for, simulated_for, verified_for}
 use Rattle.ipanema_cli.proofs.TooLongLemmas.{long_file}
 
@@ -82,13 +83,12 @@ module _ (told : List ℕ → Told) (before after : Option (List ℕ)) where
   ten_of_export asked policy file Is (checked.Unjudged why) is e added =
       crowded_by asked policy is.text why file is.read is.answers.0 e added
 
-  ten_of_bound : (policy text : List ℕ) (c : CheckAnswer) → MayRead kind.Policy (told policy) text → IsCheckOf text c
-      → code_of (check_status c) ≡ 10 → Adds (joined (check_lines c)) before after → SaysCrowded (Some (bound policy)) told before after
-  ten_of_bound policy text (checked.Judged (verdict.Accepted kept)) read is e added = absurd (omega arith)
-  ten_of_bound policy text (checked.Judged (verdict.Refused answers kept)) read is e added = absurd (omega arith)
-  ten_of_bound policy text (checked.Judged (verdict.Undecided answers kept)) read is e added = absurd (omega arith)
-  ten_of_bound policy text (checked.Unjudged why) read is e added =
-      crowded_by (Some (bound policy)) policy text why refl read is e added
+  ten_of_one : (asked : Option Asked) (policy text : List ℕ) (c : CheckAnswer) → IsFileOf asked kind.Policy policy → MayRead kind.Policy (told policy) text → IsCheckOf text c
+      → code_of (check_status c) ≡ 10 → Adds (joined (check_lines c)) before after → SaysCrowded asked told before after
+  ten_of_one asked policy text (checked.Judged (verdict.Accepted kept)) file read is e added = absurd (omega arith)
+  ten_of_one asked policy text (checked.Judged (verdict.Refused answers kept)) file read is e added = absurd (omega arith)
+  ten_of_one asked policy text (checked.Judged (verdict.Undecided answers kept)) file read is e added = absurd (omega arith)
+  ten_of_one asked policy text (checked.Unjudged why) file read is e added = crowded_by asked policy text why file read is e added
 
   ten : (asked : Option Asked) (a : Answer) → IsAnswer asked told a → code_of (status_of a) ≡ 10 → Adds (output_of a) before after
       → SaysTooLong asked told before after ⊎ SaysCrowded asked told before after
@@ -105,6 +105,7 @@ module _ (told : List ℕ → Told) (before after : Option (List ℕ)) where
   ten (Some (emit policy)) (answer.Checked c) is e added =
       inr (ten_of_export (Some (emit policy)) policy refl IsHeader c is e added)
   ten (Some (bound policy)) (answer.Checked c) is e added = absurd is
+  ten (Some (rest policy)) (answer.Checked c) is e added = absurd is
   ten (Some (verify policy certs)) (answer.Checked c) is e added = absurd is
   ten (Some (play policy trace)) (answer.Checked c) is e added =
       inr (ten_of_play (Some (play policy trace)) policy trace refl plays.IsPlayOf c is e added)
@@ -136,6 +137,7 @@ module _ (told : List ℕ → Told) (before after : Option (List ℕ)) where
   ten (Some (prove policy)) (answer.Explained told) is e added = absurd is
   ten (Some (emit policy)) (answer.Explained told) is e added = absurd is
   ten (Some (bound policy)) (answer.Explained told) is e added = absurd is
+  ten (Some (rest policy)) (answer.Explained told) is e added = absurd is
   ten (Some (verify policy certs)) (answer.Explained told) is e added = absurd is
   ten (Some (play policy trace)) (answer.Explained told) is e added = absurd is
   ten (Some (run policy trace)) (answer.Explained told) is e added = absurd is
@@ -155,7 +157,8 @@ module _ (told : List ℕ → Told) (before after : Option (List ℕ)) where
   ten (Some (bound policy)) (answer.Bounded (bounded.Bounded told)) is e added =
       absurd (outcome_low told.outcome 10 (λ h. omega arith) (λ h. omega arith) (λ h. omega arith) e)
   ten (Some (bound policy)) (answer.Bounded (bounded.Unbounded c)) (text, read, is) e added =
-      inr (ten_of_bound policy text c read is.0 e added)
+      inr (ten_of_one (Some (bound policy)) policy text c refl read is.0 e added)
+  ten (Some (rest policy)) (answer.Bounded told) is e added = absurd is
   ten (Some (verify policy certs)) (answer.Bounded told) is e added = absurd is
   ten (Some (play policy trace)) (answer.Bounded told) is e added = absurd is
   ten (Some (run policy trace)) (answer.Bounded told) is e added = absurd is
@@ -167,6 +170,27 @@ module _ (told : List ℕ → Told) (before after : Option (List ℕ)) where
   ten (Some (migrate policy trace history)) (answer.Bounded told) is e added = absurd is
   ten (Some (make seed size)) (answer.Bounded told) is e added = absurd is
   ten (Some (bench seed size)) (answer.Bounded told) is e added = absurd is
+  ten None (answer.Rested told) is e added = absurd is
+  ten (Some (check policy)) (answer.Rested told) is e added = absurd is
+  ten (Some (explain policy ob)) (answer.Rested told) is e added = absurd is
+  ten (Some (prove policy)) (answer.Rested told) is e added = absurd is
+  ten (Some (emit policy)) (answer.Rested told) is e added = absurd is
+  ten (Some (bound policy)) (answer.Rested told) is e added = absurd is
+  ten (Some (rest policy)) (answer.Rested (rested.Rests told)) is e added =
+      absurd (gap_low told.gap 10 (λ h. omega arith) (λ h. omega arith) e)
+  ten (Some (rest policy)) (answer.Rested (rested.Unaccepted c)) (text, read, is) e added =
+      inr (ten_of_one (Some (rest policy)) policy text c refl read is.0 e added)
+  ten (Some (verify policy certs)) (answer.Rested told) is e added = absurd is
+  ten (Some (play policy trace)) (answer.Rested told) is e added = absurd is
+  ten (Some (run policy trace)) (answer.Rested told) is e added = absurd is
+  ten (Some (crew policy trace workers)) (answer.Rested told) is e added = absurd is
+  ten (Some (simulate policy trace)) (answer.Rested told) is e added = absurd is
+  ten (Some (waste policy trace)) (answer.Rested told) is e added = absurd is
+  ten (Some (replay policy trace history)) (answer.Rested told) is e added = absurd is
+  ten (Some (report policy trace history)) (answer.Rested told) is e added = absurd is
+  ten (Some (migrate policy trace history)) (answer.Rested told) is e added = absurd is
+  ten (Some (make seed size)) (answer.Rested told) is e added = absurd is
+  ten (Some (bench seed size)) (answer.Rested told) is e added = absurd is
   ten asked (answer.Exported text) is e added = absurd (omega arith)
   ten asked (answer.Verified (verified.Verified told_it)) is e added = absurd (omega arith)
   ten asked (answer.Verified (verified.BadLine line)) is e added = absurd (omega arith)
@@ -177,6 +201,7 @@ module _ (told : List ℕ → Told) (before after : Option (List ℕ)) where
   ten (Some (prove policy)) (answer.Verified (verified.Unjudged why)) is e added = absurd is
   ten (Some (emit policy)) (answer.Verified (verified.Unjudged why)) is e added = absurd is
   ten (Some (bound policy)) (answer.Verified (verified.Unjudged why)) is e added = absurd is
+  ten (Some (rest policy)) (answer.Verified (verified.Unjudged why)) is e added = absurd is
   ten (Some (play policy trace)) (answer.Verified (verified.Unjudged why)) is e added = absurd is
   ten (Some (run policy trace)) (answer.Verified (verified.Unjudged why)) is e added = absurd is
   ten (Some (crew policy trace workers)) (answer.Verified (verified.Unjudged why)) is e added = absurd is

@@ -186,6 +186,7 @@ checks policy before after code (answer.Checked c) (text, read, is) writes = eli
 ]
 checks policy before after code (answer.Explained told) is writes = absurd is
 checks policy before after code (answer.Bounded told) is writes = absurd is
+checks policy before after code (answer.Rested told) is writes = absurd is
 checks policy before after code (answer.Exported text) is writes = absurd is
 checks policy before after code (answer.Verified v) is writes = absurd is
 checks policy before after code (answer.Judged outcome) is writes = absurd is

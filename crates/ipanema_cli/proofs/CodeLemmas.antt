@@ -7,6 +7,10 @@ use Rattle.policy_check.specs.declared.answer.CheckAnswer.{CheckAnswer}
 use Rattle.policy_check.specs.declared.answer.CheckAnswer.TheVariants as checked
 use Rattle.policy_check.specs.declared.bounding.BoundAnswer.{BoundAnswer}
 use Rattle.policy_check.specs.declared.bounding.BoundAnswer.TheVariants as bounded
+use Rattle.policy_check.specs.declared.resting.RestAnswer.{RestAnswer}
+use Rattle.policy_check.specs.declared.resting.RestAnswer.TheVariants as rested
+use Rattle.policy_checker.specs.declared.rest_gaps.LeastGap.{LeastGap}
+use Rattle.policy_checker.specs.declared.rest_gaps.LeastGap.TheVariants as gap
 use Rattle.policy_check.specs.declared.explaining.ExplainAnswer.TheVariants as explained
 use Rattle.policy_check.specs.declared.reading.Refusal.TheVariants as refusal
 use Rattle.policy_check.specs.declared.verifying.VerifyAnswer.{VerifyAnswer}
@@ -24,7 +28,7 @@ use Rattle.trace_simulation.specs.declared.answer.SimulationAnswer.{SimulationAn
 use Rattle.trace_simulation.specs.declared.answer.SimulationAnswer.TheVariants as simulation
 use Rattle.ipanema_cli.specs.Answers.{status_of}
 use Rattle.ipanema_cli.specs.Causes.{OneOf}
-use Rattle.ipanema_cli.specs.Status.{bound_status, check_status, code_of, outcome_status, played_status, simulation_status, verify_status}
+use Rattle.ipanema_cli.specs.Status.{bound_status, check_status, code_of, gap_status, outcome_status, played_status, rest_status, simulation_status, verify_status}
 use Rattle.ipanema_cli.specs.declared.answers.Answer.{Answer}
 use Rattle.ipanema_cli.specs.declared.answers.Answer.TheVariants as answer
 use Rattle.ipanema_cli.proofs.WritesLemmas.{is_0, is_1, is_2, is_3, is_7, is_8, is_9, is_10, is_11, answer_code}
@@ -49,6 +53,16 @@ check_low (checked.Unjudged (refusal.Crowded name)) n a b c d f e = f (sym e)
 bound_low : (told : BoundAnswer) (n : ℕ) → n ≢ 0 → n ≢ 1 → n ≢ 2 → n ≢ 3 → n ≢ 10 → code_of (bound_status told) ≡ n → ⊥
 bound_low (bounded.Bounded told) n a b c d f e = outcome_low told.outcome n a b d e
 bound_low (bounded.Unbounded told) n a b c d f e = check_low told n a b c d f e
+
+-- what is found of a gap has none but the numbers 0 and 3, and so one of `rest` none but those of `check`
+pub gap_low : (found : LeastGap) (n : ℕ) → n ≢ 0 → n ≢ 3 → code_of (gap_status found) ≡ n → ⊥
+gap_low gap.Even n a b e = a (sym e)
+gap_low (gap.Least least wider) n a b e = a (sym e)
+gap_low (gap.Undecided at proved) n a b e = b (sym e)
+
+rest_low : (told : RestAnswer) (n : ℕ) → n ≢ 0 → n ≢ 1 → n ≢ 2 → n ≢ 3 → n ≢ 10 → code_of (rest_status told) ≡ n → ⊥
+rest_low (rested.Rests told) n a b c d f e = gap_low told.gap n a d e
+rest_low (rested.Unaccepted told) n a b c d f e = check_low told n a b c d f e
 
 -- an answer of `verify` has none but the numbers 0, 2, 10 and 11
 verify_low : (v : VerifyAnswer) (n : ℕ) → n ≢ 0 → n ≢ 2 → n ≢ 10 → n ≢ 11 → code_of (verify_status v) ≡ n → ⊥
@@ -80,6 +94,7 @@ seven (answer.Explained (explained.Explained told)) e = absurd (outcome_low told
 seven (answer.Explained (explained.Unjudged (refusal.Faulty fault))) e = absurd (omega arith)
 seven (answer.Explained (explained.Unjudged (refusal.Crowded name))) e = absurd (omega arith)
 seven (answer.Bounded b) e = absurd (bound_low b 7 (λ h. omega arith) (λ h. omega arith) (λ h. omega arith) (λ h. omega arith) (λ h. omega arith) e)
+seven (answer.Rested b) e = absurd (rest_low b 7 (λ h. omega arith) (λ h. omega arith) (λ h. omega arith) (λ h. omega arith) (λ h. omega arith) e)
 seven (answer.Exported text) e = absurd (omega arith)
 seven (answer.Verified v) e = absurd (verify_low v 7 (λ h. omega arith) (λ h. omega arith) (λ h. omega arith) (λ h. omega arith) e)
 seven (answer.Played (play_answer.Broken fault)) e = absurd (omega arith)
@@ -109,6 +124,7 @@ eight (answer.Explained (explained.Explained told)) e = absurd (outcome_low told
 eight (answer.Explained (explained.Unjudged (refusal.Faulty fault))) e = absurd (omega arith)
 eight (answer.Explained (explained.Unjudged (refusal.Crowded name))) e = absurd (omega arith)
 eight (answer.Bounded b) e = absurd (bound_low b 8 (λ h. omega arith) (λ h. omega arith) (λ h. omega arith) (λ h. omega arith) (λ h. omega arith) e)
+eight (answer.Rested b) e = absurd (rest_low b 8 (λ h. omega arith) (λ h. omega arith) (λ h. omega arith) (λ h. omega arith) (λ h. omega arith) e)
 eight (answer.Exported text) e = absurd (omega arith)
 eight (answer.Verified v) e = absurd (verify_low v 8 (λ h. omega arith) (λ h. omega arith) (λ h. omega arith) (λ h. omega arith) e)
 eight (answer.Played outcome) e = inl (outcome, refl)
@@ -135,6 +151,7 @@ nine (answer.Explained (explained.Explained told)) e = absurd (outcome_low told.
 nine (answer.Explained (explained.Unjudged (refusal.Faulty fault))) e = absurd (omega arith)
 nine (answer.Explained (explained.Unjudged (refusal.Crowded name))) e = absurd (omega arith)
 nine (answer.Bounded b) e = absurd (bound_low b 9 (λ h. omega arith) (λ h. omega arith) (λ h. omega arith) (λ h. omega arith) (λ h. omega arith) e)
+nine (answer.Rested b) e = absurd (rest_low b 9 (λ h. omega arith) (λ h. omega arith) (λ h. omega arith) (λ h. omega arith) (λ h. omega arith) e)
 nine (answer.Exported text) e = absurd (omega arith)
 nine (answer.Verified v) e = absurd (verify_low v 9 (λ h. omega arith) (λ h. omega arith) (λ h. omega arith) (λ h. omega arith) e)
 nine (answer.Played (play_answer.Broken fault)) e = absurd (omega arith)
@@ -157,6 +174,7 @@ eleven (answer.Explained (explained.Explained told)) e = absurd (outcome_low tol
 eleven (answer.Explained (explained.Unjudged (refusal.Faulty fault))) e = absurd (omega arith)
 eleven (answer.Explained (explained.Unjudged (refusal.Crowded name))) e = absurd (omega arith)
 eleven (answer.Bounded b) e = absurd (bound_low b 11 (λ h. omega arith) (λ h. omega arith) (λ h. omega arith) (λ h. omega arith) (λ h. omega arith) e)
+eleven (answer.Rested b) e = absurd (rest_low b 11 (λ h. omega arith) (λ h. omega arith) (λ h. omega arith) (λ h. omega arith) (λ h. omega arith) e)
 eleven (answer.Exported text) e = absurd (omega arith)
 eleven (answer.Verified v) e = (v, refl)
 eleven (answer.Played (play_answer.Broken fault)) e = absurd (omega arith)

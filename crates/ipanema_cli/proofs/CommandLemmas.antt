@@ -6,7 +6,7 @@ use Rattle.trace_play.specs.declared.answer.PlayAnswer.{PlayAnswer}
 use Rattle.history_replay.specs.declared.answer.HistoryAnswer.{HistoryAnswer}
 use Rattle.trace_simulation.specs.declared.answer.SimulationAnswer.{SimulationAnswer}
 use Rattle.ipanema_cli.specs.Answers.{IsAnswer, status_of}
-use Rattle.command_words.specs.Command.{Asked, bench, bound, check, crew, emit, explain, make, migrate, play, prove, replay, report, run, simulate, verify, waste}
+use Rattle.command_words.specs.Command.{Asked, bench, bound, check, crew, emit, explain, make, migrate, play, prove, replay, report, rest, run, simulate, verify, waste}
 use Rattle.ipanema_cli.specs.Causes.{Judges, Plays, Verifies}
 use Rattle.ipanema_cli.specs.Status.{code_of}
 use Rattle.ipanema_cli.specs.declared.answers.Answer.{Answer}
@@ -19,6 +19,7 @@ played_for (Some (explain policy name)) told outcome is = absurd is
 played_for (Some (prove policy)) told outcome is = absurd is
 played_for (Some (emit policy)) told outcome is = absurd is
 played_for (Some (bound policy)) told outcome is = absurd is
+played_for (Some (rest policy)) told outcome is = absurd is
 played_for (Some (verify policy certs)) told outcome is = absurd is
 played_for (Some (play policy trace)) told outcome is = (policy, trace, inl refl)
 played_for (Some (run policy trace)) told outcome is = (policy, trace, inr (inl refl))
@@ -38,6 +39,7 @@ simulated_for (Some (explain policy name)) told s is = absurd is
 simulated_for (Some (prove policy)) told s is = absurd is
 simulated_for (Some (emit policy)) told s is = absurd is
 simulated_for (Some (bound policy)) told s is = absurd is
+simulated_for (Some (rest policy)) told s is = absurd is
 simulated_for (Some (verify policy certs)) told s is = absurd is
 simulated_for (Some (play policy trace)) told s is = absurd is
 simulated_for (Some (run policy trace)) told s is = absurd is
@@ -57,6 +59,7 @@ judged_for (Some (explain policy name)) told h is = absurd is
 judged_for (Some (prove policy)) told h is = absurd is
 judged_for (Some (emit policy)) told h is = absurd is
 judged_for (Some (bound policy)) told h is = absurd is
+judged_for (Some (rest policy)) told h is = absurd is
 judged_for (Some (verify policy certs)) told h is = absurd is
 judged_for (Some (play policy trace)) told h is = absurd is
 judged_for (Some (run policy trace)) told h is = absurd is
@@ -76,6 +79,7 @@ verified_for (Some (explain policy name)) told v is = absurd is
 verified_for (Some (prove policy)) told v is = absurd is
 verified_for (Some (emit policy)) told v is = absurd is
 verified_for (Some (bound policy)) told v is = absurd is
+verified_for (Some (rest policy)) told v is = absurd is
 verified_for (Some (verify policy certs)) told v is = (policy, certs, refl)
 verified_for (Some (play policy trace)) told v is = absurd is
 verified_for (Some (run policy trace)) told v is = absurd is
@@ -96,6 +100,7 @@ for_no_command (Some (explain policy name)) told is = absurd is
 for_no_command (Some (prove policy)) told is = absurd is
 for_no_command (Some (emit policy)) told is = absurd is
 for_no_command (Some (bound policy)) told is = absurd is
+for_no_command (Some (rest policy)) told is = absurd is
 for_no_command (Some (verify policy certs)) told is = absurd is
 for_no_command (Some (play policy trace)) told is = absurd is
 for_no_command (Some (run policy trace)) told is = absurd is
@@ -113,6 +118,7 @@ pub no_command_code : (told : List ℕ → Told) (a : Answer) → IsAnswer None 
 no_command_code told (answer.Checked c) is = absurd is
 no_command_code told (answer.Explained e) is = absurd is
 no_command_code told (answer.Bounded e) is = absurd is
+no_command_code told (answer.Rested e) is = absurd is
 no_command_code told (answer.Exported text) is = absurd is
 no_command_code told (answer.Verified v) is = absurd is
 no_command_code told (answer.Played outcome) is = absurd is

@@ -132,6 +132,7 @@ explains policy name before after code (answer.Explained told) (text, read, is) 
   | inl e ↦ read_explain policy text name told before.written after.written code read is e (whole _ _ _ _ writes (λ five. (no_stop (answer.Explained told)).1 (sym e ∙ five)))
 ]
 explains policy name before after code (answer.Bounded b) is writes = absurd is
+explains policy name before after code (answer.Rested b) is writes = absurd is
 explains policy name before after code (answer.Exported text) is writes = absurd is
 explains policy name before after code (answer.Verified v) is writes = absurd is
 explains policy name before after code (answer.Played outcome) is writes = absurd is

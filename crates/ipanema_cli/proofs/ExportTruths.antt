@@ -123,6 +123,7 @@ exports Is policy before after code (answer.Checked c) is writes = elim (code_am
 ]
 exports Is policy before after code (answer.Explained told) is writes = absurd is
 exports Is policy before after code (answer.Bounded told) is writes = absurd is
+exports Is policy before after code (answer.Rested told) is writes = absurd is
 exports Is policy before after code (answer.Exported text) is writes = elim (code_among _ _ _ _ writes) [
   | inr e ↦ stopped_export Is policy before.written after.written code (at_5 e)
   | inl e ↦ export_written Is policy is.text text.items is.answers.0 before.written after.written code is.read is.answers.1 is.answers.2 e

@@ -1,7 +1,7 @@
 -- Answers, with what they say of the gate and without.
 use Rattle.std.proofs.Common.{ℕ, List, Option, Some, None}
 use Rattle.sched_io.specs.Told.{Told}
-use Rattle.command_words.specs.Command.{Asked, IsSerial, bench, bound, check, crew, emit, explain, make, migrate, play, prove, replay, report, run, simulate, verify, waste}
+use Rattle.command_words.specs.Command.{Asked, IsSerial, bench, bound, check, crew, emit, explain, make, migrate, play, prove, replay, report, rest, run, simulate, verify, waste}
 use Rattle.trace_run.specs.Runs.{IsGatedRunOf, IsRunOf}
 use Rattle.ipanema_cli.specs.TraceAnswers.{AnswersPlay}
 use Rattle.ipanema_cli.specs.Answers.{IsAnswer, IsGatedAnswer}
@@ -16,6 +16,7 @@ module _ (Passed : ℕ → ℕ → Type 0) where
   plain_run policy trace (answer.Checked c) is = record { text = is.text; jobs = is.jobs; policy_read = is.policy_read; trace_read = is.trace_read; answers = is.answers }
   plain_run policy trace (answer.Explained e) is = absurd is
   plain_run policy trace (answer.Bounded e) is = absurd is
+  plain_run policy trace (answer.Rested e) is = absurd is
   plain_run policy trace (answer.Exported text) is = absurd is
   plain_run policy trace (answer.Verified v) is = absurd is
   plain_run policy trace (answer.Played outcome) is = record {
@@ -42,6 +43,7 @@ module _ (Passed : ℕ → ℕ → Type 0) where
   plain (Some (prove policy)) told a is = is
   plain (Some (emit policy)) told a is = is
   plain (Some (bound policy)) told a is = is
+  plain (Some (rest policy)) told a is = is
   plain (Some (verify policy certs)) told a is = is
   plain (Some (play policy trace)) told a is = is
   plain (Some (run policy trace)) told a is = plain_run (told policy) (told trace) a is
@@ -62,6 +64,7 @@ module _ (Passed : ℕ → ℕ → Type 0) where
   ungated (Some (prove policy)) told a other is = is
   ungated (Some (emit policy)) told a other is = is
   ungated (Some (bound policy)) told a other is = is
+  ungated (Some (rest policy)) told a other is = is
   ungated (Some (verify policy certs)) told a other is = is
   ungated (Some (play policy trace)) told a other is = is
   ungated (Some (run policy trace)) told a other is = absurd other
@@ -88,6 +91,7 @@ module _ (Passed : ℕ → ℕ → Type 0) where
   gated_length (Some (prove policy)) told which is = is
   gated_length (Some (emit policy)) told which is = is
   gated_length (Some (bound policy)) told which is = is
+  gated_length (Some (rest policy)) told which is = is
   gated_length (Some (verify policy certs)) told which is = is
   gated_length (Some (play policy trace)) told which is = is
   gated_length (Some (run policy trace)) told which is = long_run (told policy) (told trace) which is

@@ -183,6 +183,7 @@ judges Is Says worth policy trace history before after code (answer.Checked c) t
 ]
 judges Is Says worth policy trace history before after code (answer.Explained told) is writes = absurd is
 judges Is Says worth policy trace history before after code (answer.Bounded told) is writes = absurd is
+judges Is Says worth policy trace history before after code (answer.Rested told) is writes = absurd is
 judges Is Says worth policy trace history before after code (answer.Exported text) is writes = absurd is
 judges Is Says worth policy trace history before after code (answer.Verified v) is writes = absurd is
 judges Is Says worth policy trace history before after code (answer.Played outcome) is writes = absurd is

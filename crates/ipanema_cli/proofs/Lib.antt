@@ -1,5 +1,6 @@
 pub mod BenchTruths
 pub mod BoundTruths
+pub mod RestTruths
 pub mod CodeLemmas
 pub mod CommandLemmas
 pub mod TooLongLemmas

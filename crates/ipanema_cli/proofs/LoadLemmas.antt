@@ -3,7 +3,7 @@ use Rattle.std.proofs.Common.{◌≡◌, ℕ, List, Option, Some, None, subst, s
 use Rattle.sched_io.specs.Loads.{AreRequested, LoadRequest}
 use Rattle.sched_io.specs.Told.{Told}
 use Rattle.sched_io.proofs.WrittenLemmas.{Grows-nil}
-use Rattle.command_words.specs.Command.{Asked, bench, bound, check, crew, emit, explain, make, migrate, play, prove, replay, report, run, simulate, verify, waste}
+use Rattle.command_words.specs.Command.{Asked, bench, bound, check, crew, emit, explain, make, migrate, play, prove, replay, report, rest, run, simulate, verify, waste}
 use Rattle.ipanema_cli.specs.Loads.{FirstAreLoaded, MayGoOn, files_of}
 
 -- none of them is behind one that isn't read
@@ -14,6 +14,7 @@ goes_nowhere (Some (explain policy name)) told = tt
 goes_nowhere (Some (prove policy)) told = tt
 goes_nowhere (Some (emit policy)) told = tt
 goes_nowhere (Some (bound policy)) told = tt
+goes_nowhere (Some (rest policy)) told = tt
 goes_nowhere (Some (verify policy certs)) told = λ more. absurd (omega arith)
 goes_nowhere (Some (play policy trace)) told = λ more. absurd (omega arith)
 goes_nowhere (Some (run policy trace)) told = λ more. absurd (omega arith)

@@ -76,6 +76,7 @@ pub makes : (seed size : ℕ) (before after : Shown) (code : ℕ) (a : Answer) �
 makes seed size before after code (answer.Checked c) is writes = absurd is
 makes seed size before after code (answer.Explained told) is writes = absurd is
 makes seed size before after code (answer.Bounded told) is writes = absurd is
+makes seed size before after code (answer.Rested told) is writes = absurd is
 makes seed size before after code (answer.Exported text) is writes = absurd is
 makes seed size before after code (answer.Verified v) is writes = absurd is
 makes seed size before after code (answer.Played outcome) is writes = absurd is

@@ -10,7 +10,7 @@ use Rattle.command_words.specs.Command.{Asked, IsSerial, asked_by, asked_by_one,
 use Rattle.command_words.specs.Numbers.{seed_in, size_in}
 use Rattle.obligations.specs.declared.names.ObName.{ObName}
 use Rattle.command_words.specs.declared.request.Request.{Request}
-use Rattle.command_words.specs.declared.request.Request.TheVariants.{Bench, Bound, Check, Crew, Emit, Explain, Make, Migrate, Play, Prove, Replay, Report, Run, Simulate, Unknown, Verify, Waste}
+use Rattle.command_words.specs.declared.request.Request.TheVariants.{Bench, Bound, Check, Crew, Emit, Explain, Make, Migrate, Play, Prove, Replay, Report, Rest, Run, Simulate, Unknown, Verify, Waste}
 
 module _ (request : Request) (no_run : (policy trace : Bor (List ℕ)) → request ≡ Run policy trace → ⊥)
     (no_crew : (policy trace : Bor (List ℕ)) (workers : ℕ) → request ≡ Crew policy trace workers → ⊥) where
@@ -20,6 +20,7 @@ module _ (request : Request) (no_run : (policy trace : Bor (List ℕ)) → reque
   serial_request (Explain p name) same = tt
   serial_request (Prove p) same = tt
   serial_request (Bound p) same = tt
+  serial_request (Rest p) same = tt
   serial_request (Emit p) same = tt
   serial_request (Verify p c) same = tt
   serial_request (Play p t) same = tt
@@ -67,7 +68,8 @@ one verb file =
     either (bytes_eq (codes "check") verb) _ _ tt
     (either (bytes_eq (codes "prove") verb) _ _ tt
     (either (bytes_eq (codes "bound") verb) _ _ tt
-    (either (bytes_eq (codes "emit") verb) _ _ tt tt)))
+    (either (bytes_eq (codes "rest") verb) _ _ tt
+    (either (bytes_eq (codes "emit") verb) _ _ tt tt))))
 
 two : (verb first second : List ℕ) → verb ≢ codes "run" → IsSerial (asked_by_two verb first second)
 two verb first second no_run =

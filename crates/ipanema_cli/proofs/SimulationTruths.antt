@@ -283,6 +283,7 @@ module _ (Says : Meaning → Plan → List Entry → List ℕ → Type 0) where
   ]
   simulates_truly Is comes policy trace before after code (answer.Explained told) is writes = absurd is
   simulates_truly Is comes policy trace before after code (answer.Bounded told) is writes = absurd is
+  simulates_truly Is comes policy trace before after code (answer.Rested told) is writes = absurd is
   simulates_truly Is comes policy trace before after code (answer.Exported text) is writes = absurd is
   simulates_truly Is comes policy trace before after code (answer.Verified v) is writes = absurd is
   simulates_truly Is comes policy trace before after code (answer.Played outcome) is writes = absurd is

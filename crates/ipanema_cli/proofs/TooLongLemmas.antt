@@ -7,10 +7,10 @@ use Rattle.history_replay.specs.Judges.{IsMigrationOf, IsReplayOf, IsReportOf}
 use Rattle.trace_play.specs.Plays as plays
 use Rattle.trace_run.specs.Runs.{IsRunOf}
 use Rattle.trace_simulation.specs.Simulations.{IsSimulationOf, IsWasteOf}
-use Rattle.ipanema_cli.specs.PolicyAnswers.{AnswersBound, AnswersCheck, AnswersExplain, AnswersExport, AnswersVerify, Exporting, IsHeader}
+use Rattle.ipanema_cli.specs.PolicyAnswers.{AnswersBound, AnswersCheck, AnswersExplain, AnswersExport, AnswersRest, AnswersVerify, Exporting, IsHeader}
 use Rattle.ipanema_cli.specs.TraceAnswers.{AnswersJudging, AnswersPlay, Judging, Playing}
 use Rattle.ipanema_cli.specs.Answers.{IsAnswer, status_of}
-use Rattle.command_words.specs.Command.{Asked, bench, bound, check, crew, emit, explain, make, migrate, play, prove, replay, report, run, simulate, verify, waste}
+use Rattle.command_words.specs.Command.{Asked, bench, bound, check, crew, emit, explain, make, migrate, play, prove, replay, report, rest, run, simulate, verify, waste}
 use Rattle.ipanema_cli.specs.Simulations.{AnswersSimulation, Simulating}
 use Rattle.ipanema_cli.specs.Status.{code_of}
 use Rattle.ipanema_cli.specs.Loads.{IsFileOf, IsOneOfThree}
@@ -30,6 +30,7 @@ long_for_check : (policy : Told) (a : Answer) (held : List ℕ) → AnswersCheck
 long_for_check policy (answer.Checked c) held (text, read, is) tells long = absurd (not_read kind.Policy policy text held read tells long)
 long_for_check policy (answer.Explained e) held is tells long = absurd is
 long_for_check policy (answer.Bounded e) held is tells long = absurd is
+long_for_check policy (answer.Rested e) held is tells long = absurd is
 long_for_check policy (answer.Exported text) held is tells long = absurd is
 long_for_check policy (answer.Verified v) held is tells long = absurd is
 long_for_check policy (answer.Played outcome) held is tells long = absurd is
@@ -44,6 +45,7 @@ long_for_explain : (policy : Told) (name : ObName) (a : Answer) (held : List ℕ
 long_for_explain policy name (answer.Checked c) held is tells long = absurd is
 long_for_explain policy name (answer.Explained e) held (text, read, is) tells long = absurd (not_read kind.Policy policy text held read tells long)
 long_for_explain policy name (answer.Bounded b) held is tells long = absurd is
+long_for_explain policy name (answer.Rested b) held is tells long = absurd is
 long_for_explain policy name (answer.Exported text) held is tells long = absurd is
 long_for_explain policy name (answer.Verified v) held is tells long = absurd is
 long_for_explain policy name (answer.Played outcome) held is tells long = absurd is
@@ -58,6 +60,7 @@ long_for_bound : (policy : Told) (a : Answer) (held : List ℕ) → AnswersBound
 long_for_bound policy (answer.Checked c) held is tells long = absurd is
 long_for_bound policy (answer.Explained e) held is tells long = absurd is
 long_for_bound policy (answer.Bounded b) held (text, read, is) tells long = absurd (not_read kind.Policy policy text held read tells long)
+long_for_bound policy (answer.Rested r) held is tells long = absurd is
 long_for_bound policy (answer.Exported text) held is tells long = absurd is
 long_for_bound policy (answer.Verified v) held is tells long = absurd is
 long_for_bound policy (answer.Played outcome) held is tells long = absurd is
@@ -68,10 +71,26 @@ long_for_bound policy (answer.Benched told) held is tells long = absurd is
 long_for_bound policy (answer.TooLong which) held is tells long = refl
 long_for_bound policy answer.BadWords held is tells long = absurd is
 
+long_for_rest : (policy : Told) (a : Answer) (held : List ℕ) → AnswersRest policy a → policy ≡ holds held → room_of kind.Policy < length held → code_of (status_of a) ≡ 10
+long_for_rest policy (answer.Checked c) held is tells long = absurd is
+long_for_rest policy (answer.Explained e) held is tells long = absurd is
+long_for_rest policy (answer.Bounded b) held is tells long = absurd is
+long_for_rest policy (answer.Rested r) held (text, read, is) tells long = absurd (not_read kind.Policy policy text held read tells long)
+long_for_rest policy (answer.Exported text) held is tells long = absurd is
+long_for_rest policy (answer.Verified v) held is tells long = absurd is
+long_for_rest policy (answer.Played outcome) held is tells long = absurd is
+long_for_rest policy (answer.Simulated outcome) held is tells long = absurd is
+long_for_rest policy (answer.Judged h) held is tells long = absurd is
+long_for_rest policy (answer.Made text) held is tells long = absurd is
+long_for_rest policy (answer.Benched told) held is tells long = absurd is
+long_for_rest policy (answer.TooLong which) held is tells long = refl
+long_for_rest policy answer.BadWords held is tells long = absurd is
+
 long_for_export : (Is : Exporting) (policy : Told) (a : Answer) (held : List ℕ) → AnswersExport Is policy a → policy ≡ holds held → room_of kind.Policy < length held → code_of (status_of a) ≡ 10
 long_for_export Is policy (answer.Checked c) held is tells long = absurd (not_read kind.Policy policy is.text held is.read tells long)
 long_for_export Is policy (answer.Explained e) held is tells long = absurd is
 long_for_export Is policy (answer.Bounded e) held is tells long = absurd is
+long_for_export Is policy (answer.Rested e) held is tells long = absurd is
 long_for_export Is policy (answer.Exported text) held is tells long = absurd (not_read kind.Policy policy is.text held is.read tells long)
 long_for_export Is policy (answer.Verified v) held is tells long = absurd is
 long_for_export Is policy (answer.Played outcome) held is tells long = absurd is
@@ -86,6 +105,7 @@ long_policy_for_verify : (policy certs : Told) (a : Answer) (held : List ℕ) �
 long_policy_for_verify policy certs (answer.Checked c) held is tells long = absurd is
 long_policy_for_verify policy certs (answer.Explained e) held is tells long = absurd is
 long_policy_for_verify policy certs (answer.Bounded e) held is tells long = absurd is
+long_policy_for_verify policy certs (answer.Rested e) held is tells long = absurd is
 long_policy_for_verify policy certs (answer.Exported text) held is tells long = absurd is
 long_policy_for_verify policy certs (answer.Verified v) held is tells long = absurd (not_read kind.Policy policy is.text held is.policy_read tells long)
 long_policy_for_verify policy certs (answer.Played outcome) held is tells long = absurd is
@@ -100,6 +120,7 @@ long_certs_for_verify : (policy certs : Told) (a : Answer) (held : List ℕ) →
 long_certs_for_verify policy certs (answer.Checked c) held is tells long = absurd is
 long_certs_for_verify policy certs (answer.Explained e) held is tells long = absurd is
 long_certs_for_verify policy certs (answer.Bounded e) held is tells long = absurd is
+long_certs_for_verify policy certs (answer.Rested e) held is tells long = absurd is
 long_certs_for_verify policy certs (answer.Exported text) held is tells long = absurd is
 long_certs_for_verify policy certs (answer.Verified v) held is tells long = absurd (not_read kind.Certificates certs is.file held is.certs_read tells long)
 long_certs_for_verify policy certs (answer.Played outcome) held is tells long = absurd is
@@ -114,6 +135,7 @@ long_for_play : (Is : Playing) (policy trace : Told) (a : Answer) (held : List �
 long_for_play Is policy trace (answer.Checked c) held is tells long = absurd (not_read kind.Policy policy is.text held is.policy_read tells long)
 long_for_play Is policy trace (answer.Explained e) held is tells long = absurd is
 long_for_play Is policy trace (answer.Bounded e) held is tells long = absurd is
+long_for_play Is policy trace (answer.Rested e) held is tells long = absurd is
 long_for_play Is policy trace (answer.Exported text) held is tells long = absurd is
 long_for_play Is policy trace (answer.Verified v) held is tells long = absurd is
 long_for_play Is policy trace (answer.Played outcome) held is tells long = absurd (not_read kind.Policy policy is.text held is.policy_read tells long)
@@ -128,6 +150,7 @@ long_trace_for_play : (Is : Playing) (policy trace : Told) (a : Answer) (held : 
 long_trace_for_play Is policy trace (answer.Checked c) held is tells long = absurd (not_read kind.Trace trace is.jobs held is.trace_read tells long)
 long_trace_for_play Is policy trace (answer.Explained e) held is tells long = absurd is
 long_trace_for_play Is policy trace (answer.Bounded e) held is tells long = absurd is
+long_trace_for_play Is policy trace (answer.Rested e) held is tells long = absurd is
 long_trace_for_play Is policy trace (answer.Exported text) held is tells long = absurd is
 long_trace_for_play Is policy trace (answer.Verified v) held is tells long = absurd is
 long_trace_for_play Is policy trace (answer.Played outcome) held is tells long = absurd (not_read kind.Trace trace is.jobs held is.trace_read tells long)
@@ -142,6 +165,7 @@ long_for_simulation : (Is : Simulating) (policy trace : Told) (a : Answer) (held
 long_for_simulation Is policy trace (answer.Checked c) held is tells long = absurd (not_read kind.Policy policy is.text held is.policy_read tells long)
 long_for_simulation Is policy trace (answer.Explained e) held is tells long = absurd is
 long_for_simulation Is policy trace (answer.Bounded e) held is tells long = absurd is
+long_for_simulation Is policy trace (answer.Rested e) held is tells long = absurd is
 long_for_simulation Is policy trace (answer.Exported text) held is tells long = absurd is
 long_for_simulation Is policy trace (answer.Verified v) held is tells long = absurd is
 long_for_simulation Is policy trace (answer.Simulated s) held is tells long = absurd (not_read kind.Policy policy is.text held is.policy_read tells long)
@@ -156,6 +180,7 @@ long_trace_for_simulation : (Is : Simulating) (policy trace : Told) (a : Answer)
 long_trace_for_simulation Is policy trace (answer.Checked c) held is tells long = absurd (not_read kind.Trace trace is.jobs held is.trace_read tells long)
 long_trace_for_simulation Is policy trace (answer.Explained e) held is tells long = absurd is
 long_trace_for_simulation Is policy trace (answer.Bounded e) held is tells long = absurd is
+long_trace_for_simulation Is policy trace (answer.Rested e) held is tells long = absurd is
 long_trace_for_simulation Is policy trace (answer.Exported text) held is tells long = absurd is
 long_trace_for_simulation Is policy trace (answer.Verified v) held is tells long = absurd is
 long_trace_for_simulation Is policy trace (answer.Simulated s) held is tells long = absurd (not_read kind.Trace trace is.jobs held is.trace_read tells long)
@@ -170,6 +195,7 @@ long_policy_of_three : (Is : Judging) (policy trace history : Told) (a : Answer)
 long_policy_of_three Is policy trace history (answer.Checked c) held is tells long = absurd (not_read kind.Policy policy is.text held is.policy_read tells long)
 long_policy_of_three Is policy trace history (answer.Explained e) held is tells long = absurd is
 long_policy_of_three Is policy trace history (answer.Bounded e) held is tells long = absurd is
+long_policy_of_three Is policy trace history (answer.Rested e) held is tells long = absurd is
 long_policy_of_three Is policy trace history (answer.Exported text) held is tells long = absurd is
 long_policy_of_three Is policy trace history (answer.Verified v) held is tells long = absurd is
 long_policy_of_three Is policy trace history (answer.Played outcome) held is tells long = absurd is
@@ -184,6 +210,7 @@ long_trace_of_three : (Is : Judging) (policy trace history : Told) (a : Answer) 
 long_trace_of_three Is policy trace history (answer.Checked c) held is tells long = absurd (not_read kind.Trace trace is.jobs held is.trace_read tells long)
 long_trace_of_three Is policy trace history (answer.Explained e) held is tells long = absurd is
 long_trace_of_three Is policy trace history (answer.Bounded e) held is tells long = absurd is
+long_trace_of_three Is policy trace history (answer.Rested e) held is tells long = absurd is
 long_trace_of_three Is policy trace history (answer.Exported text) held is tells long = absurd is
 long_trace_of_three Is policy trace history (answer.Verified v) held is tells long = absurd is
 long_trace_of_three Is policy trace history (answer.Played outcome) held is tells long = absurd is
@@ -198,6 +225,7 @@ long_history_of_three : (Is : Judging) (policy trace history : Told) (a : Answer
 long_history_of_three Is policy trace history (answer.Checked c) held is tells long = absurd (not_read kind.History history is.entries held is.history_read tells long)
 long_history_of_three Is policy trace history (answer.Explained e) held is tells long = absurd is
 long_history_of_three Is policy trace history (answer.Bounded e) held is tells long = absurd is
+long_history_of_three Is policy trace history (answer.Rested e) held is tells long = absurd is
 long_history_of_three Is policy trace history (answer.Exported text) held is tells long = absurd is
 long_history_of_three Is policy trace history (answer.Verified v) held is tells long = absurd is
 long_history_of_three Is policy trace history (answer.Played outcome) held is tells long = absurd is
@@ -237,9 +265,13 @@ long_file (Some (emit policy)) told a kind.Trace name held is file tells long = 
 long_file (Some (emit policy)) told a kind.History name held is file tells long = absurd file
 long_file (Some (emit policy)) told a kind.Certificates name held is file tells long = absurd file
 long_file (Some (bound policy)) told a kind.Policy name held is file tells long = long_for_bound (told policy) a held is (sym (ap told file) ∙ tells) long
+long_file (Some (rest policy)) told a kind.Policy name held is file tells long = long_for_rest (told policy) a held is (sym (ap told file) ∙ tells) long
 long_file (Some (bound policy)) told a kind.Trace name held is file tells long = absurd file
+long_file (Some (rest policy)) told a kind.Trace name held is file tells long = absurd file
 long_file (Some (bound policy)) told a kind.History name held is file tells long = absurd file
+long_file (Some (rest policy)) told a kind.History name held is file tells long = absurd file
 long_file (Some (bound policy)) told a kind.Certificates name held is file tells long = absurd file
+long_file (Some (rest policy)) told a kind.Certificates name held is file tells long = absurd file
 long_file (Some (verify policy certs)) told a kind.Policy name held is file tells long = long_policy_for_verify (told policy) (told certs) a held is (sym (ap told file) ∙ tells) long
 long_file (Some (verify policy certs)) told a kind.Trace name held is file tells long = absurd file
 long_file (Some (verify policy certs)) told a kind.History name held is file tells long = absurd file

@@ -290,6 +290,7 @@ module _ (Ends Stops : Meaning → Plan → List Entry → Type 0) (Must : Told 
     ]
     traces_truly policy trace before after code (answer.Explained told) is writes = absurd is
     traces_truly policy trace before after code (answer.Bounded told) is writes = absurd is
+    traces_truly policy trace before after code (answer.Rested told) is writes = absurd is
     traces_truly policy trace before after code (answer.Exported text) is writes = absurd is
     traces_truly policy trace before after code (answer.Verified v) is writes = absurd is
     traces_truly policy trace before after code (answer.Simulated outcome) is writes = absurd is

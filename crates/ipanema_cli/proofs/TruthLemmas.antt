@@ -2,7 +2,7 @@
 use Rattle.std.proofs.Common.{◌≡◌, ℕ, List, Option, Result, Ok, Err, IfErr, IfOk, Some, None, arith}
 use Rattle.sched_io.specs.Shown.{Shown}
 use Rattle.sched_io.specs.Told.{Told}
-use Rattle.command_words.specs.Command.{Asked, IsSerial, bench, bound, check, crew, emit, explain, make, migrate, play, prove, replay, report, run, simulate, verify, waste}
+use Rattle.command_words.specs.Command.{Asked, IsSerial, bench, bound, check, crew, emit, explain, make, migrate, play, prove, replay, report, rest, run, simulate, verify, waste}
 use Rattle.cert_file.specs.Wrong.{Proves}
 use Rattle.ipanema_cli.specs.Answers.{IsGatedAnswer}
 use Rattle.ipanema_cli.specs.PolicyAnswers.{IsHeader}
@@ -24,6 +24,7 @@ use Rattle.ipanema_cli.proofs.GatedAnswers.{gated_length}
 use Rattle.ipanema_cli.proofs.JudgeTruths.{migrates, replays, reports, stopped_judge}
 use Rattle.ipanema_cli.proofs.MakeTruths.{makes, stopped_make}
 use Rattle.ipanema_cli.proofs.PlayTruths.{plays_truly, stopped_play}
+use Rattle.ipanema_cli.proofs.RestTruths.{rests, stopped_rest}
 use Rattle.ipanema_cli.proofs.RunTruths.{runs_truly, stopped_run}
 use Rattle.ipanema_cli.proofs.SimulationTruths.{simulates, stopped_simulation, wastes}
 use Rattle.ipanema_cli.proofs.VerifyTruths.{stopped_verify, verifies}
@@ -37,6 +38,7 @@ passed_by_any Passed (Some (explain policy name)) told before after code other i
 passed_by_any Passed (Some (prove policy)) told before after code other is = is
 passed_by_any Passed (Some (emit policy)) told before after code other is = is
 passed_by_any Passed (Some (bound policy)) told before after code other is = is
+passed_by_any Passed (Some (rest policy)) told before after code other is = is
 passed_by_any Passed (Some (verify policy certs)) told before after code other is = is
 passed_by_any Passed (Some (play policy trace)) told before after code other is = is
 passed_by_any Passed (Some (run policy trace)) told before after code other is = absurd other
@@ -59,6 +61,7 @@ module _ (Passed : ℕ → ℕ → Type 0) where
   stopped (Some (prove policy)) told read_fault before after code stop cause = stopped_export Proves (told policy) before after code stop
   stopped (Some (emit policy)) told read_fault before after code stop cause = stopped_export IsHeader (told policy) before after code stop
   stopped (Some (bound policy)) told read_fault before after code stop cause = stopped_bound (told policy) before after code stop
+  stopped (Some (rest policy)) told read_fault before after code stop cause = stopped_rest (told policy) before after code stop
   stopped (Some (verify policy certs)) told read_fault before after code stop cause = stopped_verify (told policy) (told certs) before after code stop
   stopped (Some (play policy trace)) told read_fault before after code stop cause = stopped_play (told policy) (told trace) before after code stop
   stopped (Some (run policy trace)) told read_fault before after code stop cause = stopped_run Passed (told policy) (told trace) before after code stop
@@ -80,6 +83,7 @@ module _ (Passed : ℕ → ℕ → Type 0) where
   answers (Some (prove policy)) told before after code a is writes = exports Proves (told policy) before after code a is writes
   answers (Some (emit policy)) told before after code a is writes = exports IsHeader (told policy) before after code a is writes
   answers (Some (bound policy)) told before after code a is writes = bounds (told policy) before after code a is writes
+  answers (Some (rest policy)) told before after code a is writes = rests (told policy) before after code a is writes
   answers (Some (verify policy certs)) told before after code a is writes = verifies (told policy) (told certs) before after code a is writes
   answers (Some (play policy trace)) told before after code a is writes = plays_truly (told policy) (told trace) before after code a is writes
   answers (Some (run policy trace)) told before after code a is writes = runs_truly Passed (told policy) (told trace) before after code a is writes

@@ -217,6 +217,7 @@ pub verifies : (policy certs : Told) (before after : Shown) (code : ℕ) (a : An
 verifies policy certs before after code (answer.Checked c) is writes = absurd is
 verifies policy certs before after code (answer.Explained told) is writes = absurd is
 verifies policy certs before after code (answer.Bounded told) is writes = absurd is
+verifies policy certs before after code (answer.Rested told) is writes = absurd is
 verifies policy certs before after code (answer.Exported text) is writes = absurd is
 verifies policy certs before after code (answer.Verified v) is writes = elim (code_among _ _ _ _ writes) [
   | inr e ↦ stopped_verify policy certs before.written after.written code (at_5 e)

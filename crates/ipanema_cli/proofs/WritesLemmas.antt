@@ -11,6 +11,10 @@ use Rattle.policy_check.specs.declared.answer.CheckAnswer.{CheckAnswer}
 use Rattle.policy_check.specs.declared.answer.CheckAnswer.TheVariants as checked
 use Rattle.policy_check.specs.declared.bounding.BoundAnswer.{BoundAnswer}
 use Rattle.policy_check.specs.declared.bounding.BoundAnswer.TheVariants as bounded
+use Rattle.policy_check.specs.declared.resting.RestAnswer.{RestAnswer}
+use Rattle.policy_check.specs.declared.resting.RestAnswer.TheVariants as rested
+use Rattle.policy_checker.specs.declared.rest_gaps.LeastGap.{LeastGap}
+use Rattle.policy_checker.specs.declared.rest_gaps.LeastGap.TheVariants as gap
 use Rattle.policy_check.specs.declared.explaining.ExplainAnswer.{ExplainAnswer}
 use Rattle.policy_check.specs.declared.explaining.ExplainAnswer.TheVariants as explained
 use Rattle.policy_check.specs.declared.reading.Refusal.{Refusal}
@@ -31,7 +35,7 @@ use Rattle.history_replay.specs.declared.answer.HistoryAnswer.TheVariants as jud
 use Rattle.history_replay.specs.declared.refusal.HistoryRefusal.TheVariants as no_history
 use Rattle.command_words.specs.Command.{Asked}
 use Rattle.ipanema_cli.specs.Ends.{Ends, Writes, answered, written, cut_off}
-use Rattle.ipanema_cli.specs.Status.{bound_status, check_status, code_of, explain_status, history_status, outcome_status, refusal_status, played_status, simulation_status, verify_status}
+use Rattle.ipanema_cli.specs.Status.{bound_status, check_status, code_of, explain_status, gap_status, rest_status, history_status, outcome_status, refusal_status, played_status, simulation_status, verify_status}
 use Rattle.ipanema_cli.specs.declared.answers.Answer.{Answer}
 use Rattle.ipanema_cli.specs.declared.answers.Answer.TheVariants as answer
 
@@ -70,6 +74,15 @@ bound_code : (b : BoundAnswer) → AnswerCode (code_of (bound_status b))
 bound_code (bounded.Bounded told) = outcome_code told.outcome
 bound_code (bounded.Unbounded c) = check_code c
 
+gap_code : (found : LeastGap) → AnswerCode (code_of (gap_status found))
+gap_code gap.Even = outcome_code outcome.Holds
+gap_code (gap.Least least wider) = outcome_code outcome.Holds
+gap_code (gap.Undecided at proved) = outcome_code outcome.Undecided
+
+rest_code : (r : RestAnswer) → AnswerCode (code_of (rest_status r))
+rest_code (rested.Rests told) = gap_code told.gap
+rest_code (rested.Unaccepted c) = check_code c
+
 verify_code : (v : VerifyAnswer) → AnswerCode (code_of (verify_status v))
 verify_code (verify.Verified verified) = is_0 refl
 verify_code (verify.BadLine line) = is_2 refl
@@ -104,6 +117,7 @@ pub answer_code : (a : Answer) → AnswerCode (code_of (status_of a))
 answer_code (answer.Checked c) = check_code c
 answer_code (answer.Explained e) = explain_code e
 answer_code (answer.Bounded b) = bound_code b
+answer_code (answer.Rested r) = rest_code r
 answer_code (answer.Exported text) = is_0 refl
 answer_code (answer.Verified v) = verify_code v
 answer_code (answer.Played p) = play_code p

@@ -7,6 +7,7 @@ use Rattle.policy_checker.specs.Verdicts.{IsVerdict, policy_of}
 use Rattle.policy_check.specs.declared.answer.CheckAnswer.{CheckAnswer}
 use Rattle.policy_check.specs.declared.answer.CheckAnswer.TheVariants as checked
 use Rattle.policy_check.specs.Bounds.{bound_lines}
+use Rattle.policy_check.specs.Rests.{rest_lines}
 use Rattle.policy_check.specs.Lines.{check_lines, explain_lines}
 use Rattle.policy_check.specs.TextLines.{lines_in}
 use Rattle.policy_check.specs.Verifying.{verify_line}
@@ -28,16 +29,16 @@ use Rattle.fair_policy.specs.Fair.{fair_meaning}
 use Rattle.bench_play.specs.Bench.{IsBench}
 use Rattle.bench_play.specs.Lines.{bench_lines}
 use Rattle.command_words.specs.Command.{Asked, bench, bound, check, crew, emit, explain, make, migrate, play}
-use Rattle.command_words.specs.Command.{prove, replay, report, run, simulate, verify, waste}
+use Rattle.command_words.specs.Command.{prove, replay, report, rest, run, simulate, verify, waste}
 use Rattle.ipanema_cli.specs.Simulations.{AnswersSimulation}
-use Rattle.ipanema_cli.specs.Status.{bound_status, check_status, explain_status, history_status, simulation_status}
+use Rattle.ipanema_cli.specs.Status.{bound_status, check_status, explain_status, history_status, rest_status, simulation_status}
 use Rattle.ipanema_cli.specs.Status.{verify_status}
 use Rattle.ipanema_cli.specs.Texts.{too_long_line}
 use Rattle.ipanema_cli.specs.declared.answers.Answer.{Answer}
 use Rattle.ipanema_cli.specs.declared.answers.Answer.TheVariants as answer
 use Rattle.ipanema_cli.specs.declared.status.Status.{Status}
 use Rattle.ipanema_cli.specs.declared.status.Status.TheVariants as status
-use Rattle.ipanema_cli.specs.PolicyAnswers.{AnswersBound, AnswersCheck, AnswersExplain, AnswersExport, AnswersVerify}
+use Rattle.ipanema_cli.specs.PolicyAnswers.{AnswersBound, AnswersCheck, AnswersExplain, AnswersExport, AnswersRest, AnswersVerify}
 use Rattle.ipanema_cli.specs.PolicyAnswers.{IsHeader, accepts}
 use Rattle.ipanema_cli.specs.TraceAnswers.{AnswersJudging, AnswersPlay}
 
@@ -46,6 +47,7 @@ abbrev pub lines_of : Answer → List (List ℕ)
 lines_of (answer.Checked c) = check_lines c
 lines_of (answer.Explained e) = explain_lines e
 lines_of (answer.Bounded b) = bound_lines b
+lines_of (answer.Rested b) = rest_lines b
 lines_of (answer.Exported text) = lines_in text.items
 lines_of (answer.Verified v) = verify_line v ∷ []
 lines_of (answer.Played outcome) = plays.lines_of outcome
@@ -71,6 +73,7 @@ abbrev pub status_of : Answer → Status
 status_of (answer.Checked c) = check_status c
 status_of (answer.Explained e) = explain_status e
 status_of (answer.Bounded b) = bound_status b
+status_of (answer.Rested b) = rest_status b
 status_of (answer.Exported text) = status.Done
 status_of (answer.Verified v) = verify_status v
 status_of (answer.Played outcome) = play_status outcome
@@ -86,6 +89,7 @@ abbrev pub CanBePut : Answer → Type 0
 CanBePut (answer.Checked c) = Unit {0}
 CanBePut (answer.Explained e) = Unit {0}
 CanBePut (answer.Bounded b) = Unit {0}
+CanBePut (answer.Rested b) = Unit {0}
 CanBePut (answer.Exported text) = Unit {0}
 CanBePut (answer.Verified v) = Unit {0}
 CanBePut (answer.Played outcome) = plays.IsShown outcome
@@ -101,6 +105,7 @@ abbrev pub AnswersWords : Answer → Type 0
 AnswersWords (answer.Checked c) = ⊥
 AnswersWords (answer.Explained e) = ⊥
 AnswersWords (answer.Bounded b) = ⊥
+AnswersWords (answer.Rested b) = ⊥
 AnswersWords (answer.Exported text) = ⊥
 AnswersWords (answer.Verified v) = ⊥
 AnswersWords (answer.Played outcome) = ⊥
@@ -116,6 +121,7 @@ abbrev pub AnswersMake : (seed size : ℕ) → Answer → Type 0
 AnswersMake seed size (answer.Checked c) = ⊥
 AnswersMake seed size (answer.Explained e) = ⊥
 AnswersMake seed size (answer.Bounded b) = ⊥
+AnswersMake seed size (answer.Rested b) = ⊥
 AnswersMake seed size (answer.Exported text) = ⊥
 AnswersMake seed size (answer.Verified v) = ⊥
 AnswersMake seed size (answer.Played outcome) = ⊥
@@ -138,6 +144,7 @@ abbrev pub AnswersBench : (seed size : ℕ) → Answer → Type 0
 AnswersBench seed size (answer.Checked c) = IsFairVerdict c
 AnswersBench seed size (answer.Explained e) = ⊥
 AnswersBench seed size (answer.Bounded b) = ⊥
+AnswersBench seed size (answer.Rested b) = ⊥
 AnswersBench seed size (answer.Exported text) = ⊥
 AnswersBench seed size (answer.Verified v) = ⊥
 AnswersBench seed size (answer.Played outcome) = ⊥
@@ -156,6 +163,7 @@ IsAnswer (Some (explain policy name)) told a = AnswersExplain (told policy) name
 IsAnswer (Some (prove policy)) told a = AnswersExport Proves (told policy) a
 IsAnswer (Some (emit policy)) told a = AnswersExport IsHeader (told policy) a
 IsAnswer (Some (bound policy)) told a = AnswersBound (told policy) a
+IsAnswer (Some (rest policy)) told a = AnswersRest (told policy) a
 IsAnswer (Some (verify policy certs)) told a = AnswersVerify (told policy) (told certs) a
 IsAnswer (Some (play policy trace)) told a = AnswersPlay plays.IsPlayOf (told policy) (told trace) a
 IsAnswer (Some (run policy trace)) told a = AnswersPlay IsRunOf (told policy) (told trace) a

@@ -3,6 +3,7 @@ pub mod TraceAnswers
 pub mod Answers
 pub mod BenchTruths
 pub mod BoundTruths
+pub mod RestTruths
 pub mod Causes
 pub mod CheckTruths
 pub mod Ends

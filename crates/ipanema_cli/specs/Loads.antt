@@ -3,7 +3,7 @@ use Rattle.std.specs.Prelude.{◌≡◌, ℕ, ◌<◌, List, [], ◌∷◌, Opti
 use Rattle.sched_io.specs.Loads.{AreRequested, LoadRequest, load_request}
 use Rattle.sched_io.specs.Told.{Told}
 use Rattle.command_words.specs.Command.{Asked, bench, bound, check, crew, emit, explain, make, migrate, play}
-use Rattle.command_words.specs.Command.{prove, replay, report, run, simulate, verify, waste}
+use Rattle.command_words.specs.Command.{prove, replay, report, rest, run, simulate, verify, waste}
 use Rattle.ipanema_cli.specs.Texts.{MayRead, room_of}
 use Rattle.ipanema_cli.specs.declared.texts.TextKind.{TextKind}
 use Rattle.ipanema_cli.specs.declared.texts.TextKind.TheVariants as kind
@@ -35,9 +35,13 @@ IsFileOf (Some (emit policy)) kind.Trace name = ⊥
 IsFileOf (Some (emit policy)) kind.History name = ⊥
 IsFileOf (Some (emit policy)) kind.Certificates name = ⊥
 IsFileOf (Some (bound policy)) kind.Policy name = name ≡ policy
+IsFileOf (Some (rest policy)) kind.Policy name = name ≡ policy
 IsFileOf (Some (bound policy)) kind.Trace name = ⊥
+IsFileOf (Some (rest policy)) kind.Trace name = ⊥
 IsFileOf (Some (bound policy)) kind.History name = ⊥
+IsFileOf (Some (rest policy)) kind.History name = ⊥
 IsFileOf (Some (bound policy)) kind.Certificates name = ⊥
+IsFileOf (Some (rest policy)) kind.Certificates name = ⊥
 IsFileOf (Some (verify policy certs)) kind.Policy name = name ≡ policy
 IsFileOf (Some (verify policy certs)) kind.Trace name = ⊥
 IsFileOf (Some (verify policy certs)) kind.History name = ⊥
@@ -94,6 +98,7 @@ files_of (Some (explain policy name)) = one_file policy
 files_of (Some (prove policy)) = one_file policy
 files_of (Some (emit policy)) = one_file policy
 files_of (Some (bound policy)) = one_file policy
+files_of (Some (rest policy)) = one_file policy
 files_of (Some (verify policy certs)) = certified_files policy certs
 files_of (Some (play policy trace)) = two_files policy trace
 files_of (Some (run policy trace)) = two_files policy trace
@@ -139,6 +144,7 @@ MayGoOn (Some (explain policy name)) told count = Unit {0}
 MayGoOn (Some (prove policy)) told count = Unit {0}
 MayGoOn (Some (emit policy)) told count = Unit {0}
 MayGoOn (Some (bound policy)) told count = Unit {0}
+MayGoOn (Some (rest policy)) told count = Unit {0}
 MayGoOn (Some (verify policy certs)) told count = GoesOnOfTwo (told policy) count
 MayGoOn (Some (replay policy trace history)) told count =
     GoesOnOfThree (told policy) (told trace) (told history) count

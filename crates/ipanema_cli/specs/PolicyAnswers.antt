@@ -10,6 +10,7 @@ use Rattle.policy_checker.specs.declared.verdict.Verdict.TheVariants as verdict
 use Rattle.policy_check.specs.declared.answer.CheckAnswer.{CheckAnswer}
 use Rattle.policy_check.specs.declared.answer.CheckAnswer.TheVariants as checked
 use Rattle.policy_check.specs.Bounds.{IsBoundOf}
+use Rattle.policy_check.specs.Rests.{IsRestOf}
 use Rattle.policy_check.specs.Checks.{IsCheckOf, IsExplainOf}
 use Rattle.policy_check.specs.Verifying.{IsVerifyOf}
 use Rattle.policy_check.specs.declared.verifying.VerifyAnswer.{VerifyAnswer}
@@ -43,6 +44,7 @@ AnswersCheck policy (answer.Checked c) = (text : List ℕ) × MayRead kind.Polic
     × IsCheckOf text c
 AnswersCheck policy (answer.Explained e) = ⊥
 AnswersCheck policy (answer.Bounded b) = ⊥
+AnswersCheck policy (answer.Rested b) = ⊥
 AnswersCheck policy (answer.Exported text) = ⊥
 AnswersCheck policy (answer.Verified v) = ⊥
 AnswersCheck policy (answer.Played outcome) = ⊥
@@ -59,6 +61,7 @@ AnswersExplain policy name (answer.Checked c) = ⊥
 AnswersExplain policy name (answer.Explained e) = (text : List ℕ) × MayRead kind.Policy policy text
     × IsExplainOf text name e
 AnswersExplain policy name (answer.Bounded b) = ⊥
+AnswersExplain policy name (answer.Rested b) = ⊥
 AnswersExplain policy name (answer.Exported text) = ⊥
 AnswersExplain policy name (answer.Verified v) = ⊥
 AnswersExplain policy name (answer.Played outcome) = ⊥
@@ -74,6 +77,7 @@ abbrev pub AnswersBound : Told → Answer → Type 0
 AnswersBound policy (answer.Checked c) = ⊥
 AnswersBound policy (answer.Explained e) = ⊥
 AnswersBound policy (answer.Bounded b) = (text : List ℕ) × MayRead kind.Policy policy text × IsBoundOf text b
+AnswersBound policy (answer.Rested r) = ⊥
 AnswersBound policy (answer.Exported text) = ⊥
 AnswersBound policy (answer.Verified v) = ⊥
 AnswersBound policy (answer.Played outcome) = ⊥
@@ -83,6 +87,22 @@ AnswersBound policy (answer.Made text) = ⊥
 AnswersBound policy (answer.Benched told) = ⊥
 AnswersBound policy (answer.TooLong which) = IsTooLongOfOne policy which
 AnswersBound policy answer.BadWords = ⊥
+
+-- the answer of `rest` to a file of which this is told
+abbrev pub AnswersRest : Told → Answer → Type 0
+AnswersRest policy (answer.Checked c) = ⊥
+AnswersRest policy (answer.Explained e) = ⊥
+AnswersRest policy (answer.Bounded b) = ⊥
+AnswersRest policy (answer.Rested r) = (text : List ℕ) × MayRead kind.Policy policy text × IsRestOf text r
+AnswersRest policy (answer.Exported text) = ⊥
+AnswersRest policy (answer.Verified v) = ⊥
+AnswersRest policy (answer.Played outcome) = ⊥
+AnswersRest policy (answer.Simulated outcome) = ⊥
+AnswersRest policy (answer.Judged outcome) = ⊥
+AnswersRest policy (answer.Made text) = ⊥
+AnswersRest policy (answer.Benched told) = ⊥
+AnswersRest policy (answer.TooLong which) = IsTooLongOfOne policy which
+AnswersRest policy answer.BadWords = ⊥
 
 -- a command that writes a text of an accepted policy: which text that may be
 abbrev pub Exporting : Type 1
@@ -103,6 +123,7 @@ module _ (Is : Exporting) where
   IsExportOfText policy (answer.Checked c) = IsCheckOf policy c × IsFalse (accepts c)
   IsExportOfText policy (answer.Explained e) = ⊥
   IsExportOfText policy (answer.Bounded b) = ⊥
+  IsExportOfText policy (answer.Rested b) = ⊥
   IsExportOfText policy (answer.Exported text) = (p : Meaning) × IsAccepted policy p × Is p text.items
   IsExportOfText policy (answer.Verified v) = ⊥
   IsExportOfText policy (answer.Played outcome) = ⊥
@@ -124,6 +145,7 @@ module _ (Is : Exporting) where
   AnswersExport policy (answer.Checked c) = ExportsText policy (answer.Checked c)
   AnswersExport policy (answer.Explained e) = ⊥
   AnswersExport policy (answer.Bounded b) = ⊥
+  AnswersExport policy (answer.Rested b) = ⊥
   AnswersExport policy (answer.Exported text) = ExportsText policy (answer.Exported text)
   AnswersExport policy (answer.Verified v) = ⊥
   AnswersExport policy (answer.Played outcome) = ⊥
@@ -147,6 +169,7 @@ abbrev pub AnswersVerify : (policy certs : Told) → Answer → Type 0
 AnswersVerify policy certs (answer.Checked c) = ⊥
 AnswersVerify policy certs (answer.Explained e) = ⊥
 AnswersVerify policy certs (answer.Bounded b) = ⊥
+AnswersVerify policy certs (answer.Rested b) = ⊥
 AnswersVerify policy certs (answer.Exported text) = ⊥
 AnswersVerify policy certs (answer.Verified v) = VerifiesTexts policy certs v
 AnswersVerify policy certs (answer.Played outcome) = ⊥

@@ -61,6 +61,7 @@ module _ (Is : Simulating) where
   IsSimulationOfTexts policy trace (answer.Checked c) = IsCheckOf policy c × IsFalse (lets_play c)
   IsSimulationOfTexts policy trace (answer.Explained e) = ⊥
   IsSimulationOfTexts policy trace (answer.Bounded b) = ⊥
+  IsSimulationOfTexts policy trace (answer.Rested b) = ⊥
   IsSimulationOfTexts policy trace (answer.Exported text) = ⊥
   IsSimulationOfTexts policy trace (answer.Verified v) = ⊥
   IsSimulationOfTexts policy trace (answer.Played outcome) = ⊥
@@ -84,6 +85,7 @@ module _ (Is : Simulating) where
   AnswersSimulation policy trace (answer.Checked c) = SimulatesTexts policy trace (answer.Checked c)
   AnswersSimulation policy trace (answer.Explained e) = ⊥
   AnswersSimulation policy trace (answer.Bounded b) = ⊥
+  AnswersSimulation policy trace (answer.Rested b) = ⊥
   AnswersSimulation policy trace (answer.Exported text) = ⊥
   AnswersSimulation policy trace (answer.Verified v) = ⊥
   AnswersSimulation policy trace (answer.Played outcome) = ⊥

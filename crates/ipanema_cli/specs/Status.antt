@@ -8,6 +8,10 @@ use Rattle.policy_check.specs.declared.answer.CheckAnswer.{CheckAnswer}
 use Rattle.policy_check.specs.declared.answer.CheckAnswer.TheVariants as check
 use Rattle.policy_check.specs.declared.bounding.BoundAnswer.{BoundAnswer}
 use Rattle.policy_check.specs.declared.bounding.BoundAnswer.TheVariants as bound
+use Rattle.policy_check.specs.declared.resting.RestAnswer.{RestAnswer}
+use Rattle.policy_check.specs.declared.resting.RestAnswer.TheVariants as rested
+use Rattle.policy_checker.specs.declared.rest_gaps.LeastGap.{LeastGap}
+use Rattle.policy_checker.specs.declared.rest_gaps.LeastGap.TheVariants as gap
 use Rattle.policy_check.specs.declared.explaining.ExplainAnswer.{ExplainAnswer}
 use Rattle.policy_check.specs.declared.explaining.ExplainAnswer.TheVariants as explain
 use Rattle.policy_check.specs.declared.reading.Refusal.{Refusal}
@@ -71,6 +75,17 @@ explain_status (explain.Unjudged why) = refusal_status why
 abbrev pub bound_status : BoundAnswer → Status
 bound_status (bound.Bounded told) = outcome_status told.outcome
 bound_status (bound.Unbounded checked) = check_status checked
+
+-- the status of what is found of the gap that cores at rest may have
+abbrev pub gap_status : LeastGap → Status
+gap_status gap.Even = status.Done
+gap_status (gap.Least least wider) = status.Done
+gap_status (gap.Undecided at proved) = status.Undecided
+
+-- the status of an answer of `rest`
+abbrev pub rest_status : RestAnswer → Status
+rest_status (rested.Rests told) = gap_status told.gap
+rest_status (rested.Unaccepted checked) = check_status checked
 
 -- the status of an answer of `verify`
 abbrev pub verify_status : VerifyAnswer → Status

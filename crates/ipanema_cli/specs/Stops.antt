@@ -4,7 +4,7 @@ use Rattle.sched_io.specs.Told.{Told, missing}
 use Rattle.ipanema_cli.specs.Answers.{IsAnswer}
 use Rattle.ipanema_cli.specs.TraceAnswers.{IsTooLongOfThree}
 use Rattle.command_words.specs.Command.{Asked, bench, bound, check, crew, emit, explain, make, migrate, play}
-use Rattle.command_words.specs.Command.{prove, replay, report, run, simulate, verify, waste}
+use Rattle.command_words.specs.Command.{prove, replay, report, rest, run, simulate, verify, waste}
 use Rattle.ipanema_cli.specs.Simulations.{IsTooLongOfOne, IsTooLongOfTwo}
 use Rattle.ipanema_cli.specs.Texts.{MayBeLong, MayRead}
 use Rattle.ipanema_cli.specs.declared.answers.Answer.TheVariants as answer
@@ -41,6 +41,7 @@ IsUnread (Some (explain policy name)) told fault = fault ⊎ (told policy ≡ mi
 IsUnread (Some (prove policy)) told fault = fault ⊎ (told policy ≡ missing)
 IsUnread (Some (emit policy)) told fault = fault ⊎ (told policy ≡ missing)
 IsUnread (Some (bound policy)) told fault = fault ⊎ (told policy ≡ missing)
+IsUnread (Some (rest policy)) told fault = fault ⊎ (told policy ≡ missing)
 IsUnread (Some (verify policy certs)) told fault = IsUnreadOfTwo (told policy) (told certs) fault
 IsUnread (Some (play policy trace)) told fault = IsUnreadOfTwo (told policy) (told trace) fault
 IsUnread (Some (run policy trace)) told fault = IsUnreadOfTwo (told policy) (told trace) fault

@@ -26,6 +26,7 @@ module _ (Is : Playing) where
   IsPlayOfTexts policy trace (answer.Checked c) = IsCheckOf policy c × IsFalse (accepts c)
   IsPlayOfTexts policy trace (answer.Explained e) = ⊥
   IsPlayOfTexts policy trace (answer.Bounded b) = ⊥
+  IsPlayOfTexts policy trace (answer.Rested b) = ⊥
   IsPlayOfTexts policy trace (answer.Exported text) = ⊥
   IsPlayOfTexts policy trace (answer.Verified v) = ⊥
   IsPlayOfTexts policy trace (answer.Played outcome) = (p : Meaning) × IsAccepted policy p × Is p trace outcome
@@ -49,6 +50,7 @@ module _ (Is : Playing) where
   AnswersPlay policy trace (answer.Checked c) = PlaysTexts policy trace (answer.Checked c)
   AnswersPlay policy trace (answer.Explained e) = ⊥
   AnswersPlay policy trace (answer.Bounded b) = ⊥
+  AnswersPlay policy trace (answer.Rested b) = ⊥
   AnswersPlay policy trace (answer.Exported text) = ⊥
   AnswersPlay policy trace (answer.Verified v) = ⊥
   AnswersPlay policy trace (answer.Played outcome) = PlaysTexts policy trace (answer.Played outcome)
@@ -84,6 +86,7 @@ module _ (Is : Judging) where
   IsJudgingOfTexts policy trace history (answer.Checked c) = IsCheckOf policy c × IsFalse (accepts c)
   IsJudgingOfTexts policy trace history (answer.Explained e) = ⊥
   IsJudgingOfTexts policy trace history (answer.Bounded b) = ⊥
+  IsJudgingOfTexts policy trace history (answer.Rested b) = ⊥
   IsJudgingOfTexts policy trace history (answer.Exported text) = ⊥
   IsJudgingOfTexts policy trace history (answer.Verified v) = ⊥
   IsJudgingOfTexts policy trace history (answer.Played outcome) = ⊥
@@ -110,6 +113,7 @@ module _ (Is : Judging) where
   AnswersJudging policy trace history (answer.Checked c) = JudgesTexts policy trace history (answer.Checked c)
   AnswersJudging policy trace history (answer.Explained e) = ⊥
   AnswersJudging policy trace history (answer.Bounded b) = ⊥
+  AnswersJudging policy trace history (answer.Rested b) = ⊥
   AnswersJudging policy trace history (answer.Exported text) = ⊥
   AnswersJudging policy trace history (answer.Verified v) = ⊥
   AnswersJudging policy trace history (answer.Played outcome) = ⊥

@@ -2,11 +2,12 @@
 use Rattle.std.specs.Prelude.{ℕ, List, Option, Some, None}
 use Rattle.sched_io.specs.Told.{Told}
 use Rattle.command_words.specs.Command.{Asked, bench, bound, check, crew, emit, explain, make, migrate, play}
-use Rattle.command_words.specs.Command.{prove, replay, report, run, simulate, verify, waste}
+use Rattle.command_words.specs.Command.{prove, replay, report, rest, run, simulate, verify, waste}
 use Rattle.ipanema_cli.specs.BoundTruths.{BoundsTruly}
 use Rattle.ipanema_cli.specs.CheckTruths.{ChecksTruly}
 use Rattle.ipanema_cli.specs.ExplainTruths.{ExplainsTruly}
 use Rattle.ipanema_cli.specs.ExportTruths.{EmitsTruly, ProvesTruly}
+use Rattle.ipanema_cli.specs.RestTruths.{RestsTruly}
 use Rattle.ipanema_cli.specs.SimulationTruths.{SaysHistory, SaysWaste, SimulatesTruly}
 use Rattle.ipanema_cli.specs.TraceTruths.{PlaysTruly, RunsTruly}
 use Rattle.ipanema_cli.specs.VerifyTruths.{VerifiesTruly}
@@ -28,6 +29,7 @@ IsTruthful Passed (Some (explain policy name)) told before after code =
 IsTruthful Passed (Some (prove policy)) told before after code = ProvesTruly (told policy) before after code
 IsTruthful Passed (Some (emit policy)) told before after code = EmitsTruly (told policy) before after code
 IsTruthful Passed (Some (bound policy)) told before after code = BoundsTruly (told policy) before after code
+IsTruthful Passed (Some (rest policy)) told before after code = RestsTruly (told policy) before after code
 IsTruthful Passed (Some (verify policy certs)) told before after code =
     VerifiesTruly (told policy) (told certs) before after code
 IsTruthful Passed (Some (play policy trace)) told before after code =

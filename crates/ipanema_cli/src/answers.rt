@@ -21,8 +21,8 @@ ghost use Rattle.ipanema_cli.specs.declared.stop.Stop.TheVariants as stop;
 use crate::accepted::accepted_in;
 use crate::kinds::{ExportCommand, HistoryCommand, SimulationCommand};
 use crate::status::{
-    Status, bound_status, check_status, explain_status, history_status, simulation_status,
-    verify_status,
+    Status, bound_status, check_status, explain_status, history_status, rest_status,
+    simulation_status, verify_status,
 };
 use crate::stop::Stop;
 use crate::texts::{TextKind, Texts};
@@ -31,7 +31,9 @@ use c_printer::c_text;
 use cert_file::{CertFileMemory, write_certs};
 use fair_policy::fair_policy;
 use history_replay::{HistoryAnswer, migrate_texts, replay_texts, report_texts};
-use policy_check::{BoundAnswer, CheckAnswer, ExplainAnswer, VerifyAnswer, check_text, put_text};
+use policy_check::{
+    BoundAnswer, CheckAnswer, ExplainAnswer, RestAnswer, VerifyAnswer, check_text, put_text,
+};
 use policy_checker::{AcceptedPolicy, CheckFault, PlayablePolicy, Verdict, check_policy, playable};
 use sched_base::CHECK_BUDGET;
 use sched_io::{Gate, PutFault, Sink, put_all};
@@ -53,6 +55,8 @@ pub enum Answer {
     Explained(ExplainAnswer),
     /// What `bound` answers of the bad rounds under the policy.
     Bounded(BoundAnswer),
+    /// What `rest` answers of cores of which none can steal from another under the policy.
+    Rested(RestAnswer),
     /// The text of the certificates of a policy that is accepted, or of its header in C.
     Exported(Vec<u8>),
     /// What `verify` answers to a policy and certificates.
@@ -259,6 +263,7 @@ impl Answer {
             Answer::Checked(answer) => check_status(answer),
             Answer::Explained(answer) => explain_status(answer),
             Answer::Bounded(answer) => bound_status(answer),
+            Answer::Rested(answer) => rest_status(answer),
             Answer::Exported(_) => Status::Done,
             Answer::Verified(answer) => verify_status(answer),
             Answer::Played(PlayAnswer::Broken(_)) => Status::BadText,
@@ -282,6 +287,7 @@ impl Answer {
             Answer::Checked(answer) => answer.put(out),
             Answer::Explained(answer) => answer.put(out),
             Answer::Bounded(answer) => answer.put(out),
+            Answer::Rested(answer) => answer.put(out),
             Answer::Exported(text) => put_text(out, text.as_slice()),
             Answer::Verified(answer) => answer.put(out),
             Answer::Played(answer) => answer.put(out),

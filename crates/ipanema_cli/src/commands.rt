@@ -4,6 +4,7 @@ ghost use Rattle.std.specs.Prelude.{◌≡◌, ◌⊎◌, ℕ, Some, IfErr, IfOk
 ghost use Rattle.sched_io.specs.Faults.{Rose};
 ghost use Rattle.sched_io.specs.Loads.{AreRequested};
 ghost use Rattle.ipanema_cli.specs.PolicyAnswers.{AnswersBound, AnswersCheck, AnswersExplain, AnswersExport};
+ghost use Rattle.ipanema_cli.specs.PolicyAnswers.{AnswersRest};
 ghost use Rattle.ipanema_cli.specs.TraceAnswers.{AnswersJudging};
 ghost use Rattle.ipanema_cli.specs.TraceAnswers.{AnswersPlay, judging_of};
 ghost use Rattle.ipanema_cli.specs.PolicyAnswers.{AnswersVerify, exporting_of};
@@ -11,7 +12,7 @@ ghost use Rattle.ipanema_cli.specs.Answers.{CanBePut, IsAnswer};
 ghost use Rattle.command_words.specs.Asks.{asked};
 ghost use Rattle.command_words.specs.Numbers.{is_size};
 ghost use Rattle.command_words.specs.Command.{IsSerial, bench as asks_bench, bound, check, explain};
-ghost use Rattle.command_words.specs.Command.{make as asks_make, play, verify as asks_verify};
+ghost use Rattle.command_words.specs.Command.{make as asks_make, play, rest, verify as asks_verify};
 ghost use Rattle.ipanema_cli.specs.Simulations.{AnswersSimulation, simulating_of};
 ghost use Rattle.ipanema_cli.specs.Loads.{FirstAreLoaded, LoadsOfThree, LoadsOfTwo, files_of, one_file, three_files};
 ghost use Rattle.ipanema_cli.specs.Loads.{two_files};
@@ -27,7 +28,7 @@ use crate::stop::Stop;
 use crate::texts::{TextKind, load, load_three};
 use command_words::{HistoryFiles, Request};
 use obligations::ObName;
-use policy_check::{bound_text, check_text, explain_text, verify_text};
+use policy_check::{bound_text, check_text, explain_text, rest_text, verify_text};
 use sched_io::{Files, Gate};
 use std::alloc::Global;
 use std::sync::Wait;
@@ -54,6 +55,7 @@ pub fn answer_of<F: Files>(alloc: Global, request: Request, files: &mut F) -> Re
         Request::Explain { policy, name } => explain(alloc, policy, name, files),
         Request::Prove { policy } => export_file(alloc, ExportCommand::Prove, policy, files),
         Request::Bound { policy } => bound(alloc, policy, files),
+        Request::Rest { policy } => rest(alloc, policy, files),
         Request::Emit { policy } => export_file(alloc, ExportCommand::Emit, policy, files),
         Request::Verify { policy, certs } => verify(alloc, policy, certs, files),
         Request::Play { policy, trace } => play(alloc, policy, trace, files),
@@ -120,6 +122,20 @@ fn bound<F: Files>(alloc: Global, policy: &str, files: &mut F) -> Result<Answer,
 {
     let policy_text = load(alloc, files, policy, TextKind::Policy)?;
     Ok(Answer::Bounded(bound_text(alloc, policy_text.as_slice())?))
+}
+
+/// The answer of `rest` to the policy in that file.
+fn rest<F: Files>(alloc: Global, policy: &str, files: &mut F) -> Result<Answer, Stop>
+    ensures answer { IfOk result (AnswersRest (F.told files.old policy.now)) }
+    ensures shown { IfOk result CanBePut }
+    ensures stop { IfErr result (IsStop (Some (rest policy.now)) (F.told files.old)
+        (Rose (F.faults files.old) (F.faults files.new))) }
+    ensures loads { AreRequested (files_of (Some (rest policy.now)))
+        (F.requested files.old) (F.requested files.new) }
+    ensures calm { IsErrOf result Stop.Unread ⊎ (F.faults files.new ≡ F.faults files.old) }
+{
+    let policy_text = load(alloc, files, policy, TextKind::Policy)?;
+    Ok(Answer::Rested(rest_text(alloc, policy_text.as_slice())?))
 }
 
 /// The answer of a command that writes a text of the policy in that file, where it is accepted.

@@ -1,13 +1,13 @@
 //! How the program ends.
 
 ghost use Rattle.std.specs.Prelude.{◌≡◌};
-ghost use Rattle.ipanema_cli.specs.Status.{bound_status, check_status, code_of, explain_status};
+ghost use Rattle.ipanema_cli.specs.Status.{bound_status, check_status, code_of, explain_status, gap_status, rest_status};
 ghost use Rattle.ipanema_cli.specs.Status.{history_refusal_status, history_status, outcome_status, played_status};
 ghost use Rattle.ipanema_cli.specs.Status.{refusal_status, simulation_status, verdict_status, verify_status};
 
 use history_replay::{HistoryAnswer, HistoryRefusal};
-use policy_check::{BoundAnswer, CheckAnswer, ExplainAnswer, Refusal, VerifyAnswer};
-use policy_checker::{Outcome, Verdict};
+use policy_check::{BoundAnswer, CheckAnswer, ExplainAnswer, Refusal, RestAnswer, VerifyAnswer};
+use policy_checker::{LeastGap, Outcome, Verdict};
 use round_model::Played;
 use trace_simulation::{PlayedWaste, SimulationAnswer};
 
@@ -89,6 +89,26 @@ pub fn bound_status(answer: &BoundAnswer) -> Status
     match answer {
         BoundAnswer::Bounded(told) => outcome_status(told.outcome),
         BoundAnswer::Unbounded(checked) => check_status(checked),
+    }
+}
+
+/// The status of an answer of `rest`.
+pub fn rest_status(answer: &RestAnswer) -> Status
+    ensures { result ≡ rest_status answer.now }
+{
+    match answer {
+        RestAnswer::Rests(told) => gap_status(&told.gap),
+        RestAnswer::Unaccepted(checked) => check_status(checked),
+    }
+}
+
+/// The status of what is found of the gap that cores at rest may have.
+fn gap_status(found: &LeastGap) -> Status
+    ensures { result ≡ gap_status found.now }
+{
+    match found {
+        LeastGap::Even | LeastGap::Least(_, _) => Status::Done,
+        LeastGap::Undecided(_, _) => Status::Undecided,
     }
 }
 

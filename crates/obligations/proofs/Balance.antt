@@ -88,7 +88,7 @@ module _ (p : Meaning) (is : IsResolved p) where
       own.nr own.load victim.nr victim.load 1 0 weight fresh no_attributes attrs)
       p.filter filter-refers
 
-  load_small : (nr load : ℕ) → LoadsFit p nr load → load ≤ MAX_THREADS * greatest_weight p.load
+  pub load_small : (nr load : ℕ) → LoadsFit p nr load → load ≤ MAX_THREADS * greatest_weight p.load
   load_small nr load fits =
       let few = fits.few in let heavy = fits.heavy in
       let bound = mul-le nr (greatest_weight p.load) MAX_THREADS (greatest_weight p.load) fits.few (omega arith) in

@@ -9,7 +9,7 @@ use Rattle.policy_tree.specs.declared.typed.Load.TheVariants as load
 use Rattle.policy_tree.specs.Meaning.{BatchTree, CaseTree, Meaning, cases_on}
 use Rattle.policy_tree.specs.Trees.{ExprTree, number, variable, negation, plus, minus, times, CondTree, always, negated, both, either, test}
 use Rattle.policy_eval.specs.Forms.{coefficient_of, constant_of}
-use Rattle.policy_eval.specs.Obligations.{Statement, idle_sees_overloaded, victim_is_overloaded, move_narrows_gap, further_move_narrows_gap, no_overlap, no_gap, filter_leaves_last, batch_leaves_last}
+use Rattle.policy_eval.specs.Obligations.{Statement, idle_sees_overloaded, victim_is_overloaded, move_narrows_gap, further_move_narrows_gap, no_overlap, no_gap, filter_leaves_last, batch_leaves_last, rest_gap}
 use Rattle.linear_form.specs.declared.form.Term.{Term}
 use Rattle.linear_form.specs.declared.form.Row.{Row}
 use Rattle.linear_form.specs.Difference.{AreDifference, IsDifference, IsDifferenceRow}
@@ -18,7 +18,7 @@ use Rattle.obligations.specs.Cases.{asked, cases_of, crossed}
 use Rattle.obligations.specs.DifferencePolicies.{ComparesDifference, ComparesDifferences, GoesOnByDifferences, HasDifferences, HaveDifferences, IsConstant, MultipliesConstants, added, taken}
 use Rattle.obligations.specs.Forms.{at_most, form_of}
 use Rattle.obligations.specs.Laws.{ComparisonsGiveDifferences}
-use Rattle.obligations.specs.Refutations.{all_of, any_of, both_of, busier_beside_two, busy_beside_two, cores_fit, gap_is_small, goes_on_to_last, has_thread, idle_and_overloaded, moves_over_small_gap, pairs_of, victim_has_one, victim_has_thread}
+use Rattle.obligations.specs.Refutations.{all_of, any_of, both_of, busier_beside_two, busy_beside_two, cores_fit, gap_is_small, gap_is_wide, goes_on_to_last, has_thread, idle_and_overloaded, moves_over_small_gap, pairs_of, victim_has_one, victim_has_thread}
 use Rattle.obligations.specs.Systems.{has_variable, placed, refuting_cases, system_of_case, systems_of}
 use Rattle.obligations.specs.Tallies.{guards_of}
 use Rattle.obligations.proofs.Gaps.{IsGap, IsOfOne, test-differences, unit}
@@ -154,6 +154,10 @@ busier-differs : Differs true (both (cores_fit load.Count) busier_beside_two)
 unfolding at_most AreDifference
 busier-differs = ((inl (refl, refl), (inr (refl, refl), (inl (refl, refl), (inr (refl, refl), (inr refl, (inl refl, (inr refl, tt))))))), tt)
 
+wide-differs : (gap : ℕ) → Differs true (both (cores_fit load.Count) (gap_is_wide gap))
+unfolding at_most AreDifference
+wide-differs gap = ((inl (refl, refl), (inr (refl, refl), (inl (refl, refl), (inr (refl, refl), (inl (refl, refl), tt))))), tt)
+
 with_condition : (premise c : CondTree) (outcome : Bool) → Differs true premise → HasDifferences c
     → AllRows IsDifferenceRow (crossed (cases_of load.Count true premise) (cases_of load.Count outcome c))
 with_condition premise c outcome first is = cross (cases_of load.Count true premise) (cases_of load.Count outcome c) first (condition-differs outcome c is)
@@ -201,6 +205,7 @@ module _ (p : Meaning) (is : ComparesDifferences p) where
   counted-differs (no_gap e) = gaps-differs (cases_on p.handlers e) (is.handlers e)
   counted-differs filter_leaves_last = with_condition (both (cores_fit load.Count) busy_beside_two) p.filter true busy-differs is.filter
   counted-differs batch_leaves_last = last-differs p.batch is.batch
+  counted-differs (rest_gap gap) = with_condition (both (cores_fit load.Count) (gap_is_wide gap)) p.filter false (wide-differs gap) is.filter
 
   cases-differ : (s : Statement) → AllRows IsDifferenceRow (refuting_cases p s)
   unfolding weighted

@@ -6,7 +6,7 @@ use Rattle.policy_tree.specs.declared.trees.Cmp.TheVariants as cmp
 use Rattle.policy_tree.specs.declared.typed.Load.{Load}
 use Rattle.policy_tree.specs.Meaning.{Meaning}
 use Rattle.policy_tree.specs.Trees.{CondTree, always, negated, both, either, test, minus}
-use Rattle.policy_eval.specs.Obligations.{IsMet, Statement, batch_leaves_last, filter_leaves_last, further_move_narrows_gap, idle_sees_overloaded, move_narrows_gap, no_gap, no_overlap, statements_of, victim_is_overloaded}
+use Rattle.policy_eval.specs.Obligations.{IsMet, Statement, batch_leaves_last, filter_leaves_last, further_move_narrows_gap, idle_sees_overloaded, move_narrows_gap, no_gap, no_overlap, rest_gap, statements_of, victim_is_overloaded}
 use Rattle.policy_eval.specs.Resolved.{IsResolved}
 use Rattle.obligations.specs.Cases.{asked, cases_of, cases_of_test}
 use Rattle.obligations.specs.Counts.{count_of, count_of_test}
@@ -18,6 +18,7 @@ use Rattle.obligations.proofs.Balance.{further_from_none, narrows_from_none, non
 use Rattle.obligations.proofs.Folds.{length-crossed}
 use Rattle.obligations.proofs.Handlers.{gap_from_none, none_from_gap, none_from_overlap, overlap_from_none}
 use Rattle.obligations.proofs.LeftToIdle.{batch_from_none, filter_from_none, none_from_batch, none_from_filter}
+use Rattle.obligations.proofs.RestGaps.{gap_left_from_none, none_from_gap_left}
 use Rattle.obligations.proofs.Refuted.{no_solution_refutes, none_refutes_no_solution}
 
 module _ (p : Meaning) (is : IsResolved p) where
@@ -30,6 +31,7 @@ module _ (p : Meaning) (is : IsResolved p) where
   none_where_met (no_gap e) = none_from_gap p is e
   none_where_met filter_leaves_last = none_from_filter p is
   none_where_met batch_leaves_last = none_from_batch p is p.batch is.batch
+  none_where_met (rest_gap gap) = none_from_gap_left p is gap
 
   met_where_none : (s : Statement) → NoneRefutes p s → IsMet p s
   met_where_none idle_sees_overloaded = sees_from_none p is
@@ -40,6 +42,7 @@ module _ (p : Meaning) (is : IsResolved p) where
   met_where_none (no_gap e) = gap_from_none p is e
   met_where_none filter_leaves_last = filter_from_none p is
   met_where_none batch_leaves_last = batch_from_none p is p.batch
+  met_where_none (rest_gap gap) = gap_left_from_none p is gap
 
 pub refutations_are_theirs : RefutationsAreTheirs
 refutations_are_theirs p is s = (none_where_met p is s, met_where_none p is s)

@@ -1,13 +1,14 @@
 -- All expressions of a refutation are linear.
-use Rattle.std.proofs.Common.{ℕ, suc, ◌^◌, ◌≤◌, eqb, pos, ◌+ℤ◌, ◌*ℤ◌, Bool, true, false, cond, List, [], ◌∷◌, All, map, Option, None, Some, refl, sym, subst, arith}
+use Rattle.std.proofs.Common.{ℕ, suc, min, ◌^◌, ◌≤◌, eqb, pos, ◌+ℤ◌, ◌*ℤ◌, Bool, true, false, cond, List, [], ◌∷◌, All, map, Option, None, Some, refl, sym, subst, arith}
 use Rattle.std.proofs.lemmas.List.{map-append}
 use Rattle.std.specs.List.{AllByRecursion}
 use Rattle.std.proofs.lemmas.Int.{ints}
+use Rattle.sched_base.specs.declared.limits.TheConstants.{MAX_LOAD}
 use Rattle.policy_tree.specs.declared.typed.Event.{Event}
 use Rattle.policy_tree.specs.Meaning.{BatchTree, CaseTree, Meaning, cases_on}
 use Rattle.policy_tree.specs.Trees.{CondTree, ExprTree, both, negated, variable, plus, times}
 use Rattle.policy_eval.specs.Forms.{EachSide, IsLinear, IsSmall}
-use Rattle.policy_eval.specs.Obligations.{Statement, idle_sees_overloaded, victim_is_overloaded, move_narrows_gap, further_move_narrows_gap, no_overlap, no_gap, filter_leaves_last, batch_leaves_last}
+use Rattle.policy_eval.specs.Obligations.{Statement, idle_sees_overloaded, victim_is_overloaded, move_narrows_gap, further_move_narrows_gap, no_overlap, no_gap, filter_leaves_last, batch_leaves_last, rest_gap}
 use Rattle.policy_eval.specs.Ranges.{greatest_weight, least_weight}
 use Rattle.policy_eval.specs.Resolved.{HasResolvedBatch, IsResolved, IsResolvedCase, IsResolvedExpr}
 use Rattle.policy_eval.specs.Sites.{filtering, going_on, handling}
@@ -67,6 +68,15 @@ and_whole-linear w v small = (
   whole-linear w small,
   record { constant = record { above = omega (arith, ints); below = omega (arith, ints) }; coefficients = λ at. unit_and_none (eqb v at) },
 )
+
+-- a variable and one more than a gap
+and_gap-linear : (v gap : ℕ) → IsLinear (plus (variable v) (whole (suc (min gap MAX_LOAD))))
+and_gap-linear v gap =
+    let small : min gap MAX_LOAD ≤ MAX_LOAD = omega arith in (
+      tt,
+      record { above = omega (arith, ints); below = omega (arith, ints) },
+      record { constant = record { above = omega (arith, ints); below = omega (arith, ints) }; coefficients = λ at. unit_and_none (eqb v at) },
+    )
 
 -- a variable and another
 two-linear : (v u : ℕ) → IsLinear (plus (variable v) (variable u))
@@ -157,3 +167,4 @@ module _ (p : Meaning) (is : IsResolved p) where
   refutation-linear filter_leaves_last =
       (((load_fits-linear 0 1, load_fits-linear 2 3), ((tt, whole-linear 2 (omega arith)), (tt, whole-linear 1 (omega arith)))), filter-linear)
   refutation-linear batch_leaves_last = last-linear p.batch is.batch
+  refutation-linear (rest_gap gap) = (((load_fits-linear 0 1, load_fits-linear 2 3), (tt, and_gap-linear 1 gap)), filter-linear)

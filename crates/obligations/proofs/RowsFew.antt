@@ -9,12 +9,12 @@ use Rattle.policy_tree.specs.declared.typed.Load.{Load}
 use Rattle.policy_tree.specs.Meaning.{BatchTree, CaseTree, Meaning, cases_on}
 use Rattle.policy_tree.specs.Trees.{CondTree, always, negated, both, either, test, minus}
 use Rattle.policy_eval.specs.Forms.{comparisons_of}
-use Rattle.policy_eval.specs.Obligations.{Statement, idle_sees_overloaded, victim_is_overloaded, move_narrows_gap, further_move_narrows_gap, no_overlap, no_gap, filter_leaves_last, batch_leaves_last}
+use Rattle.policy_eval.specs.Obligations.{Statement, idle_sees_overloaded, victim_is_overloaded, move_narrows_gap, further_move_narrows_gap, no_overlap, no_gap, filter_leaves_last, batch_leaves_last, rest_gap}
 use Rattle.policy_eval.specs.Resolved.{HasResolvedBatch, IsResolved, IsResolvedCase}
 use Rattle.linear_form.specs.declared.form.Row.{Row}
 use Rattle.obligations.specs.Cases.{asked, cases_of, cases_of_test, crossed}
 use Rattle.obligations.specs.Forms.{LinearForm, form_of}
-use Rattle.obligations.specs.Refutations.{all_of, any_of, both_of, busier_beside_two, busy_beside_two, cores_fit, gap_is_small, goes_on_to_last, guards_on, has_thread, idle_and_overloaded, moves_over_small_gap, pairs_of, victim_has_one, victim_has_thread}
+use Rattle.obligations.specs.Refutations.{all_of, any_of, both_of, busier_beside_two, busy_beside_two, cores_fit, gap_is_small, gap_is_wide, goes_on_to_last, guards_on, has_thread, idle_and_overloaded, moves_over_small_gap, pairs_of, victim_has_one, victim_has_thread}
 use Rattle.obligations.specs.Systems.{refuting_cases}
 use Rattle.obligations.proofs.Kept.{AllByRecursion-append, AllByRecursion-mono}
 
@@ -128,3 +128,4 @@ module _ (p : Meaning) (is : IsResolved p) where
       (gaps_short p.load (guards_on p e) (guards_few e (cases_on p.handlers e) (is.handlers e).cases))
   refuting_cases_short filter_leaves_last = with_condition_short (both (cores_fit p.load) busy_beside_two) p.filter true (omega arith) is.filter.few
   refuting_cases_short batch_leaves_last = last_short p.batch is.batch
+  refuting_cases_short (rest_gap gap) = with_condition_short (both (cores_fit p.load) (gap_is_wide gap)) p.filter false (omega arith) is.filter.few

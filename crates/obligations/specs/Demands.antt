@@ -12,3 +12,4 @@ statement_seen (statement.NoOverlap e) = owed.no_overlap e
 statement_seen (statement.NoGap e) = owed.no_gap e
 statement_seen statement.FilterLeavesLast = owed.filter_leaves_last
 statement_seen statement.BatchLeavesLast = owed.batch_leaves_last
+statement_seen (statement.RestGap gap) = owed.rest_gap gap

@@ -1,6 +1,7 @@
 -- The condition under which a statement of a policy fails: where it holds of some numbers in the policy's ranges, the
 -- statement is refuted.
-use Rattle.std.specs.Prelude.{ℕ, pos, List, [], ◌∷◌, ◌++◌, map, Option, None, Some}
+use Rattle.std.specs.Prelude.{ℕ, suc, min, pos, List, [], ◌∷◌, ◌++◌, map, Option, None, Some}
+use Rattle.sched_base.specs.declared.limits.TheConstants.{MAX_LOAD}
 use Rattle.policy_tree.specs.declared.trees.Cmp.TheVariants as cmp
 use Rattle.policy_tree.specs.declared.typed.Event.{Event}
 use Rattle.policy_tree.specs.declared.typed.Load.{Load}
@@ -9,7 +10,7 @@ use Rattle.policy_tree.specs.Trees.{CondTree, ExprTree, always, negated, both, e
 use Rattle.policy_tree.specs.Trees.{times}
 use Rattle.policy_eval.specs.Obligations.{Statement, idle_sees_overloaded, victim_is_overloaded, move_narrows_gap}
 use Rattle.policy_eval.specs.Obligations.{further_move_narrows_gap, no_overlap, no_gap, filter_leaves_last}
-use Rattle.policy_eval.specs.Obligations.{batch_leaves_last}
+use Rattle.policy_eval.specs.Obligations.{batch_leaves_last, rest_gap}
 use Rattle.policy_eval.specs.Ranges.{greatest_weight, least_weight}
 use Rattle.policy_tree.specs.declared.variables.TheConstants.{SELF_NR, SELF_LOAD, OTHER_NR, OTHER_LOAD, WEIGHT}
 
@@ -46,6 +47,11 @@ has_thread load =
 -- the gap between the loads is no greater than the weight
 abbrev pub gap_is_small : CondTree
 gap_is_small = test cmp.Le (variable OTHER_LOAD) (plus (variable SELF_LOAD) (variable WEIGHT))
+
+-- victim's load is greater than self's by more than that. No load is greater than another by more than the greatest
+abbrev pub gap_is_wide : ℕ → CondTree
+gap_is_wide gap =
+    test cmp.Ge (variable OTHER_LOAD) (plus (variable SELF_LOAD) (whole (suc (min gap MAX_LOAD))))
 
 -- victim has a thread
 abbrev pub victim_has_thread : CondTree
@@ -104,3 +110,4 @@ refutation p (no_overlap e) = any_of (map both_of (pairs_of (guards_on p e)))
 refutation p (no_gap e) = all_of (map negated (guards_on p e))
 refutation p filter_leaves_last = both (both (cores_fit p.load) busy_beside_two) p.filter
 refutation p batch_leaves_last = goes_on_to_last p.load p.batch
+refutation p (rest_gap gap) = both (both (cores_fit p.load) (gap_is_wide gap)) (negated p.filter)

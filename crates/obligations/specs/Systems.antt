@@ -6,7 +6,7 @@ use Rattle.sched_base.specs.declared.limits.TheConstants.{MAX_THREADS, MAX_VARIA
 use Rattle.policy_tree.specs.Meaning.{Meaning}
 use Rattle.policy_eval.specs.Obligations.{Statement, idle_sees_overloaded, victim_is_overloaded, move_narrows_gap}
 use Rattle.policy_eval.specs.Obligations.{further_move_narrows_gap, no_overlap, no_gap, filter_leaves_last}
-use Rattle.policy_eval.specs.Obligations.{batch_leaves_last}
+use Rattle.policy_eval.specs.Obligations.{batch_leaves_last, rest_gap}
 use Rattle.policy_eval.specs.Ranges.{Range, attribute_ranges, greatest_weight, least_weight, range}
 use Rattle.linear_form.specs.declared.form.Term.{Term}
 use Rattle.linear_form.specs.declared.form.Row.{Row}
@@ -47,6 +47,7 @@ always_has (no_overlap e) v = false
 always_has (no_gap e) v = false
 always_has filter_leaves_last v = nat_lt v WEIGHT
 always_has batch_leaves_last v = nat_lt v WEIGHT
+always_has (rest_gap gap) v = nat_lt v WEIGHT
 
 -- the variable occurs in a row of a case
 abbrev pub occurs : ℕ → List (List Row) → Bool

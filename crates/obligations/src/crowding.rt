@@ -33,7 +33,7 @@ fn case_count(policy: &Policy, statement: Statement) -> u32
     ensures { result ≡ reported (case_count (meaning_of policy.now) (statement_seen statement)) }
 {
     match statement {
-        Statement::IdleSeesOverloaded => count(&policy.filter, false),
+        Statement::IdleSeesOverloaded | Statement::RestGap(_) => count(&policy.filter, false),
         Statement::VictimIsOverloaded | Statement::MoveNarrowsGap | Statement::FilterLeavesLast =>
             count(&policy.filter, true),
         Statement::FurtherMoveNarrowsGap | Statement::BatchLeavesLast => {

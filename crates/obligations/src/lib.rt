@@ -17,6 +17,7 @@ mod obligation;
 mod placing;
 mod premises;
 mod refuting;
+mod rest_gaps;
 mod rows;
 mod statements;
 
@@ -25,3 +26,4 @@ pub use last_threads::{LastWaiting, last_waiting};
 pub use making::{ObligeFault, oblige, oblige_one};
 pub use names::{OB_NAME_ROOM, ObName, ob_name, ob_names};
 pub use obligation::{Obligation, Obligations, Question, SystemList, VarList};
+pub use rest_gaps::{greatest_load, rest_gap};

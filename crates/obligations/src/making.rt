@@ -179,7 +179,8 @@ fn always_count(statement: Statement) -> usize
         | Statement::MoveNarrowsGap
         | Statement::FurtherMoveNarrowsGap
         | Statement::FilterLeavesLast
-        | Statement::BatchLeavesLast => WEIGHT as usize,
+        | Statement::BatchLeavesLast
+        | Statement::RestGap(_) => WEIGHT as usize,
         Statement::NoOverlap(_) | Statement::NoGap(_) => 0,
     }
 }

@@ -5,12 +5,13 @@ ghost use Rattle.policy_tree.specs.declared.trees.Cmp.TheVariants as cmp;
 ghost use Rattle.policy_tree.specs.declared.variables.TheConstants.{OTHER_NR};
 ghost use Rattle.policy_tree.specs.Trees.{both, cond_tree, expr_tree, plus, test, times, variable};
 ghost use Rattle.policy_eval.specs.Ranges.{greatest_weight, least_weight};
-ghost use Rattle.obligations.specs.Refutations.{busier_beside_two, busy_beside_two, cores_fit, gap_is_small};
+ghost use Rattle.obligations.specs.Refutations.{busier_beside_two, busy_beside_two, cores_fit, gap_is_small, gap_is_wide};
 ghost use Rattle.obligations.specs.Refutations.{has_thread, idle_and_overloaded, load_fits, victim_has_one};
 ghost use Rattle.obligations.specs.Refutations.{victim_has_thread, whole};
 
 use policy_tree::variables::{OTHER_LOAD, OTHER_NR, SELF_LOAD, SELF_NR, WEIGHT};
 use policy_tree::{Cmp, Cond, Expr, Load};
+use sched_base::MAX_LOAD;
 use std::alloc::{AllocError, Global};
 
 /// An idle core, and an overloaded one.
@@ -68,6 +69,16 @@ pub fn busier_beside_two(alloc: Global, load: Load) -> Result<Cond, AllocError>
     let counts = both(alloc, at_most_two(), busier)?;
     let rest = both(alloc, some, counts)?;
     both(alloc, cores_fit(alloc, load)?, rest)
+}
+
+/// A victim whose load is greater by more than the gap.
+pub fn wide_gap(alloc: Global, load: Load, gap: u32) -> Result<Cond, AllocError>
+    ensures { IfOk result (λ c. cond_tree c ≡ both (cores_fit load) (gap_is_wide gap)) }
+{
+    let wider = Expr::Num(i64::from(gap.min(MAX_LOAD)) + 1);
+    let past = sum(alloc, Expr::Var(SELF_LOAD), wider)?;
+    let wide = Cond::Test(Cmp::Ge, Expr::Var(OTHER_LOAD), past);
+    both(alloc, cores_fit(alloc, load)?, wide)
 }
 
 fn at_most_two() -> Cond

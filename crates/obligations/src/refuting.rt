@@ -19,7 +19,7 @@ use crate::crossing::{cases_of_always, crossed, joined};
 use crate::crowding::gap_count;
 use crate::premises::{
     busier_beside_two, busy_beside_two, idle_beside_overloaded, next_and_small_gap,
-    thread_and_small_gap, victim_of_one,
+    thread_and_small_gap, victim_of_one, wide_gap,
 };
 use crate::rows::Rows;
 use crate::statements::Statement;
@@ -59,6 +59,10 @@ pub fn refuting_cases(
             with_condition(alloc, load, &premise, &policy.filter, true)
         }
         Statement::BatchLeavesLast => last_cases(alloc, load, &policy.batch),
+        Statement::RestGap(gap) => {
+            let premise = wide_gap(alloc, load, gap)?;
+            with_condition(alloc, load, &premise, &policy.filter, false)
+        }
     }
 }
 

@@ -7,7 +7,8 @@ ghost use Rattle.obligations.specs.Names.{statement_of};
 use crate::names::ObName;
 use policy_tree::Event;
 
-/// What is asked of a policy: what it owes, and who may take the last waiting thread of a core.
+/// What is asked of a policy: what it owes, who may take the last waiting thread of a core, and how wide a gap between
+/// two loads the filter leaves.
 #[derive(Clone, Copy)]
 pub enum Statement {
     IdleSeesOverloaded,
@@ -18,6 +19,7 @@ pub enum Statement {
     NoGap(Event),
     FilterLeavesLast,
     BatchLeavesLast,
+    RestGap(u32),
 }
 
 /// The statement that goes by that name.

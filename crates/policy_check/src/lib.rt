@@ -1,4 +1,4 @@
-//! Checks a policy's text: the answers of `check`, `explain` and `verify`, and how each is written.
+//! Checks a policy's text: the answers of `check`, `explain`, `bound`, `rest` and `verify`, and how each is written.
 #![tactic(auto)]
 
 mod answer;
@@ -7,6 +7,7 @@ mod explaining;
 mod lines;
 mod points;
 mod reading;
+mod resting;
 mod text_lines;
 mod verifying;
 
@@ -14,5 +15,6 @@ pub use answer::{CheckAnswer, check_text};
 pub use bounding::{BoundAnswer, Bounding, bound_text};
 pub use explaining::{ExplainAnswer, Explanation, explain_text};
 pub use reading::{CheckMemory, Refusal};
+pub use resting::{RestAnswer, Resting, rest_text};
 pub use text_lines::put_text;
 pub use verifying::{VerifyAnswer, verify_text};

@@ -34,7 +34,7 @@ pub(crate) fn failing_line(
 }
 
 /// Adds the variables with their values.
-fn add_values(
+pub(crate) fn add_values(
     line: &mut Vec<u8>,
     policy: &Policy,
     vars: &[u32],

@@ -6,5 +6,6 @@ pub mod Named
 pub mod Nearer
 pub mod Places
 pub mod Points
+pub mod RestGaps
 pub mod True
 pub mod Worth

@@ -1,5 +1,5 @@
 -- No value is farther from 0: this holds of a list and itself, and goes on from list to list.
-use Rattle.std.proofs.Common.{◌≤◌, ℤ, List, [], ◌∷◌, arith, unsigned_abs}
+use Rattle.std.proofs.Common.{ℤ, List, [], ◌∷◌, arith}
 use Rattle.linear_form.specs.Solution.{Solves}
 use Rattle.linear_form.specs.System.{LinearSystem}
 use Rattle.policy_checker.specs.Smaller.{AreNearer, IsSmaller}

@@ -9,7 +9,6 @@ use Rattle.obligations.specs.Names.{ob_names, statement_of}
 use Rattle.obligations.specs.Systems.{systems_of}
 use Rattle.policy_checker.specs.Certified.{Certifies, KeepAll, Keeps, KeepsCertificates}
 use Rattle.policy_checker.specs.declared.answer.Answered.{Answered}
-use Rattle.policy_checker.specs.declared.answer.ObAnswer.{ObAnswer}
 use Rattle.policy_checker.specs.declared.answer.ObAnswer.TheVariants as answer
 use Rattle.policy_checker.proofs.Kept.{refuted_trees}
 

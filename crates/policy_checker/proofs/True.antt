@@ -37,7 +37,7 @@ all_unsolved [] (tree ∷ trees) all = absurd all
 all_unsolved (system ∷ systems) [] all = absurd all
 all_unsolved (system ∷ systems) (tree ∷ trees) all = (none_solves system tree all.0, all_unsolved systems trees all.1)
 
-certified_unsolved : (budget : ℕ) (systems : List LinearSystem) (certs : List Cert) → AllRefuted budget systems certs → AllByRecursion Unsolved systems
+pub certified_unsolved : (budget : ℕ) (systems : List LinearSystem) (certs : List Cert) → AllRefuted budget systems certs → AllByRecursion Unsolved systems
 certified_unsolved budget [] [] all = tt
 certified_unsolved budget [] (cert ∷ certs) all = absurd all
 certified_unsolved budget (system ∷ systems) [] all = absurd all

@@ -5,5 +5,6 @@ pub mod Laws
 pub mod Outcomes
 pub mod Playable
 pub mod Refuted
+pub mod RestGaps
 pub mod Smaller
 pub mod Verdicts

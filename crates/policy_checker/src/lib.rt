@@ -10,6 +10,7 @@ mod last_threads;
 mod laws;
 mod one;
 mod playing;
+mod rest_gaps;
 mod smaller;
 mod verdict;
 
@@ -22,4 +23,5 @@ pub use laws::{
 };
 pub use one::{One, OneFault, check_one};
 pub use playing::{PlayablePolicy, playable};
+pub use rest_gaps::{LeastGap, WiderGap, check_gap, least_gap};
 pub use verdict::{CheckFault, Verdict};

@@ -37,6 +37,11 @@ returns-in-Bound-clause-loads g c =
     subst (λ request. FirstAreLoaded (asked request) (g.F.Files.told c.args.files.now) (g.F.Files.requested c.args.files.now) (g.F.Files.requested c.bound.new.files))
     (sym c.in-Bound.is) (record { count = 1; loaded = c.bound.ensures.loads; goes_on = tt })
 
+pub returns-in-Rest-clause-loads : goal.returns-in-Rest-clause-loads
+returns-in-Rest-clause-loads g c =
+    subst (λ request. FirstAreLoaded (asked request) (g.F.Files.told c.args.files.now) (g.F.Files.requested c.args.files.now) (g.F.Files.requested c.rest.new.files))
+    (sym c.in-Rest.is) (record { count = 1; loaded = c.rest.ensures.loads; goes_on = tt })
+
 pub returns-in-Emit-clause-loads : goal.returns-in-Emit-clause-loads
 returns-in-Emit-clause-loads g c =
     subst (λ request. FirstAreLoaded (asked request) (g.F.Files.told c.args.files.now) (g.F.Files.requested c.args.files.now) (g.F.Files.requested c.export_file-in-Emit.new.files))

@@ -35,3 +35,6 @@ with_condition-requires-in-FilterLeavesLast-clause-condition c = filter-linear (
 
 pub last_cases-requires-clause-batch : goal.last_cases-requires-clause-batch
 last_cases-requires-clause-batch c = let p = meaning_of c.args.policy.now in last-linear p c.requires p.batch c.requires.batch
+
+pub with_condition-requires-in-RestGap-clause-condition : goal.with_condition-requires-in-RestGap-clause-condition
+with_condition-requires-in-RestGap-clause-condition c = filter-linear (meaning_of c.args.policy.now) c.requires

@@ -1,6 +1,5 @@
 -- A policy is told to have an obligation with too many cases exactly where it has one, and one of differences is decided.
-use Rattle.std.proofs.Common.{◌≡◌, List, ap, subst, ◌∙◌}
-use Rattle.linear_form.specs.System.{LinearSystem}
+use Rattle.std.proofs.Common.{ap, subst, ◌∙◌}
 use Rattle.policy_tree.specs.Meaning.{meaning_of}
 use Rattle.policy_eval.specs.Obligations.{batch_leaves_last, filter_leaves_last}
 use Rattle.obligations.specs.declared.last_threads.LastWaiting.{LastWaiting}

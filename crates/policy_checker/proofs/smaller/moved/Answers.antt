@@ -1,5 +1,5 @@
 -- One value after another is no farther from 0.
-use Rattle.std.proofs.Common.{[], ◌∷◌, ◌++◌, ◌+◌, ◌∙◌, ◌≡◌, ◌≤◌, ◌<◌, ◌^◌, ap, ℤ, List, length, pos, slice_index_or, subst, sym, take, to_z, of_z, unsigned_abs, FitsSigned, arith, rules}
+use Rattle.std.proofs.Common.{[], ◌∷◌, ◌++◌, ◌+◌, ◌∙◌, ◌≡◌, ◌≤◌, ◌<◌, ◌^◌, ap, ℤ, List, length, pos, slice_index_or, subst, sym, take, unsigned_abs, FitsSigned, arith, rules}
 use Rattle.std.specs.Int.{w64}
 use Rattle.std.proofs.lemmas.Int.{to_z-of_z}
 use Rattle.std.proofs.lemmas.List.{length-take-le, take_more}
