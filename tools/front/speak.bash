@@ -1,7 +1,7 @@
 # What the front adds to the program's answers, on standard error alone: its status and its output stay as they are. To be read by a
 # script of bash that has set `front`, the folder of this file. Sentences on a fault need python3; without it they are left out.
 
-commands=(check explain prove bound emit verify play run crew simulate waste replay report migrate make bench)
+commands=(check explain prove bound rest emit verify play run crew simulate waste replay report migrate make bench)
 obligations=(B1 B2 B3 B4 {H1,H2}.{enqueue,tick,yield,block})
 
 say() {
@@ -15,6 +15,7 @@ usage_of() {
     explain) say '  ipanema explain POLICY NAME             does that obligation hold? if not, numbers at which it fails' ;;
     prove) say '  ipanema prove POLICY                    write the certificates of an accepted policy, which anyone can verify' ;;
     bound) say '  ipanema bound POLICY                    what bounds the rounds that the policy may waste?' ;;
+    rest) say '  ipanema rest POLICY                     how far may the loads of cores differ that steal no more?' ;;
     emit) say '  ipanema emit POLICY                     write the rules of an accepted policy as a header in C' ;;
     verify) say '  ipanema verify POLICY CERTS             do these certificates prove the policy? no solver is asked' ;;
     play) say '  ipanema play POLICY TRACE               play the trace, core after core, and write the history' ;;
