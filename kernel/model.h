@@ -15,6 +15,7 @@ struct model_core {
 	u32 taken;			/* another class has its CPU */
 	s32 victim;			/* of its choice */
 	u64 moved;			/* when its phase changed last */
+	u64 let_in;			/* the place of whom it let in last in this round */
 	u32 reads[CPUS];
 	struct P(core) self, other;	/* of an attempt; on the stack the verifier would count with their values */
 };

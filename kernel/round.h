@@ -4,21 +4,27 @@
 /* As many are let in by a core in one round; the others come in the next. */
 #define ENTRANTS 64
 
+/* Whether the task comes to this core, and its place among those that do: new ones first, in their order, and then those that wake, in
+ * the order in which they fell asleep. Places begin with 1.
+ */
 static __always_inline bool is_coming_to(struct note *note, s32 cpu, u64 *place)
 {
 	struct model_thread *t = numbered(note->number);
 
-	if (note->fresh) {			/* new ones first, in their order, and then those whose sleep began first */
-		*place = note->arrival;
+	if (note->fresh) {
+		*place = note->arrival + 1;
 		return note->cpu == cpu;
 	}
 	*place = 1ULL << 32 | t->slept;
 	return !t->inside && t->core == cpu;	/* else its sleep isn't an entry yet */
 }
 
-/* The slot of the task that this core is to let in next, 0 where there is none. */
+/* The slot of the task that this core is to let in next, 0 where there is none. Who comes meanwhile and would have been before one that
+ * is in already has to wait for the next round.
+ */
 __weak __noinline u32 next_coming(s32 cpu)
 {
+	struct model_core *c = at(cpu);
 	struct task_struct *p;
 	u64 least = ~0ULL;
 	u32 slot = 0;
@@ -28,12 +34,14 @@ __weak __noinline u32 next_coming(s32 cpu)
 		struct note *note = note_of(p);
 		u64 place;
 
-		if (note && is_coming_to(note, cpu, &place) && place < least) {
+		if (note && is_coming_to(note, cpu, &place) && place > c->let_in && place < least) {
 			least = place;
 			slot = note->slot;
 		}
 	}
 	bpf_rcu_read_unlock();
+	if (slot)
+		c->let_in = least;
 	return slot;
 }
 
@@ -128,6 +136,7 @@ __weak __noinline u32 let_all_in(s32 cpu)
 {
 	u32 i;
 
+	at(cpu)->let_in = 0;
 	bpf_for(i, 0, ENTRANTS) {
 		u32 slot = numbers < THREADS - 1 ? next_coming(cpu) : 0;
 

@@ -49,11 +49,18 @@ static __always_inline void wake_thieves(s32 cpu)
 			scx_bpf_kick_cpu(i, 0);
 }
 
-/* How the unit ended, and NOT_YET where it goes on. A unit is overdue where another class has the CPU: its thread had no time in it. */
+/* How the unit ended, and NOT_YET where it goes on. That a thread sleeps or is gone stays settled until it is let in again: else it could
+ * be taken for one that runs, should it wake before this is an entry. A unit is overdue where another class has the CPU: then its thread
+ * had no time in it.
+ */
 static __always_inline u32 ending_of(struct model_core *c, struct model_thread *t, u32 late)
 {
-	if (t->ending != NOT_YET)
-		return __sync_lock_test_and_set(&t->ending, NOT_YET);
+	u32 ending = *(volatile u32 *)&t->ending;
+
+	if (ending == TICK || ending == YIELDED)
+		return __sync_val_compare_and_swap(&t->ending, ending, NOT_YET);
+	if (ending != NOT_YET)
+		return ending;
 	if (!late || t->on || bpf_ktime_get_ns() - c->moved <= settings.unit)
 		return NOT_YET;
 	c->taken = 1;

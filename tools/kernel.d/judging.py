@@ -27,7 +27,7 @@ Judged = namedtuple("Judged", "verdict totals threads rounds kept recorded cut r
 
 
 class Thread:
-    """What became of one thread so far."""
+    """What became of one thread so far. A trace has no 0, so where a wrong scheduler would need one there is a 1: then the judge finds it."""
 
     def __init__(self, entry):
         self.core, self.begun, self.weight = entry.core, entry.round, entry.weight
@@ -37,16 +37,16 @@ class Thread:
         self.units += 1
         outcome = entry.outcome & (AFTER_YIELD - 1)
         if entry.outcome & AFTER_YIELD:
-            self.bursts.append(f"run {self.units} yield")
+            self.bursts.append(f"run {max(self.units, 1)} yield")
             self.units = 0
         elif outcome == BLOCK:
             self.slept_in = entry.round
         elif outcome == END:
-            self.bursts.append(f"run {self.units}")
+            self.bursts.append(f"run {max(self.units, 1)}")
             self.ended = True
 
     def wake(self, number):
-        self.bursts.append(f"run {self.units} block {number - self.slept_in}")
+        self.bursts.append(f"run {max(self.units, 1)} block {max(number - (self.slept_in or number), 1)}")
         self.units, self.slept_in = 0, None
 
     def program(self, rounds):
@@ -54,7 +54,7 @@ class Thread:
         if self.ended:
             return self.bursts
         if self.slept_in is not None:
-            return [*self.bursts, f"run {self.units} block {rounds - self.slept_in + 1}", "forever"]
+            return [*self.bursts, f"run {max(self.units, 1)} block {rounds - self.slept_in + 1}", "forever"]
         return [*self.bursts, "forever"]
 
 
@@ -102,6 +102,10 @@ def rounds_of(entries):
     return rounds
 
 
+def is_complete(one_round, cores):
+    return sum(entry.kind in ATTEMPTS for entry in one_round) >= cores
+
+
 def moves_someone(one_round):
     return any(entry.kind in (ENTER, WAKE) or entry.threads and entry.kind in (WORK, STEAL) for entry in one_round)
 
@@ -126,9 +130,9 @@ def cut(record):
     length, thread = bursts_end(rounds)
     if thread is not None:
         rounds, why = rounds[:length], f"thread {thread} has more bursts than a trace takes, from round {length + 1} on"
-    if rounds and sum(entry.kind in ATTEMPTS for entry in rounds[-1]) < record.cores:
+    if rounds and not is_complete(rounds[-1], record.cores):
         rounds.pop()
-    while len(rounds) > 1 and not moves_someone(rounds[-1]):
+    while len(rounds) > 1 and is_complete(rounds[-1], record.cores) and not moves_someone(rounds[-1]):
         rounds.pop()
     while sum(map(len, rounds)) > MOST_ENTRIES:
         rounds, why = rounds[:-1], "a history has at most 65536 entries"
