@@ -2,8 +2,8 @@
 /* Loads the scheduler, runs a workload or a command under it, unloads it, and writes the record.
  *
  * loader OBJECT RECORD SECONDS [unit N] [period N] WORKLOAD, or in its place `--` and a command. Where OBJECT is `none`, Linux's own
- * scheduler is left, and no record is written. `loader check WORKLOAD` only reads the workload. When this process ends in whatever way,
- * the kernel unloads the scheduler. Status: 0, 1 where something went wrong, which is said, 2 for bad words or a bad workload.
+ * scheduler is left, and no record is written. When this process ends in whatever way, the kernel unloads the scheduler. Status: 0, 1
+ * where something went wrong, which is said, 2 for bad words or a bad workload.
  */
 #define _GNU_SOURCE
 #include <bpf/bpf.h>
@@ -25,7 +25,7 @@ static struct workload workload = { .settings = { .unit = 4000000, .period = 100
 static struct facts facts;
 static unsigned long long counters[COUNTERS];
 static volatile sig_atomic_t told_to_end;
-static char verifier_says[1 << 16];
+static char reason[512];		/* why the verifier refused the scheduler */
 
 static void note_end(int number)
 {
@@ -39,15 +39,32 @@ static void pause_milliseconds(long milliseconds)
 	nanosleep(&time, NULL);
 }
 
-/* Keeps the end of what libbpf says, in which the verifier's reason stands. */
-static int keep_words(enum libbpf_print_level level, const char *form, va_list rest)
+/* The verifier's reason is the first line behind the last instruction that it looked at, whose line begins with a number. */
+static void find_reason(char *log)
+{
+	char *rest, *line;
+	bool behind = false;
+
+	for (line = strtok_r(log, "\n", &rest); line; line = strtok_r(NULL, "\n", &rest)) {
+		if (*line >= '0' && *line <= '9' && line[strspn(line, "0123456789")] == ':') {
+			behind = true;
+		} else if (behind && *line != ';') {
+			snprintf(reason, sizeof reason, "%s", line);
+			behind = false;
+		}
+	}
+}
+
+/* Listens to libbpf, which tells what the verifier said. */
+static int keep_reason(enum libbpf_print_level level, const char *form, va_list rest)
 {
 	char *text;
 	int length;
 
 	if (level == LIBBPF_DEBUG || (length = vasprintf(&text, form, rest)) < 0)
 		return 0;
-	snprintf(verifier_says, sizeof verifier_says, "%s", length < (int)sizeof verifier_says ? text : text + length - sizeof verifier_says + 1);
+	if (strstr(text, "BEGIN PROG LOAD LOG"))
+		find_reason(text);
 	free(text);
 	return length;
 }
@@ -71,17 +88,21 @@ static bool read_state(char *state, int size)
 	return there;
 }
 
-static bool is_free(void)
+static bool say_taken(void)
+{
+	fprintf(stderr, "kernel: another scheduler of sched_ext is loaded\n");
+	return false;
+}
+
+static bool may_load(void)
 {
 	char state[64];
 
-	if (!read_state(state, sizeof state))
-		return false;
-	if (strcmp(state, "disabled")) {
-		fprintf(stderr, "kernel: another scheduler of sched_ext is loaded\n");
+	if (geteuid()) {
+		fprintf(stderr, "kernel: only root may load a scheduler\n");
 		return false;
 	}
-	return true;
+	return read_state(state, sizeof state) && (!strcmp(state, "disabled") || say_taken());
 }
 
 static struct bpf_map *map_named(struct bpf_object *object, const char *name)
@@ -119,7 +140,7 @@ static struct bpf_object *load(const char *name)
 		return NULL;
 	}
 	if (bpf_object__load(object)) {
-		fprintf(stderr, "%s\nkernel: the kernel's verifier refused the scheduler\n", verifier_says);
+		fprintf(stderr, "kernel: the kernel refused the scheduler: %s\n", *reason ? reason : strerror(errno));
 	} else if (bpf_map_lookup_elem(bpf_map__fd(map_named(object, "data.facts")), &key, &facts)) {
 		fail("the policy's facts can't be read");
 	} else {
@@ -197,11 +218,12 @@ static int run_under(struct bpf_object *object, const char *record, double secon
 		return 1;
 	link = bpf_map__attach_struct_ops(bpf_object__find_map_by_name(object, "balancer"));
 	if (!link)
-		return !fail("the scheduler can't be loaded");
+		return !(errno == EBUSY ? say_taken() : fail("the scheduler can't be loaded"));
 	good = start_all(&workload, command);
 	how = good ? watch(ring, object, seconds) : "not started";
 	unload(object, link, ring);
 	end_all();
+	good = good && !command_is_missing();
 	return !write_record(record, libbpf_num_possible_cpus(), &facts, &workload.settings, counted(how)) || !good;
 }
 
@@ -241,8 +263,6 @@ int main(int word_count, char **words)
 	unsigned long long unit;
 	char **rest;
 
-	if (word_count == 3 && !strcmp(words[1], "check"))
-		return read_workload(&workload, words[2]) ? 0 : 2;
 	if (word_count < 5) {
 		fprintf(stderr, "kernel: loader OBJECT RECORD SECONDS [unit N] [period N] WORKLOAD\n");
 		return 2;
@@ -258,8 +278,8 @@ int main(int word_count, char **words)
 	sigaction(SIGHUP, &action, NULL);
 	if (!strcmp(words[1], "none"))
 		return run_alone(atof(words[3]), strcmp(rest[0], "--") ? NULL : rest + 1);
-	libbpf_set_print(keep_words);
-	if (!is_free() || !prepare_record() || !(object = load(words[1])))
+	libbpf_set_print(keep_reason);
+	if (!may_load() || !prepare_record() || !(object = load(words[1])))
 		return 1;
 	if (strcmp(rest[0], "--") && !fit_constants(&workload, rest[0], &facts))
 		return 2;

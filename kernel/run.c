@@ -22,6 +22,7 @@ static pthread_t runners[THREADS];
 static volatile int over;
 static double began, last_ended;
 static pid_t child;
+static int child_status;
 int class_of_threads = EXT_CLASS;	/* the usual one, where Linux's own scheduler is measured */
 
 static double seconds(clockid_t clock)
@@ -156,7 +157,7 @@ int count_left(void)
 {
 	int left = 0;
 
-	if (child && waitpid(child, NULL, WNOHANG) == child) {
+	if (child && waitpid(child, &child_status, WNOHANG) == child) {
 		child = 0;
 		last_ended = seconds(CLOCK_MONOTONIC) - began;
 	}
@@ -202,13 +203,18 @@ void end_all(void)
 		kill(-child, SIGTERM);
 		rest(200);
 		kill(-child, SIGKILL);
-		waitpid(child, NULL, 0);
+		waitpid(child, &child_status, 0);
 	}
 	for (int at = 0; at < run->plan_count; at++) {
 		pthread_join(runners[at], NULL);
 		if (run->plans[at].ended > last_ended && run->plans[at].kind != HOG)
 			last_ended = run->plans[at].ended;
 	}
+}
+
+bool command_is_missing(void)
+{
+	return WIFEXITED(child_status) && WEXITSTATUS(child_status) == 127;
 }
 
 double time_of_last(void)

@@ -17,6 +17,9 @@ void meddle(void);
 /* Lets busy threads end early, ends the command, and waits for all. */
 void end_all(void);
 
+/* Whether there is no such command. */
+bool command_is_missing(void);
+
 /* Seconds from the start until the last thread ended. */
 double time_of_last(void);
 

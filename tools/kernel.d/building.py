@@ -64,6 +64,15 @@ def build_scheduler(policy, folder, source=None, running=False):
     return made
 
 
+def build_checker():
+    """Compiles what reads a workload and does nothing else, where a source is newer than it. It needs none of the packages."""
+    checker, sources = OUT / "check", [SOURCES / "check.c", SOURCES / "workload.c"]
+    if not checker.exists() or checker.stat().st_mtime < max(file.stat().st_mtime for file in SOURCES.glob("*.[ch]")):
+        OUT.mkdir(parents=True, exist_ok=True)
+        run([needed("cc"), "-O2", "-Wall", "-Wextra", *sources, "-o", checker], "the workload's reader can't be compiled")
+    return checker
+
+
 def build_loader():
     """Compiles the loader, where a source is newer than it."""
     loader, sources = OUT / "loader", [SOURCES / f"{name}.c" for name in LOADER]

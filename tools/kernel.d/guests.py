@@ -54,7 +54,7 @@ def member(name, data, mode, number):
 
 def archive(files):
     """The root folder with these files, which may all be run."""
-    parts = [member(name, b"", 0o040755, at) for at, name in enumerate(["bin", "proc", "sys", "dev", "tmp"], 1)]
+    parts = [member(name, b"", 0o040755, at) for at, name in enumerate(["bin", "proc", "sys", "dev", "tmp", "etc"], 1)]
     parts += [member(name, data, 0o100755, at) for at, (name, data) in enumerate(files.items(), 10)]
     return gzip.compress(b"".join(parts) + member("TRAILER!!!", b"", 0, 0), 1)
 

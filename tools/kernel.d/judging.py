@@ -171,14 +171,23 @@ def trace_lines(record, threads, rounds):
         yield f"thread {number} core {thread.core} round {thread.begun} weight {thread.weight} {' '.join(thread.program(rounds))}"
 
 
+def write_file(file, text):
+    """Writes the file, and its folder where that isn't there."""
+    try:
+        file.parent.mkdir(parents=True, exist_ok=True)
+        file.write_text(text)
+    except OSError as error:
+        raise Refused(f"{file} can't be written: {error.strerror}") from error
+
+
 def convert(record, folder):
     """Writes trace and history, and gives their counts and what was cut off."""
     rounds, why = cut(record)
     entries = [entry for one_round in rounds for entry in one_round]
     threads = threads_of(entries)
     lines = [f"history 2 cores {record.cores}", *(history_line(entry, record.placed) for entry in entries)]
-    (folder / "trace").write_text("\n".join(trace_lines(record, threads, len(rounds))) + "\n")
-    (folder / "history").write_text("\n".join(lines) + "\n")
+    write_file(folder / "trace", "\n".join(trace_lines(record, threads, len(rounds))) + "\n")
+    write_file(folder / "history", "\n".join(lines) + "\n")
     return len(threads), len(rounds), len(entries), why
 
 
@@ -193,7 +202,6 @@ def judge_record(policy, text, keep=None):
     record = read_record(text)
     with tempfile.TemporaryDirectory(prefix="judge.") as name:
         folder = Path(keep or name)
-        folder.mkdir(parents=True, exist_ok=True)
         counts = convert(record, folder)
         verdict = judge(policy, folder / "trace", folder / "history")
         totals = totals_of(policy, folder) if verdict.word == "whole" else ""
