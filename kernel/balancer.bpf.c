@@ -65,7 +65,7 @@ static __always_inline u64 rest_of_unit(struct task_struct *p, struct note *note
 {
 	u64 ran = p->se.sum_exec_runtime - note->ran, enough = settings.unit - settings.unit / 8;
 
-	if (ran < enough)
+	if (ran < enough && !hurry)
 		return enough - ran;
 	note->ran = p->se.sum_exec_runtime;
 	settle(t, TICK);
@@ -246,9 +246,13 @@ static int look_after(void *map, u32 *key, struct ticker *clock)
 	u64 now = bpf_ktime_get_ns();
 	u32 i, k;
 
+	if (is_urgent())
+		hurry = 1;
 	bpf_for(i, 0, count) {
 		if (now - at(i)->moved < settings.period)
 			continue;
+		if (hurry && at(i)->phase == RUNNING)
+			scx_bpf_kick_cpu(i, SCX_KICK_PREEMPT);
 		bpf_for(k, 0, STEPS) {
 			if (!step(i, 1))
 				break;

@@ -39,6 +39,7 @@ u64 counters[COUNTERS] SEC(".data.counters");
 static struct model_core cores[CPUS];
 static struct model_thread threads[THREADS];
 static u32 count, round, start, entries, left, opening, numbers, slots, inside;
+static volatile u32 hurry;		/* units are cut short. Were it not volatile, clang would make one byte of it, and the kernel refuse its size */
 static u64 arrivals, sleeps;
 
 struct { __uint(type, BPF_MAP_TYPE_RINGBUF); __uint(max_entries, 1 << 24); } record SEC(".maps");

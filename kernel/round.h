@@ -176,6 +176,7 @@ __weak __noinline u32 open_round(void)
 		bpf_ringbuf_submit(e, 0);
 	bpf_for(i, 0, count)
 		let_all_in(i);
+	hurry = 0;
 	left = count;
 	bpf_for(i, 0, count)
 		enter_phase(at(i), READY);
@@ -183,6 +184,28 @@ __weak __noinline u32 open_round(void)
 	bpf_for(i, 0, count)
 		scx_bpf_kick_cpu(i, SCX_KICK_PREEMPT);
 	return 1;
+}
+
+/* Whether a core has so many threads. */
+__weak __noinline u32 has_core_with(u32 least, u32 most)
+{
+	u32 i;
+
+	bpf_for(i, 0, count) {
+		u32 nr = COUNT(word_of(i));
+
+		if (nr >= least && nr <= most)
+			return 1;
+	}
+	return 0;
+}
+
+/* Whether a core is idle while a thread comes, or waits at another core. Then units are cut short, since a core is let have a thread, or
+ * makes its next attempt, in the next round alone.
+ */
+static __always_inline bool is_urgent(void)
+{
+	return has_core_with(0, 0) && (scx_bpf_dsq_nr_queued(COMING) > 0 || has_core_with(2, THREADS));
 }
 
 /* One step of a core's turn, and whether there was one. `late` says that the CPU itself doesn't come. */

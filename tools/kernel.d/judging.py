@@ -34,6 +34,8 @@ class Thread:
         self.bursts, self.units, self.slept_in, self.ended = [], 0, None, False
 
     def add_unit(self, entry):
+        if self.ended:
+            return
         self.units += 1
         outcome = entry.outcome & (AFTER_YIELD - 1)
         if entry.outcome & AFTER_YIELD:
@@ -46,6 +48,8 @@ class Thread:
             self.ended = True
 
     def wake(self, number):
+        if self.ended:
+            return
         self.bursts.append(f"run {max(self.units, 1)} block {max(number - (self.slept_in or number), 1)}")
         self.units, self.slept_in = 0, None
 
@@ -84,8 +88,10 @@ def read_record(text):
                 entries.append(read_entry(line))
         except (ValueError, IndexError, TypeError) as error:
             raise Refused(f"the record's line {number} isn't one") from error
-    if lines[-1] != f"end {len(entries)}":
+    if not lines[-1].startswith("end "):
         raise Refused("the record isn't whole: its last line is missing")
+    if lines[-1] != f"end {len(entries)}":
+        raise Refused(f"the record isn't whole: it has {len(entries)} entries, and its last line counts others")
     departed = min((entry.round for entry in entries if entry.kind == DEPARTURE), default=None)
     history = sorted(entry for entry in entries if entry.kind != DEPARTURE)
     if [entry.at for entry in history] != list(range(len(history))):
@@ -125,13 +131,13 @@ def bursts_end(rounds):
 def cut(record):
     """The rounds that are judged, and why not all are."""
     rounds, why = rounds_of(record.entries), ""
+    if rounds and not is_complete(rounds[-1], record.cores):    # the record ended in the middle of it
+        rounds.pop()
     if record.departed is not None:
         rounds, why = rounds[:max(record.departed - 1, 0)], f"a departure in round {record.departed}"
     length, thread = bursts_end(rounds)
     if thread is not None:
         rounds, why = rounds[:length], f"thread {thread} has more bursts than a trace takes, from round {length + 1} on"
-    if rounds and not is_complete(rounds[-1], record.cores):
-        rounds.pop()
     while len(rounds) > 1 and is_complete(rounds[-1], record.cores) and not moves_someone(rounds[-1]):
         rounds.pop()
     while sum(map(len, rounds)) > MOST_ENTRIES:

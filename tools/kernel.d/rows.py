@@ -16,7 +16,7 @@ POLICY = TOP / "examples/gallery/numa.policy"
 UNTESTED = ("model.h", "	if (!e) {", "	if (0) {")
 CALL = "/loader /numa.bpf.o /tmp/record 20"
 # A run in the background that has begun, as process $!.
-BEGUN = f"{CALL} /long.txt & sleep 3"
+BEGUN = f"{CALL} /long.txt & sleep 2"
 LONG = b"thread 0 run 6000\nthread 0 run 6000\n"
 ROWS = {
     "no_sched_ext": f"mount -t tmpfs none /sys/kernel/sched_ext; {CALL} /crowd.txt; echo $?; umount /sys/kernel/sched_ext",
@@ -26,7 +26,7 @@ ROWS = {
     "bad_line": f"{CALL} /bad.txt; echo $?",
     "bad_constant": f"{CALL} /far.txt; echo $?",
     "no_command": f"{CALL} -- nothing-of-this-name; echo $?",
-    "disk_full": "mkdir /tmp/small; mount -t tmpfs -o size=16k none /tmp/small; "
+    "disk_full": "mkdir /tmp/small; mount -t tmpfs -o size=4k none /tmp/small; "
                  "/loader /numa.bpf.o /tmp/small/record 20 /crowd.txt; echo $?; umount /tmp/small",
     "interrupted": f"{BEGUN}; kill -INT $!; wait $!; echo $?; grep '^run ' /tmp/record >&2",
     "ended": f"{BEGUN}; kill -TERM $!; wait $!; echo $?; grep '^run ' /tmp/record >&2",
@@ -35,7 +35,7 @@ ROWS = {
 }
 TEXTS = {"long.txt": LONG, "bad.txt": b"thread 0 run 5\nthread 1 rum 5\n", "far.txt": b"core 0 node 7\nthread 0 run 5\n",
          "etc/passwd": b"root:x:0:0::/:/bin/sh\nnobody:x:65534:65534::/:/bin/sh\n"}
-AFTER = "; sleep 1; cat /sys/kernel/sched_ext/state"
+AFTER = "; sleep 0.5; cat /sys/kernel/sched_ext/state"
 
 
 def build_untested(folder):
