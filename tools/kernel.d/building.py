@@ -4,7 +4,7 @@ import subprocess
 from pathlib import Path
 
 from ask_ipanema import PROGRAM, fault_in
-from places import BTF, LIBRARIES, OUT, ROOT, SOURCES, VMLINUX, Refused, needed, run, unpacked, with_libraries
+from places import LIBRARIES, OUT, ROOT, SOURCES, VMLINUX, Refused, needed, run, unpacked, with_libraries
 
 BPF = ["--target=bpf", "-mcpu=v3", "-O2", "-g", "-Wall", "-Werror", "-fms-extensions", "-Wno-microsoft-anon-tag", "-Wno-unknown-warning-option",
        "-Wno-missing-declarations", "-D__TARGET_ARCH_x86"]
@@ -27,19 +27,18 @@ def name_in(header):
     raise Refused("the header isn't one that emit prints")
 
 
-def types_of(running):
-    """The header with the types of the kernel: of the running one, or of the guest's."""
-    if not running:
+def types_of(kernel, folder):
+    """The folder with the header of the kernel's types: those of the guest's, or of the kernel whose file is named."""
+    if not kernel:
         if not VMLINUX.exists():
             raise Refused("the guest's kernel isn't there: call tools/kernel fetch first")
-        return VMLINUX
-    if not BTF.exists():
-        raise Refused("the running kernel has no types (BTF)")
-    header = OUT / "running/vmlinux.h"
-    header.parent.mkdir(parents=True, exist_ok=True)
-    header.write_bytes(run([unpacked("usr/sbin/bpftool"), "btf", "dump", "file", BTF, "format", "c"], "the kernel's types can't be read",
-                           env=with_libraries()))
-    return header
+        return VMLINUX.parent
+    header = run([unpacked("usr/sbin/bpftool"), "btf", "dump", "file", kernel, "format", "c"], f"{kernel}: a kernel's types can't be read",
+                 env=with_libraries())
+    if b"struct sched_ext_ops {" not in header:
+        raise Refused(f"{kernel}: this kernel has no sched_ext")
+    (folder / "vmlinux.h").write_bytes(header)
+    return folder
 
 
 def compiler():
@@ -49,8 +48,9 @@ def compiler():
     return clang
 
 
-def build_scheduler(policy, folder, source=None, running=False):
-    """Compiles the scheduler of the policy into the folder, and gives its file. Another source stands for a wrong scheduler."""
+def build_scheduler(policy, folder, source=None, kernel=None):
+    """Compiles the scheduler of the policy into the folder, and gives its file. Another source stands for a wrong scheduler. Where no
+    kernel is named, it is compiled for the guest's."""
     header = header_of(policy)
     name = name_in(header)
     if f"#define {name}_WIDE 1" in header:
@@ -59,7 +59,7 @@ def build_scheduler(policy, folder, source=None, running=False):
     (folder / f"{name}.h").write_text(header)
     made = folder / f"{Path(policy).stem}.bpf.o"
     source = source or SOURCES
-    run([compiler(), *BPF, f"-DPOLICY={name}", "-I", types_of(running).parent, "-I", ROOT / "usr/include", "-include", "vmlinux.h",
+    run([compiler(), *BPF, f"-DPOLICY={name}", "-I", types_of(kernel, folder), "-I", ROOT / "usr/include", "-include", "vmlinux.h",
          "-include", folder / f"{name}.h", "-c", source / "balancer.bpf.c", "-o", made], f"{policy}: the scheduler can't be compiled")
     return made
 
@@ -77,7 +77,7 @@ def build_loader():
     """Compiles the loader, where a source is newer than it."""
     loader, sources = OUT / "loader", [SOURCES / f"{name}.c" for name in LOADER]
     newest = max(file.stat().st_mtime for file in SOURCES.glob("*.[ch]"))
-    if loader.exists() and loader.stat().st_mtime > newest:
+    if loader.exists() and loader.stat().st_mtime >= newest:
         return loader
     unpacked("usr/include/bpf/libbpf.h")
     run([needed("cc"), "-O2", "-Wall", "-Wextra", "-static", "-I", ROOT / "usr/include", *sources, LIBRARIES / "libbpf.a",

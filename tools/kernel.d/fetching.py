@@ -53,6 +53,7 @@ def check(folder):
         if not file:
             raise Refused(f"{name} {version} wasn't downloaded")
         if sum_of(file) != wanted:
+            file.unlink()
             raise Refused(f"{file.name} isn't the file that packages.txt has the sum of")
 
 

@@ -42,6 +42,11 @@ def with_libraries():
     return {**os.environ, "LD_LIBRARY_PATH": ":".join(map(str, paths))}
 
 
+def ended_by_signal(number, _frame=None):
+    """Ends this script as a signal does, but for what has to be cleared away before."""
+    sys.exit(128 + number)
+
+
 def needed(name):
     """The program of that name on the path."""
     found = shutil.which(name)

@@ -8,7 +8,7 @@ from pathlib import Path
 
 from building import build_loader, build_scheduler, header_of
 from judging import write_file
-from places import OUT, Refused
+from places import BTF, OUT, Refused
 
 # Where the kernel says whether a scheduler is loaded. Tests name another folder.
 SCHED_EXT = Path(os.environ.get("SCHED_EXT", "/sys/kernel/sched_ext"))
@@ -53,7 +53,7 @@ def run_here(words, workload_file, options, say_judged):
     check_machine()
     if not words.yes:
         ask("the threads of the workload" if words.workload else "what the command starts")
-    scheduler, loader = build_scheduler(words.policy, OUT / "running", running=True), build_loader()
+    scheduler, loader = build_scheduler(words.policy, OUT / "running", kernel=BTF), build_loader()
     with tempfile.TemporaryDirectory(prefix="kernel.") as folder:
         record = Path(folder) / "record"
         status = load([loader, scheduler, record, words.seconds, *options, *what])
