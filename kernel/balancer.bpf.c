@@ -1,10 +1,11 @@
 // SPDX-License-Identifier: GPL-2.0
-/* A sched_ext scheduler over any policy: the compiler is told the header that `emit` wrote, and the policy's name as POLICY.
+/* A sched_ext scheduler over any policy: the compiler is told the header that `emit` wrote, and the policy's name as
+ * POLICY.
  *
- * The model goes in rounds. A round opens when every core has made its attempt, and then each core has its turn (round.h, turn.h). A
- * CPU doesn't rest while the others make theirs: it runs ahead. The thread that would be elected next runs already, and what becomes
- * of it is kept until the model elects it. So units are known by their ends alone, and a thread never runs where it doesn't belong for
- * longer than an interrupt takes.
+ * The model goes in rounds. A round opens when every core has made its attempt, and then each core has its turn
+ * (round.h, turn.h). A CPU doesn't rest while the others make theirs: it runs ahead. The thread that would be elected
+ * next runs already, and what becomes of it is kept until the model elects it. So units are known by their ends alone,
+ * and a thread never runs where it doesn't belong for longer than an interrupt takes.
  */
 #include "vmlinux.h"
 #include <bpf/bpf_helpers.h>
@@ -19,7 +20,9 @@
 #define QUEUED 1			/* SCX_TASK_QUEUED: the task may run */
 #define STEPS 8
 
-/* A function of the kernel that answers a bool settles 8 bits of the register alone, and the compiler takes all of them for settled. */
+/* A function of the kernel that answers a bool settles 8 bits of the register alone, and the compiler takes all of them
+ * for settled.
+ */
 #define ANSWER(call) ({ u64 bits = (call); asm volatile("" : "+r"(bits)); (bits & 0xff) != 0; })
 
 #include "model.h"
@@ -58,8 +61,8 @@ static __always_inline void settle(struct model_thread *t, u32 ending)
 	__sync_val_compare_and_swap(&t->ending, NOT_YET, ending);
 }
 
-/* The CPU time that is left of the task's unit. Where none is, its unit is over, and the next one begins. The kernel looks at each tick
- * alone, so an eighth less is enough: else a unit as long as a tick would mostly take two.
+/* The CPU time that is left of the task's unit. Where none is, its unit is over, and the next one begins. The kernel
+ * looks at each tick alone, so an eighth less is enough: else a unit as long as a tick would mostly take two.
  */
 static __always_inline u64 rest_of_unit(struct task_struct *p, struct note *note, struct model_thread *t)
 {
@@ -72,7 +75,8 @@ static __always_inline u64 rest_of_unit(struct task_struct *p, struct note *note
 	return enough;
 }
 
-/* For the model the thread's next unit is its last. If it waits, this is a departure, of which the model knows nothing. */
+/* For the model the thread's next unit is its last. If it waits, this is a departure, of which the model knows nothing.
+ */
 static __always_inline void depart(struct task_struct *p, struct note *note, struct model_thread *t)
 {
 	if (!ANSWER(scx_bpf_task_running(p)) && !t->on) {
@@ -101,7 +105,7 @@ void CALLBACK(enqueue, struct task_struct *p, u64 flags)
 	struct note *note = note_of(p);
 	struct model_thread *t = thread_of(note);
 
-	if (!note || !note->slot || p->nr_cpus_allowed < count) {	/* the model knows of no thread that may not run everywhere */
+	if (!note || !note->slot || p->nr_cpus_allowed < count) {	/* beside the model, which pins no thread */
 		if (t && may_run(t))
 			depart(p, note, t);
 		add(BESIDE);
@@ -120,8 +124,8 @@ void CALLBACK(enqueue, struct task_struct *p, u64 flags)
 	}
 }
 
-/* The thread that this CPU is to run: the elected one in its unit; else one that will be elected, as far as can be told. A CPU that has
- * none helps a core whose own CPU another class has.
+/* The thread that this CPU is to run: the elected one in its unit; else one that will be elected, as far as can be
+ * told. A CPU that has none helps a core whose own CPU another class has.
  */
 __weak __noinline u32 to_run(s32 cpu)
 {

@@ -1,9 +1,9 @@
 /* SPDX-License-Identifier: GPL-2.0 */
 /* Loads the scheduler, runs a workload or a command under it, unloads it, and writes the record.
  *
- * loader OBJECT RECORD SECONDS [unit N] [period N] WORKLOAD, or in its place `--` and a command. Where OBJECT is `none`, Linux's own
- * scheduler is left, and no record is written. When this process ends in whatever way, the kernel unloads the scheduler. Status: 0, 1
- * where something went wrong, which is said, 2 for bad words or a bad workload.
+ * loader OBJECT RECORD SECONDS [unit N] [period N] WORKLOAD, or in its place `--` and a command. Where OBJECT is
+ * `none`, Linux's own scheduler is left, and no record is written. When this process ends in whatever way, the kernel
+ * unloads the scheduler. Status: 0, 1 where something went wrong, which is said, 2 for bad words or a bad workload.
  */
 #define _GNU_SOURCE
 #include <bpf/bpf.h>
@@ -39,7 +39,9 @@ static void pause_milliseconds(long milliseconds)
 	nanosleep(&time, NULL);
 }
 
-/* The verifier's reason is the first line behind the last instruction that it looked at, whose line begins with a number. */
+/* The verifier's reason is the first line behind the last instruction that it looked at, whose line begins with a
+ * number.
+ */
 static void find_reason(char *log)
 {
 	char *rest, *line;
@@ -180,8 +182,8 @@ static const char *watch(struct ring_buffer *ring, struct bpf_object *object, do
 
 static const char *counted(const char *how)
 {
-	static const char *const names[COUNTERS] = { "lost", "departures", "beside", "rounds", "deferred", "timer", "overdue", "helped", "full",
-		"exit", "raced" };
+	static const char *const names[COUNTERS] = { "lost", "departures", "beside", "rounds", "deferred", "timer", "overdue",
+		"helped", "full", "exit", "raced" };
 	static char text[1024];
 	int length = snprintf(text, sizeof text, "run %s\ntook %.3f\n", how, time_of_last());
 
@@ -213,7 +215,8 @@ static int run_under(struct bpf_object *object, const char *record, double secon
 	const char *how;
 	bool good;
 
-	ring = ring_buffer__new(bpf_map__fd(bpf_object__find_map_by_name(object, "record")), (ring_buffer_sample_fn)keep_entry, NULL, NULL);
+	ring = ring_buffer__new(bpf_map__fd(bpf_object__find_map_by_name(object, "record")),
+				(ring_buffer_sample_fn)keep_entry, NULL, NULL);
 	if (!ring || !write_settings(object))
 		return 1;
 	link = bpf_map__attach_struct_ops(bpf_object__find_map_by_name(object, "balancer"));

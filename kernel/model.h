@@ -1,8 +1,9 @@
 /* SPDX-License-Identifier: GPL-2.0 */
-/* The cores and threads of the model: to which core a thread belongs, in which order it waits there, and how a core is held and read.
+/* The cores and threads of the model: to which core a thread belongs, in which order it waits there, and how a core is
+ * held and read.
  *
- * The kernel's own queues only hold tasks that may run, each in a queue of its own. So a thread that is stolen is moved in here, in no
- * time, and the thief's CPU finds it by its number. A core's queue is changed by whoever holds the core.
+ * The kernel's own queues only hold tasks that may run, each in a queue of its own. So a thread that is stolen is moved
+ * in here, in no time, and the thief's CPU finds it by its number. A core's queue is changed by whoever holds the core.
  */
 enum phase { TRIED, READY, RUNNING, RAN, LOOKED };
 enum ending { NOT_YET, TICK, YIELDED, BLOCKED, ENDED };
@@ -39,7 +40,8 @@ u64 counters[COUNTERS] SEC(".data.counters");
 static struct model_core cores[CPUS];
 static struct model_thread threads[THREADS];
 static u32 count, round, start, entries, left, opening, numbers, slots, inside;
-static volatile u32 hurry;		/* units are cut short. Were it not volatile, clang would make one byte of it, and the kernel refuse its size */
+/* Units are cut short. Were it not volatile, clang would make one byte of it, and the kernel refuse its size. */
+static volatile u32 hurry;
 static u64 arrivals, sleeps;
 
 struct { __uint(type, BPF_MAP_TYPE_RINGBUF); __uint(max_entries, 1 << 24); } record SEC(".maps");
@@ -82,7 +84,9 @@ static __always_inline void see(struct P(core) *core, s32 cpu, u64 word)
 
 	core->nr = COUNT(word);
 	core->load = LOAD(word);
-#define SET(name) core->attr_##name = settings.given[here][next] ? settings.attrs[here][next] : P(CORE_START_##name), next++;
+#define SET(name) \
+	core->attr_##name = settings.given[here][next] ? settings.attrs[here][next] : P(CORE_START_##name); \
+	next++;
 	P(CORE_ATTRS)(SET)
 #undef SET
 }
@@ -164,8 +168,8 @@ static __always_inline void leave(s32 cpu, u32 number)
 
 enum wanted { TO_ELECT, TO_STEAL, TO_RUN_AHEAD };
 
-/* Functions that aren't static are judged by the verifier once each, and not on every path that calls them. They are weak, else clang
- * looks into them, and leaves out an argument that the policy doesn't ask for.
+/* Functions that aren't static are judged by the verifier once each, and not on every path that calls them. They are
+ * weak, else clang looks into them, and leaves out an argument that the policy doesn't ask for.
  */
 
 /* A thread may be run ahead where nothing is settled of it, and no other CPU has it. */

@@ -1,5 +1,7 @@
 /* SPDX-License-Identifier: GPL-2.0 */
-/* Keeps entries while the scheduler runs, and writes them as lines. tools/kernel judge reads them; docs/KERNEL.md has their form. */
+/* Keeps entries while the scheduler runs, and writes them as lines. tools/kernel judge reads them; docs/KERNEL.md has
+ * their form.
+ */
 #include <errno.h>
 #include <stdio.h>
 #include <stdlib.h>
@@ -45,7 +47,8 @@ static void write_constants(FILE *out, int cores, const struct facts *facts, con
 
 static void write_entry(FILE *out, const struct entry *e, int cores)
 {
-	fprintf(out, "%u %u %u %u %u %u %u %llu t", e->at, e->kind, e->round, e->core, e->other, e->word, e->weight, e->nanoseconds);
+	fprintf(out, "%u %u %u %u %u %u %u %llu t", e->at, e->kind, e->round, e->core, e->other, e->word, e->weight,
+		e->nanoseconds);
 	for (unsigned int thread = 0; thread < e->count && thread < MOVES; thread++)
 		fprintf(out, " %u", e->threads[thread]);
 	fprintf(out, " :");
@@ -54,7 +57,8 @@ static void write_entry(FILE *out, const struct entry *e, int cores)
 	fprintf(out, "\n");
 }
 
-bool write_record(const char *name, int cores, const struct facts *facts, const struct settings *settings, const char *end)
+bool write_record(const char *name, int cores, const struct facts *facts, const struct settings *settings,
+		  const char *end)
 {
 	FILE *out = fopen(name, "w");
 	bool good;

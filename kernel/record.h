@@ -16,6 +16,7 @@ int keep_entry(void *context, void *data, unsigned long size);
 unsigned long kept_entries(void);
 
 /* Writes the record to the file, or says on standard error why it couldn't. `end` are further lines. */
-bool write_record(const char *name, int cores, const struct facts *facts, const struct settings *settings, const char *end);
+bool write_record(const char *name, int cores, const struct facts *facts, const struct settings *settings,
+		  const char *end);
 
 #endif

@@ -4,8 +4,8 @@
 /* As many are let in by a core in one round; the others come in the next. */
 #define ENTRANTS 64
 
-/* Whether the task comes to this core, and its place among those that do: new ones first, in their order, and then those that wake, in
- * the order in which they fell asleep. Places begin with 1.
+/* Whether the task comes to this core, and its place among those that do: new ones first, in their order, and then
+ * those that wake, in the order in which they fell asleep. Places begin with 1.
  */
 static __always_inline bool is_coming_to(struct note *note, s32 cpu, u64 *place)
 {
@@ -19,8 +19,8 @@ static __always_inline bool is_coming_to(struct note *note, s32 cpu, u64 *place)
 	return !t->inside && t->core == cpu;	/* else its sleep isn't an entry yet */
 }
 
-/* The slot of the task that this core is to let in next, 0 where there is none. Who comes meanwhile and would have been before one that
- * is in already has to wait for the next round.
+/* The slot of the task that this core is to let in next, 0 where there is none. Who comes meanwhile and would have been
+ * before one that is in already has to wait for the next round.
  */
 __weak __noinline u32 next_coming(s32 cpu)
 {
@@ -155,7 +155,13 @@ static __always_inline bool has_room(void)
 	return false;
 }
 
-/* Opens the next round where every core has made its attempt, and says whether it did. No round is opened for nobody. */
+static __always_inline bool has_work(void)
+{
+	return *(volatile u32 *)&inside || scx_bpf_dsq_nr_queued(COMING) > 0;
+}
+
+/* Opens the next round where every core has made its attempt, and says whether it did. No round is opened for nobody.
+ */
 __weak __noinline u32 open_round(void)
 {
 	struct entry *e;
@@ -163,7 +169,7 @@ __weak __noinline u32 open_round(void)
 
 	if (*(volatile u32 *)&left || !take(&opening))
 		return 0;
-	if (*(volatile u32 *)&left || settings.stop || !(*(volatile u32 *)&inside || scx_bpf_dsq_nr_queued(COMING) > 0) || !has_room()) {
+	if (*(volatile u32 *)&left || settings.stop || !has_work() || !has_room()) {
 		give(&opening);
 		return 0;
 	}
@@ -200,8 +206,8 @@ __weak __noinline u32 has_core_with(u32 least, u32 most)
 	return 0;
 }
 
-/* Whether a core is idle while a thread comes, or waits at another core. Then units are cut short, since a core is let have a thread, or
- * makes its next attempt, in the next round alone.
+/* Whether a core is idle while a thread comes, or waits at another core. Then units are cut short, since a core is let
+ * have a thread, or makes its next attempt, in the next round alone.
  */
 static __always_inline bool is_urgent(void)
 {

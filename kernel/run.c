@@ -1,5 +1,7 @@
 /* SPDX-License-Identifier: GPL-2.0 */
-/* Runs a workload's threads, or a command. A thread is first of the usual class, on the core where it comes; there it changes the class. */
+/* Runs a workload's threads, or a command. A thread is first of the usual class, on the core where it comes; there it
+ * changes the class.
+ */
 #define _GNU_SOURCE
 #include <errno.h>
 #include <pthread.h>

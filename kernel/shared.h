@@ -27,13 +27,16 @@ struct settings {
 	long long attrs[CPUS][ATTRS];
 };
 
-/* What the loader has to know of the policy: whether it places threads, and its attributes of cores with their ranges. */
+/* What the loader has to know of the policy: whether it places threads, and its attributes of cores with their ranges.
+ */
 struct facts {
 	unsigned int placed, attributes;
 	long long least[ATTRS], greatest[ATTRS];
 	char names[NAMES];			/* a blank before each */
 };
 
-enum counter { LOST_ENTRIES, DEPARTURES, BESIDE, ROUNDS, DEFERRED, BY_TIMER, OVERDUE, HELPED, RECORD_FULL, EXIT_KIND, RACED };
+enum counter {
+	LOST_ENTRIES, DEPARTURES, BESIDE, ROUNDS, DEFERRED, BY_TIMER, OVERDUE, HELPED, RECORD_FULL, EXIT_KIND, RACED
+};
 
 #endif

@@ -1,8 +1,9 @@
 /* SPDX-License-Identifier: GPL-2.0 */
-/* A core's turn in a round: it elects a thread, the thread's unit ends, the core looks at all cores, and makes its attempt.
+/* A core's turn in a round: it elects a thread, the thread's unit ends, the core looks at all cores, and makes its
+ * attempt.
  *
- * A core is held from its election to the end of its unit. Else a thief could see a thread gone that in the model still waits, or
- * take the one that was elected. Nothing waits for a core that is held: the step is made later.
+ * A core is held from its election to the end of its unit. Else a thief could see a thread gone that in the model still
+ * waits, or take the one that was elected. Nothing waits for a core that is held: the step is made later.
  */
 
 /* A task's queue: it is there while it may run and doesn't. */
@@ -49,9 +50,9 @@ static __always_inline void wake_thieves(s32 cpu)
 			scx_bpf_kick_cpu(i, 0);
 }
 
-/* How the unit ended, and NOT_YET where it goes on. That a thread sleeps or is gone stays settled until it is let in again: else it could
- * be taken for one that runs, should it wake before this is an entry. A unit is overdue where another class has the CPU: then its thread
- * had no time in it.
+/* How the unit ended, and NOT_YET where it goes on. That a thread sleeps or is gone stays settled until it is let in
+ * again: else it could be taken for one that runs, should it wake before this is an entry. A unit is overdue where
+ * another class has the CPU: then its thread had no time in it.
  */
 static __always_inline u32 ending_of(struct model_core *c, struct model_thread *t, u32 late)
 {

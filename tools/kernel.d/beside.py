@@ -1,7 +1,8 @@
-"""The same workloads under a policy and under Linux's own scheduler, measured by one recorder: the kernel's own tracing.
+"""The same workloads under a policy and under Linux's own scheduler, measured by one recorder: the kernel's own
+tracing.
 
-A thread waits from when it is woken, or stopped though it could run on, until it runs. Core time is wasted while a CPU is idle and a
-thread waits, by as many as both are. A migration is a thread that is moved to another CPU.
+A thread waits from when it is woken, or stopped though it could run on, until it runs. Core time is wasted while a CPU
+is idle and a thread waits, by as many as both are. A migration is a thread that is moved to another CPU.
 """
 
 import re
@@ -24,7 +25,8 @@ Measured = namedtuple("Measured", "seconds wasted migrations")
 
 TRACED = """cd /sys/kernel/tracing; echo 0 > tracing_on; echo 16384 > buffer_size_kb; echo > trace
 for event in sched_switch sched_wakeup sched_wakeup_new sched_migrate_task; do echo 1 > events/sched/$event/enable; done
-echo 1 > tracing_on; {call} > /tmp/said; echo 0 > tracing_on; cat /tmp/said /tmp/made 2>/dev/null | grep -E '^(run|took) '
+echo 1 > tracing_on; {call} > /tmp/said; echo 0 > tracing_on
+cat /tmp/said /tmp/made 2>/dev/null | grep -E '^(run|took) '
 grep -v '^#' trace > /tmp/record; rm -f /tmp/made"""
 
 LINE = re.compile(r"\[(\d+)\] \S+ +([\d.]+): (\w+): (.*)")
@@ -85,7 +87,8 @@ def measure(answer, cpus):
 
 def job_of(scheduler, workload, number):
     made = "none" if scheduler == OWN else f"/{scheduler}.bpf.o"
-    return Job(f"{scheduler}-{workload}-{number}", TRACED.format(call=f"/loader {made} /tmp/made {SECONDS} /{workload}.txt"))
+    call = f"/loader {made} /tmp/made {SECONDS} /{workload}.txt"
+    return Job(f"{scheduler}-{workload}-{number}", TRACED.format(call=call))
 
 
 def middle(runs):
@@ -93,13 +96,19 @@ def middle(runs):
     return Measured(*(statistics.median(column) for column in zip(*runs)))
 
 
-def print_table(loader, cpus=4):
+def files_of(loader):
+    files = {f"{name}.txt": (WORKLOADS / f"{name}.txt").read_bytes() for name in SHOWN}
     with tempfile.TemporaryDirectory(prefix="kernel.") as folder:
-        files = {f"{name}.bpf.o": build_scheduler(TOP / f"examples/gallery/{name}.policy", Path(folder)).read_bytes() for name in POLICIES}
-    files.update({"loader": loader.read_bytes(), **{f"{name}.txt": (WORKLOADS / f"{name}.txt").read_bytes() for name in SHOWN}})
+        for name in POLICIES:
+            files[f"{name}.bpf.o"] = build_scheduler(TOP / f"examples/gallery/{name}.policy", Path(folder)).read_bytes()
+    return {**files, "loader": loader.read_bytes()}
+
+
+def print_table(loader, cpus=4):
+    files = files_of(loader)
     print("| Workload | Scheduler | Time to the end | Wasted core time | Migrations |\n|---|---|---|---|---|")
     for workload in SHOWN:
-        jobs = {scheduler: [job_of(scheduler, workload, number) for number in range(TIMES)] for scheduler in [OWN, *POLICIES]}
+        jobs = {name: [job_of(name, workload, number) for number in range(TIMES)] for name in [OWN, *POLICIES]}
         done = boot([job for one in jobs.values() for job in one], files, cpus, 240)
         for scheduler, one in jobs.items():
             found = middle([measure(done[job.name], cpus) for job in one])

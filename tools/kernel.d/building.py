@@ -6,8 +6,8 @@ from pathlib import Path
 from ask_ipanema import PROGRAM, fault_in
 from places import LIBRARIES, OUT, ROOT, SOURCES, VMLINUX, Refused, needed, run, unpacked, with_libraries
 
-BPF = ["--target=bpf", "-mcpu=v3", "-O2", "-g", "-Wall", "-Werror", "-fms-extensions", "-Wno-microsoft-anon-tag", "-Wno-unknown-warning-option",
-       "-Wno-missing-declarations", "-D__TARGET_ARCH_x86"]
+BPF = ["--target=bpf", "-mcpu=v3", "-O2", "-g", "-Wall", "-Werror", "-fms-extensions", "-Wno-microsoft-anon-tag",
+       "-Wno-unknown-warning-option", "-Wno-missing-declarations", "-D__TARGET_ARCH_x86"]
 LOADER = ["loader", "run", "record", "workload"]
 
 
@@ -27,14 +27,18 @@ def name_in(header):
     raise Refused("the header isn't one that emit prints")
 
 
+def types_in(kernel, what):
+    """The kernel's types as a header."""
+    return run([unpacked("usr/sbin/bpftool"), "btf", "dump", "file", kernel, "format", "c"], what, env=with_libraries())
+
+
 def types_of(kernel, folder):
     """The folder with the header of the kernel's types: those of the guest's, or of the kernel whose file is named."""
     if not kernel:
         if not VMLINUX.exists():
             raise Refused("the guest's kernel isn't there: call tools/kernel fetch first")
         return VMLINUX.parent
-    header = run([unpacked("usr/sbin/bpftool"), "btf", "dump", "file", kernel, "format", "c"], f"{kernel}: a kernel's types can't be read",
-                 env=with_libraries())
+    header = types_in(kernel, f"{kernel}: a kernel's types can't be read")
     if b"struct sched_ext_ops {" not in header:
         raise Refused(f"{kernel}: this kernel has no sched_ext")
     (folder / "vmlinux.h").write_bytes(header)
@@ -49,8 +53,8 @@ def compiler():
 
 
 def build_scheduler(policy, folder, source=None, kernel=None):
-    """Compiles the scheduler of the policy into the folder, and gives its file. Another source stands for a wrong scheduler. Where no
-    kernel is named, it is compiled for the guest's."""
+    """Compiles the scheduler of the policy into the folder, and gives its file. Another source stands for a wrong
+    scheduler. Where no kernel is named, it is compiled for the guest's."""
     header = header_of(policy)
     name = name_in(header)
     if f"#define {name}_WIDE 1" in header:
@@ -59,13 +63,15 @@ def build_scheduler(policy, folder, source=None, kernel=None):
     (folder / f"{name}.h").write_text(header)
     made = folder / f"{Path(policy).stem}.bpf.o"
     source = source or SOURCES
-    run([compiler(), *BPF, f"-DPOLICY={name}", "-I", types_of(kernel, folder), "-I", ROOT / "usr/include", "-include", "vmlinux.h",
-         "-include", folder / f"{name}.h", "-c", source / "balancer.bpf.c", "-o", made], f"{policy}: the scheduler can't be compiled")
+    includes = ["-I", types_of(kernel, folder), "-I", ROOT / "usr/include", "-include", "vmlinux.h", "-include", folder / f"{name}.h"]
+    run([compiler(), *BPF, f"-DPOLICY={name}", *includes, "-c", source / "balancer.bpf.c", "-o", made],
+        f"{policy}: the scheduler can't be compiled")
     return made
 
 
 def build_checker():
-    """Compiles what reads a workload and does nothing else, where a source is newer than it. It needs none of the packages."""
+    """Compiles what reads a workload and does nothing else, where a source is newer than it. It needs none of the
+    packages."""
     checker, sources = OUT / "check", [SOURCES / "check.c", SOURCES / "workload.c"]
     if not checker.exists() or checker.stat().st_mtime < max(file.stat().st_mtime for file in SOURCES.glob("*.[ch]")):
         OUT.mkdir(parents=True, exist_ok=True)

@@ -5,11 +5,13 @@ import subprocess
 import tempfile
 from pathlib import Path
 
-from places import LIBRARIES, OUT, ROOT, TOP, VMLINUX, Refused, guest_kernel, needed, run, unpacked, with_libraries
+from building import types_in
+from places import LIBRARIES, OUT, ROOT, TOP, VMLINUX, Refused, guest_kernel, needed, run
 
 LIST = Path(__file__).with_name("packages.txt")
 KEY = "/usr/share/keyrings/debian-archive-keyring.gpg"
-SUITES = [("", "bookworm"), ("", "bookworm-updates"), ("", "bookworm-backports"), ("", "trixie-backports"), ("-security", "bookworm-security")]
+SUITES = [("", "bookworm"), ("", "bookworm-updates"), ("", "bookworm-backports"), ("", "trixie-backports"),
+          ("-security", "bookworm-security")]
 MIRROR = "http://deb.debian.org/debian"
 # How a kernel is packed in its boot image: the first bytes, and what unpacks it.
 PACKINGS = [(b"\x28\xb5\x2f\xfd", "zstd"), (b"\xfd7zXZ\0", "xz"), (b"\x1f\x8b\x08", "gzip")]
@@ -36,15 +38,17 @@ def apt(folder):
     (folder / "cache/archives/partial").mkdir(parents=True, exist_ok=True)
     lines = [f"deb [signed-by={KEY}] {MIRROR}{more} {suite} main\n" for more, suite in SUITES]
     (folder / "sources.list").write_text("".join(lines))
-    return [needed("apt-get"), "-q", "-o", f"Dir::Etc::sourcelist={folder}/sources.list", "-o", "Dir::Etc::sourceparts=-",
-            "-o", f"Dir::State::lists={folder}/lists", "-o", f"Dir::Cache={folder}/cache", "-o", "APT::Sandbox::User=root"]
+    settings = [f"Dir::Etc::sourcelist={folder}/sources.list", "Dir::Etc::sourceparts=-", f"Dir::State::lists={folder}/lists",
+                f"Dir::Cache={folder}/cache", "APT::Sandbox::User=root"]
+    return [needed("apt-get"), "-q", *(word for setting in settings for word in ("-o", setting))]
 
 
 def download(folder, missing):
     with tempfile.TemporaryDirectory(prefix="apt.", dir=OUT) as lists:
         call = apt(Path(lists))
         run([*call, "update"], "Debian's lists can't be read")
-        run([*call, "download", *(f"{name}={version}" for name, version, _ in missing)], "the packages can't be had", cwd=folder)
+        wanted = [f"{name}={version}" for name, version, _ in missing]
+        run([*call, "download", *wanted], "the packages can't be had", cwd=folder)
 
 
 def check(folder):
@@ -63,7 +67,8 @@ def unpack_kernel(image, target):
     for magic, program in PACKINGS:
         at = data.find(magic)
         while at >= 0:
-            done = subprocess.run([needed(program), "-dc"], input=data[at:], stdout=subprocess.PIPE, stderr=subprocess.DEVNULL, check=False)
+            done = subprocess.run([needed(program), "-dc"], input=data[at:], stdout=subprocess.PIPE,
+                                  stderr=subprocess.DEVNULL, check=False)
             if done.stdout.startswith(b"\x7fELF"):
                 target.write_bytes(done.stdout)
                 return
@@ -76,8 +81,7 @@ def write_types():
     with tempfile.TemporaryDirectory(prefix="types.", dir=OUT) as folder:
         kernel = Path(folder) / "vmlinux"
         unpack_kernel(guest_kernel(), kernel)
-        VMLINUX.write_bytes(run([unpacked("usr/sbin/bpftool"), "btf", "dump", "file", kernel, "format", "c"], "the kernel's types can't be read",
-                                env=with_libraries()))
+        VMLINUX.write_bytes(types_in(kernel, "the kernel's types can't be read"))
 
 
 def fetch():

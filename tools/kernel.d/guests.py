@@ -68,11 +68,12 @@ def script(jobs):
 
 def emulator(folder, cpus, accelerator):
     programs = {**with_libraries(), "TMPDIR": str(folder)}
-    words = [unpacked("usr/bin/qemu-system-x86_64"), "-L", ROOT / "usr/share/qemu", "-L", ROOT / "usr/share/seabios", "-accel", accelerator,
-             "-cpu", "max", "-smp", cpus, "-m", 768, "-nodefaults", "-no-user-config", "-display", "none", "-no-reboot", "-serial", "stdio",
-             "-nic", "none", "-device", "virtio-serial-pci", "-chardev", f"file,id=data,path={folder}/data",
-             "-device", "virtserialport,chardev=data,name=data", "-kernel", guest_kernel(), "-initrd", folder / "root.gz",
-             "-append", "console=ttyS0 panic=-1 quiet"]
+    share = ROOT / "usr/share"
+    words = [unpacked("usr/bin/qemu-system-x86_64"), "-L", share / "qemu", "-L", share / "seabios",
+             "-accel", accelerator, "-cpu", "max", "-smp", cpus, "-m", 768, "-nodefaults", "-no-user-config",
+             "-display", "none", "-no-reboot", "-serial", "stdio", "-nic", "none", "-device", "virtio-serial-pci",
+             "-chardev", f"file,id=data,path={folder}/data", "-device", "virtserialport,chardev=data,name=data",
+             "-kernel", guest_kernel(), "-initrd", folder / "root.gz", "-append", "console=ttyS0 panic=-1 quiet"]
     return [str(word) for word in words], programs
 
 
@@ -116,7 +117,8 @@ def boot(jobs, files, cpus=4, seconds=120, console=None):
         (folder / "data").touch()
         words, programs = emulator(folder, cpus, accelerator)
         with open(folder / "console", "wb") as out:
-            guest = subprocess.Popen(words, stdin=subprocess.DEVNULL, stdout=out, stderr=out, env=programs, preexec_fn=stand_back)
+            guest = subprocess.Popen(words, stdin=subprocess.DEVNULL, stdout=out, stderr=out, env=programs,
+                                     preexec_fn=stand_back)
             try:
                 guest.wait(seconds)
             except subprocess.TimeoutExpired:

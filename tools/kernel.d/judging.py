@@ -1,7 +1,8 @@
 """Makes a trace and a history of a record, and asks the judge.
 
-The trace says what the threads turned out to do: which core let each of them in and in which round, how many units each burst had, how
-many rounds it slept. Rounds at the end in which nothing is left to be done are cut off, and so is all that the formats have no room for.
+The trace says what the threads turned out to do: which core let each of them in and in which round, how many units each
+burst had, how many rounds it slept. Rounds at the end in which nothing is left to be done are cut off, and so is all
+that the formats have no room for.
 """
 
 import tempfile
@@ -27,7 +28,8 @@ Judged = namedtuple("Judged", "verdict totals threads rounds kept recorded cut r
 
 
 class Thread:
-    """What became of one thread so far. A trace has no 0, so where a wrong scheduler would need one there is a 1: then the judge finds it."""
+    """What became of one thread so far. A trace has no 0, so where a wrong scheduler would need one there is a 1: then
+    the judge finds it."""
 
     def __init__(self, entry):
         self.core, self.begun, self.weight = entry.core, entry.round, entry.weight
@@ -151,7 +153,8 @@ def history_line(entry, placed):
     if entry.kind == ROUND:
         return f"round {entry.round}"
     if entry.kind in (ENTER, WAKE):
-        return f"{'enter' if entry.kind == ENTER else 'wake'} {names} {entry.core} {entry.other}{reads if placed else ''}"
+        word = "enter" if entry.kind == ENTER else "wake"
+        return f"{word} {names} {entry.core} {entry.other}{reads if placed else ''}"
     if entry.kind == WORK:
         return f"work {entry.core} " + (f"{names} {OUTCOMES[entry.outcome & (AFTER_YIELD - 1)]}" if names else "-")
     if entry.kind == STEAL:
@@ -174,7 +177,8 @@ def threads_of(entries):
 def trace_lines(record, threads, rounds):
     yield from [f"cores {record.cores}", f"rounds {rounds}", f"entries {MOST_ENTRIES}", *record.constants]
     for number, thread in threads.items():
-        yield f"thread {number} core {thread.core} round {thread.begun} weight {thread.weight} {' '.join(thread.program(rounds))}"
+        program = " ".join(thread.program(rounds))
+        yield f"thread {number} core {thread.core} round {thread.begun} weight {thread.weight} {program}"
 
 
 def write_file(file, text):
@@ -218,9 +222,9 @@ def sentence(judged):
     """What is said of a record, in one line."""
     record = judged.record
     counters = ", ".join(f"{name} {int(record.counters.get(name, 0))}" for name in ("departures", "lost", "beside"))
-    told = f"{judged.verdict.line}; {judged.totals or 'no totals'}; {judged.threads} threads, {judged.rounds} rounds, " \
-           f"{judged.kept} of {judged.recorded} entries, {counters}; run {record.how} after {record.counters.get('took', 0):.3f} s"
-    return f"{told}; judged before {judged.cut}" if judged.cut else told
+    counts = f"{judged.threads} threads, {judged.rounds} rounds, {judged.kept} of {judged.recorded} entries, {counters}"
+    told = [judged.verdict.line, judged.totals or "no totals", counts, f"run {record.how} after {record.counters.get('took', 0):.3f} s"]
+    return "; ".join(told + [f"judged before {judged.cut}"] * bool(judged.cut))
 
 
 def faults(judged):

@@ -28,11 +28,13 @@ def reason_in(said):
 def run(words, what, **more):
     """What the command writes. Where it fails, the first line that it said on standard error is the reason."""
     try:
-        done = subprocess.run([str(word) for word in words], stdout=subprocess.PIPE, stderr=subprocess.PIPE, check=False, **more)
+        done = subprocess.run([str(word) for word in words], stdout=subprocess.PIPE, stderr=subprocess.PIPE, check=False,
+                              **more)
     except OSError as error:
         raise Refused(f"{what}: {words[0]}: {error.strerror}") from error
     if done.returncode:
-        raise Refused(f"{what}: {reason_in(done.stderr.decode('utf-8', 'replace')) or f'{words[0]} ends with status {done.returncode}'}")
+        reason = reason_in(done.stderr.decode("utf-8", "replace"))
+        raise Refused(f"{what}: {reason or f'{words[0]} ends with status {done.returncode}'}")
     return done.stdout
 
 

@@ -1,4 +1,5 @@
-"""What may go wrong once a scheduler is to be loaded, provoked in the guest. After each row the kernel has to be on its own scheduler.
+"""What may go wrong once a scheduler is to be loaded, provoked in the guest. After each row the kernel has to be on its
+own scheduler.
 
 A row is written as its name, the statuses of the calls, and what was said on standard error.
 """
@@ -19,7 +20,8 @@ CALL = "/loader /numa.bpf.o /tmp/record 20"
 BEGUN = f"{CALL} /long.txt & sleep 2"
 LONG = b"thread 0 run 6000\nthread 0 run 6000\n"
 ROWS = {
-    "no_sched_ext": f"mount -t tmpfs none /sys/kernel/sched_ext; {CALL} /crowd.txt; echo $?; umount /sys/kernel/sched_ext",
+    "no_sched_ext": "mount -t tmpfs none /sys/kernel/sched_ext; "
+                    f"{CALL} /crowd.txt; echo $?; umount /sys/kernel/sched_ext",
     "not_root": f"su nobody -s /bin/sh -c '{CALL} /crowd.txt'; echo $?",
     "another_is_loaded": f"{BEGUN}; /loader /numa.bpf.o /tmp/other 20 /crowd.txt; echo $?; kill $!; wait $!; echo $?",
     "verifier": "/loader /untested.bpf.o /tmp/record 20 /crowd.txt; echo $?",
@@ -33,7 +35,8 @@ ROWS = {
     "killed": f"{BEGUN}; kill -KILL $!; wait $!; echo $?",
     "time_over": "/loader /numa.bpf.o /tmp/record 1 /long.txt; echo $?; grep '^run ' /tmp/record >&2",
 }
-TEXTS = {"long.txt": LONG, "bad.txt": b"thread 0 run 5\nthread 1 rum 5\n", "far.txt": b"core 0 node 7\nthread 0 run 5\n",
+TEXTS = {"long.txt": LONG, "bad.txt": b"thread 0 run 5\nthread 1 rum 5\n",
+         "far.txt": b"core 0 node 7\nthread 0 run 5\n",
          "etc/passwd": b"root:x:0:0::/:/bin/sh\nnobody:x:65534:65534::/:/bin/sh\n"}
 AFTER = "; sleep 0.5; cat /sys/kernel/sched_ext/state"
 

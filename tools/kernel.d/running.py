@@ -22,20 +22,23 @@ def check_machine():
     try:
         state = (SCHED_EXT / "state").read_text().strip()
     except OSError as error:
-        raise Refused("the running kernel has no sched_ext: Linux 6.13 or later with CONFIG_SCHED_CLASS_EXT is wanted") from error
+        raise Refused("the running kernel has no sched_ext: Linux 6.13 or later with CONFIG_SCHED_CLASS_EXT is "
+                      "wanted") from error
     if state != "disabled":
         raise Refused("another scheduler of sched_ext is loaded")
 
 
 def ask(what):
     """Asks before something is loaded into the running kernel."""
-    print(f"kernel: this loads a scheduler into the running kernel, for {what} alone. Load it? [y/N] ", end="", file=sys.stderr, flush=True)
+    question = f"kernel: this loads a scheduler into the running kernel, for {what} alone. Load it? [y/N] "
+    print(question, end="", file=sys.stderr, flush=True)
     if sys.stdin.readline().strip().lower() not in ("y", "yes"):
         raise Refused("nothing was loaded")
 
 
 def load(words):
-    """Runs the loader until it has unloaded the scheduler. An interrupt reaches the loader itself, which then ends the run."""
+    """Runs the loader until it has unloaded the scheduler. An interrupt reaches the loader itself, which then ends the
+    run."""
     with subprocess.Popen([str(word) for word in words]) as loader:
         while True:
             try:
@@ -58,7 +61,8 @@ def run_here(words, workload_file, options, say_judged):
         record = Path(folder) / "record"
         status = load([loader, scheduler, record, words.seconds, *options, *what])
         if status < 0:
-            raise Refused(f"the loader was killed by signal {-status}, so there is no record; the kernel has unloaded the scheduler")
+            raise Refused(f"the loader was killed by signal {-status}, so there is no record; the kernel has unloaded the "
+                          "scheduler")
         if status != LOADED:
             return status
         text = record.read_text(errors="replace")
