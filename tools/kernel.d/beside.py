@@ -109,7 +109,7 @@ def print_table(loader, cpus=4):
     print("| Workload | Scheduler | Time to the end | Wasted core time | Migrations |\n|---|---|---|---|---|")
     for workload in SHOWN:
         jobs = {name: [job_of(name, workload, number) for number in range(TIMES)] for name in [OWN, *POLICIES]}
-        done = boot([job for one in jobs.values() for job in one], files, cpus, 240)
+        done = boot([job for one in jobs.values() for job in one], files, cpus)
         for scheduler, one in jobs.items():
             found = middle([measure(done[job.name], cpus) for job in one])
             print(f"| `{workload}` | {scheduler if scheduler == OWN else f'`{scheduler}`'} | {found.seconds:.2f} s | "

@@ -8,10 +8,11 @@ import shlex
 import signal
 import subprocess
 import tempfile
+import time
 from collections import namedtuple
 from pathlib import Path
 
-from places import ROOT, Refused, guest_kernel, unpacked, with_libraries
+from places import ROOT, guest_kernel, unpacked, with_libraries
 
 # A command of the guest's shell, which may write /tmp/record; and how many seconds it may take.
 Job = namedtuple("Job", "name command")
@@ -77,10 +78,19 @@ def emulator(folder, cpus, accelerator):
     return [str(word) for word in words], programs
 
 
-def stand_back():
-    """For the emulator: it lets others go first, and ends when this script is killed."""
-    os.nice(15)
+def end_with_parent():
+    """For the emulator: it ends when this script is killed."""
     ctypes.CDLL(None).prctl(1, signal.SIGKILL)      # PR_SET_PDEATHSIG
+
+
+def watch(guest, folder, seconds):
+    """Waits until the guest ends, or has neither said nor written anything for so long."""
+    said, last = 0, time.monotonic()
+    while guest.poll() is None and time.monotonic() - last < seconds:
+        now = sum((folder / name).stat().st_size for name in ("console", "data"))
+        if now != said:
+            said, last = now, time.monotonic()
+        time.sleep(0.2)
 
 
 def take_part(data, at, name):
@@ -107,8 +117,10 @@ def read_answers(data):
     return done
 
 
-def boot(jobs, files, cpus=4, seconds=120, console=None):
-    """Runs the jobs in one boot. Of those that the guest didn't come to there is no answer. The log is under the name `log`."""
+def boot(jobs, files, cpus=4, seconds=180, console=None):
+    """Runs the jobs in one boot, which ends when nothing is said for so many seconds. Of those that the guest didn't come
+    to there is no answer. The log is under the name `log`.
+    """
     accelerator = os.environ.get("KERNEL_ACCELERATOR", "tcg,thread=multi")
     with tempfile.TemporaryDirectory(prefix="guest.") as name:
         folder = Path(name)
@@ -118,22 +130,16 @@ def boot(jobs, files, cpus=4, seconds=120, console=None):
         words, programs = emulator(folder, cpus, accelerator)
         with open(folder / "console", "wb") as out:
             guest = subprocess.Popen(words, stdin=subprocess.DEVNULL, stdout=out, stderr=out, env=programs,
-                                     preexec_fn=stand_back)
+                                     preexec_fn=end_with_parent)
             try:
-                guest.wait(seconds)
-            except subprocess.TimeoutExpired:
-                pass
+                watch(guest, folder, seconds)
             finally:
                 guest.kill()
                 guest.wait()
         said = (folder / "console").read_text(errors="replace")
         if console:
             Path(console).write_text(said)
-        done = read_answers((folder / "data").read_bytes())
-    if not done:
-        last = [line for line in said.splitlines() if line.strip()][-1:]
-        raise Refused(f"the guest did nothing: {last[0] if last else 'it said nothing'}")
-    return done
+        return read_answers((folder / "data").read_bytes())
 
 
 def bad_lines(log):

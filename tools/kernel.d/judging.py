@@ -130,10 +130,15 @@ def bursts_end(rounds):
     return len(rounds), None
 
 
+def ends_within_a_round(rounds, cores):
+    """Whether the record ended in the middle of a round. Where the round before it isn't complete, the judge has to see that."""
+    return bool(rounds) and not is_complete(rounds[-1], cores) and (len(rounds) < 2 or is_complete(rounds[-2], cores))
+
+
 def cut(record):
     """The rounds that are judged, and why not all are."""
     rounds, why = rounds_of(record.entries), ""
-    if rounds and not is_complete(rounds[-1], record.cores):    # the record ended in the middle of it
+    if ends_within_a_round(rounds, record.cores):
         rounds.pop()
     if record.departed is not None:
         rounds, why = rounds[:max(record.departed - 1, 0)], f"a departure in round {record.departed}"

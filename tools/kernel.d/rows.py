@@ -58,7 +58,7 @@ def print_rows(loader):
         scheduler = build_scheduler(POLICY, Path(folder)).read_bytes()
     files = {"loader": loader.read_bytes(), "numa.bpf.o": scheduler, "untested.bpf.o": untested,
              "crowd.txt": (WORKLOADS / "crowd.txt").read_bytes(), **TEXTS}
-    done = boot([Job(name, command + AFTER) for name, command in ROWS.items()], files, 2, 180)
+    done = boot([Job(name, command + AFTER) for name, command in ROWS.items()], files, 2)
     for name in ROWS:
         if name not in done:
             raise Refused(f"the guest ended before {name}")
