@@ -301,6 +301,6 @@ struct sched_ext_ops balancer = {
 	.stopping = (void *)stopping, .yield = (void *)yields, .quiescent = (void *)quiescent, .init_task = (void *)init_task,
 	.enable = (void *)enable, .disable = (void *)disable, .init = (void *)init, .exit = (void *)gone,
 	.flags = SCX_OPS_SWITCH_PARTIAL | SCX_OPS_ENQ_LAST,
-	.timeout_ms = 10000,
+	.timeout_ms = 30000,		/* of the watchdog; the kernel takes no more */
 	.name = TEXT(POLICY),
 };
