@@ -32,14 +32,14 @@ class Thread:
     the judge finds it."""
 
     def __init__(self, entry):
-        self.core, self.begun, self.weight = entry.core, entry.round, entry.weight
+        self.core, self.begun, self.weight = entry.core, entry.round, max(entry.weight, 1)
         self.bursts, self.units, self.slept_in, self.ended = [], 0, None, False
 
     def add_unit(self, entry):
         if self.ended:
             return
         self.units += 1
-        outcome = entry.outcome & (AFTER_YIELD - 1)
+        outcome = outcome_of(entry)
         if entry.outcome & AFTER_YIELD:
             self.bursts.append(f"run {max(self.units, 1)} yield")
             self.units = 0
@@ -64,17 +64,28 @@ class Thread:
         return [*self.bursts, "forever"]
 
 
+def outcome_of(entry):
+    return entry.outcome & (AFTER_YIELD - 1)
+
+
 def read_entry(line):
     head, reads = line.split(" :")
     numbers, threads = head.split(" t")
-    return Entry(*map(int, numbers.split()), list(map(int, threads.split())), list(map(int, reads.split())))
+    entry = Entry(*map(int, numbers.split()), list(map(int, threads.split())), list(map(int, reads.split())))
+    names_thread = entry.kind in (ENTER, WAKE, STEAL, DEPARTURE)
+    ends_unit = entry.kind == WORK and entry.threads
+    if names_thread and not entry.threads or ends_unit and outcome_of(entry) not in OUTCOMES:
+        raise ValueError(line)
+    if not 0 <= entry.kind <= DEPARTURE:
+        raise ValueError(line)
+    return entry
 
 
 def read_record(text):
     """The record, which has to be whole."""
     lines = text.splitlines()
     head = lines[0].split() if lines else []
-    if len(head) != 8 or head[:3:2] != ["record", "cores"] or head[1] != "1":
+    if len(head) != 8 or head[:3] != ["record", "1", "cores"] or not head[3].isdigit():
         raise Refused("this isn't a record of tools/kernel")
     constants, entries, counters, how = [], [], {}, ""
     for number, line in enumerate(lines[1:], 2):
@@ -98,6 +109,8 @@ def read_record(text):
     history = sorted(entry for entry in entries if entry.kind != DEPARTURE)
     if [entry.at for entry in history] != list(range(len(history))):
         raise Refused("entries of the record are lost, or are there twice")
+    if history and history[0].kind != ROUND:
+        raise Refused("the record's first entry is no round")
     return Record(int(head[3]), head[5] == "1", constants, history, departed, counters, how)
 
 
@@ -161,7 +174,7 @@ def history_line(entry, placed):
         word = "enter" if entry.kind == ENTER else "wake"
         return f"{word} {names} {entry.core} {entry.other}{reads if placed else ''}"
     if entry.kind == WORK:
-        return f"work {entry.core} " + (f"{names} {OUTCOMES[entry.outcome & (AFTER_YIELD - 1)]}" if names else "-")
+        return f"work {entry.core} " + (f"{names} {OUTCOMES[outcome_of(entry)]}" if names else "-")
     if entry.kind == STEAL:
         return f"steal {entry.core} {entry.other} {names}{reads}"
     return (f"fail {entry.core} {entry.other}" if entry.kind == FAIL else f"pass {entry.core}") + reads
@@ -170,12 +183,12 @@ def history_line(entry, placed):
 def threads_of(entries):
     threads = {}
     for entry in entries:
-        if entry.kind == ENTER:
-            threads[entry.threads[0]] = Thread(entry)
-        elif entry.kind == WAKE:
-            threads[entry.threads[0]].wake(entry.round)
-        elif entry.kind == WORK and entry.threads:
-            threads[entry.threads[0]].add_unit(entry)
+        if entry.kind in (ENTER, WAKE) or entry.kind == WORK and entry.threads:
+            thread = threads.setdefault(entry.threads[0], Thread(entry))
+            if entry.kind == WAKE:
+                thread.wake(entry.round)
+            elif entry.kind == WORK:
+                thread.add_unit(entry)
     return threads
 
 
