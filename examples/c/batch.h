@@ -43,6 +43,13 @@
 #define batch_WEIGHT_MIN 1
 #define batch_WEIGHT_MAX 1
 
+/* The attributes of cores and of threads: each is given to a macro X of one parameter. */
+#define batch_CORE_ATTRS(X)
+#define batch_THREAD_ATTRS(X)
+
+/* 1 where a rule is computed in __int128, which compilers for 32 bits and for BPF don't have, else 0. */
+#define batch_WIDE 0
+
 /* A core, as another core may see it. */
 struct batch_core {
 	int64_t nr; /* its threads, the running one counted: from 0 to 1023 */
@@ -99,6 +106,13 @@ batch_steal_on(const struct batch_core *self, const struct batch_core *victim,
 
 /* 1 where a thread stays on the core that lets it in, else 0. */
 #define batch_PLACE_HERE 1
+
+/* Not asked: a thread stays on the core that lets it in. */
+static inline bool
+batch_place_before(const struct batch_core *a, const struct batch_core *b)
+{
+	return false;
+}
 
 /* Whether a runs rather than b. Of equals the one that stands first in the queue runs. */
 static inline bool

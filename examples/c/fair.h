@@ -46,6 +46,13 @@
 #define fair_THREAD_MAX_used 1000
 #define fair_THREAD_START_used 0
 
+/* The attributes of cores and of threads: each is given to a macro X of one parameter. */
+#define fair_CORE_ATTRS(X)
+#define fair_THREAD_ATTRS(X) X(used)
+
+/* 1 where a rule is computed in __int128, which compilers for 32 bits and for BPF don't have, else 0. */
+#define fair_WIDE 0
+
 /* A core, as another core may see it. */
 struct fair_core {
 	int64_t nr; /* its threads, the running one counted: from 0 to 1023 */
@@ -89,6 +96,17 @@ fair_steal_before(const struct fair_thread *a, const struct fair_thread *b)
 {
 	if (a->weight != b->weight)
 		return a->weight > b->weight;
+	return false;
+}
+
+/* The most threads that one steal moves. */
+#define fair_STEAL_LIMIT 1
+
+/* Not asked: a steal moves one thread. */
+static inline bool
+fair_steal_on(const struct fair_core *self, const struct fair_core *victim,
+	const struct fair_thread *thread)
+{
 	return false;
 }
 

@@ -46,6 +46,13 @@
 #define nodes_CORE_MAX_node 1
 #define nodes_CORE_START_node 0
 
+/* The attributes of cores and of threads: each is given to a macro X of one parameter. */
+#define nodes_CORE_ATTRS(X) X(node)
+#define nodes_THREAD_ATTRS(X)
+
+/* 1 where a rule is computed in __int128, which compilers for 32 bits and for BPF don't have, else 0. */
+#define nodes_WIDE 0
+
 /* A core, as another core may see it. */
 struct nodes_core {
 	int64_t nr; /* its threads, the running one counted: from 0 to 1023 */
@@ -92,8 +99,26 @@ nodes_steal_before(const struct nodes_thread *a, const struct nodes_thread *b)
 	return false;
 }
 
+/* The most threads that one steal moves. */
+#define nodes_STEAL_LIMIT 1
+
+/* Not asked: a steal moves one thread. */
+static inline bool
+nodes_steal_on(const struct nodes_core *self, const struct nodes_core *victim,
+	const struct nodes_thread *thread)
+{
+	return false;
+}
+
 /* 1 where a thread stays on the core that lets it in, else 0. */
 #define nodes_PLACE_HERE 1
+
+/* Not asked: a thread stays on the core that lets it in. */
+static inline bool
+nodes_place_before(const struct nodes_core *a, const struct nodes_core *b)
+{
+	return false;
+}
 
 /* Whether a runs rather than b. Of equals the one that stands first in the queue runs. */
 static inline bool

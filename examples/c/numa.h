@@ -46,6 +46,13 @@
 #define numa_CORE_MAX_node 1
 #define numa_CORE_START_node 0
 
+/* The attributes of cores and of threads: each is given to a macro X of one parameter. */
+#define numa_CORE_ATTRS(X) X(node)
+#define numa_THREAD_ATTRS(X)
+
+/* 1 where a rule is computed in __int128, which compilers for 32 bits and for BPF don't have, else 0. */
+#define numa_WIDE 0
+
 /* A core, as another core may see it. */
 struct numa_core {
 	int64_t nr; /* its threads, the running one counted: from 0 to 1023 */
@@ -90,8 +97,26 @@ numa_steal_before(const struct numa_thread *a, const struct numa_thread *b)
 	return false;
 }
 
+/* The most threads that one steal moves. */
+#define numa_STEAL_LIMIT 1
+
+/* Not asked: a steal moves one thread. */
+static inline bool
+numa_steal_on(const struct numa_core *self, const struct numa_core *victim,
+	const struct numa_thread *thread)
+{
+	return false;
+}
+
 /* 1 where a thread stays on the core that lets it in, else 0. */
 #define numa_PLACE_HERE 1
+
+/* Not asked: a thread stays on the core that lets it in. */
+static inline bool
+numa_place_before(const struct numa_core *a, const struct numa_core *b)
+{
+	return false;
+}
 
 /* Whether a runs rather than b. Of equals the one that stands first in the queue runs. */
 static inline bool

@@ -1,7 +1,6 @@
 /*
- * What both programs know of a printed header. "policy.h" is written by tools/try_c: it includes the header, NAME gives the
- * policy's words, and CORE_ATTRS and THREAD_ATTRS are an ATTR for each attribute. It comes first, since the header has to stand
- * by itself.
+ * What both programs know of a printed header. "policy.h" is written by tools/try_c: it includes the header, and NAME gives the
+ * policy's words. It comes first, since the header has to stand by itself.
  */
 #include "policy.h"
 #include <stddef.h>
@@ -16,23 +15,12 @@ struct attr {
 	int64_t least, greatest, start;
 };
 
-#define ATTR(name, type, field, least, greatest, start) { name, offsetof(type, field), least, greatest, start },
-static const struct attr core_attrs[] = { CORE_ATTRS { NULL, 0, 0, 0, 0 } };
-static const struct attr thread_attrs[] = { THREAD_ATTRS { NULL, 0, 0, 0, 0 } };
-
-/* What stands in the place of functions that the policy doesn't need. */
-#if NAME(_STEAL_LIMIT)
-#define LIMIT NAME(_STEAL_LIMIT)
-#define GOES_ON NAME(_steal_on)
-#else
-#define LIMIT 1
-#define GOES_ON(self, victim, thread) ((void)(thread), false)
-#endif
-#if NAME(_PLACE_HERE)
-#define PLACED_BEFORE(a, b) false
-#else
-#define PLACED_BEFORE NAME(_place_before)
-#endif
+#define CORE_ATTR(name) { #name, offsetof(struct NAME(_core), attr_##name), NAME(_CORE_MIN_##name), NAME(_CORE_MAX_##name), \
+	NAME(_CORE_START_##name) },
+#define THREAD_ATTR(name) { #name, offsetof(struct NAME(_thread), attr_##name), NAME(_THREAD_MIN_##name), NAME(_THREAD_MAX_##name), \
+	NAME(_THREAD_START_##name) },
+static const struct attr core_attrs[] = { NAME(_CORE_ATTRS)(CORE_ATTR) { NULL, 0, 0, 0, 0 } };
+static const struct attr thread_attrs[] = { NAME(_THREAD_ATTRS)(THREAD_ATTR) { NULL, 0, 0, 0, 0 } };
 
 static inline int64_t *field(void *owner, const struct attr *attr)
 {

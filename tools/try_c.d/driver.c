@@ -92,7 +92,7 @@ static bool let_in(const char *word, long by, struct thread *thread, bool fresh)
 	long to = NAME(_PLACE_HERE) ? by : 0;
 
 	for (long at = 1; at < core_count && !NAME(_PLACE_HERE); at++)
-		if (PLACED_BEFORE(&cores[at].seen, &cores[to].seen))
+		if (NAME(_place_before)(&cores[at].seen, &cores[to].seen))
 			to = at;
 	printf("%s %ld %ld %ld%s", word, thread->number, by, to, NAME(_PLACE_HERE) ? "" : " :");
 	for (long at = 0; at < core_count && !NAME(_PLACE_HERE); at++)
@@ -162,11 +162,11 @@ static long steal(struct core *thief, struct core *victim, long *stolen)
 {
 	long moved = 0;
 
-	while (moved < LIMIT && victim->queue.length) {
+	while (moved < NAME(_STEAL_LIMIT) && victim->queue.length) {
 		long at = best_of(&victim->queue, NAME(_steal_before));
 		struct thread *next = victim->queue.items[at];
 
-		if (moved ? !GOES_ON(&thief->seen, &victim->seen, &next->seen) : !NAME(_may_steal)(&thief->seen, &victim->seen))
+		if (moved ? !NAME(_steal_on)(&thief->seen, &victim->seen, &next->seen) : !NAME(_may_steal)(&thief->seen, &victim->seen))
 			break;
 		push(take(&victim->queue, at), &thief->queue);
 		stolen[moved++] = next->number;
@@ -178,7 +178,7 @@ static long steal(struct core *thief, struct core *victim, long *stolen)
 
 static void attempt(long by, struct core *core)
 {
-	long stolen[LIMIT], from = choice(by, core->look), moved = from < 0 ? 0 : steal(core, &cores[from], stolen);
+	long stolen[NAME(_STEAL_LIMIT)], from = choice(by, core->look), moved = from < 0 ? 0 : steal(core, &cores[from], stolen);
 
 	if (from < 0)
 		printf("pass %ld", by);

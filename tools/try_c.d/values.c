@@ -88,7 +88,7 @@ static void write_answers(bool fresh)
 {
 	printf(" : %d %d", NAME(_may_steal)(&self, &a), NAME(_choose_before)(&self, &a, &b));
 	printf(" %d %d", NAME(_steal_before)(&one, &other), NAME(_elect_before)(&one, &other));
-	printf(" %d %d", PLACED_BEFORE(&a, &b), GOES_ON(&self, &a, &one));
+	printf(" %d %d", NAME(_place_before)(&a, &b), NAME(_steal_on)(&self, &a, &one));
 	write_events(fresh);
 	puts("");
 }
@@ -101,7 +101,7 @@ static void write_range(const char *kind, const struct attr *attr)
 /* The constants of the header, a line each. */
 static void write_constants(void)
 {
-	printf("%d %d %d %d %d %d\n", NAME(_NR_MAX), NAME(_LOAD_MAX), NAME(_WEIGHT_MIN), NAME(_WEIGHT_MAX), LIMIT, NAME(_PLACE_HERE));
+	printf("%d %d %d %d %d %d\n", NAME(_NR_MAX), NAME(_LOAD_MAX), NAME(_WEIGHT_MIN), NAME(_WEIGHT_MAX), NAME(_STEAL_LIMIT), NAME(_PLACE_HERE));
 	for (const struct attr *attr = core_attrs; attr->name; attr++)
 		write_range("core", attr);
 	for (const struct attr *attr = thread_attrs; attr->name; attr++)
@@ -132,7 +132,7 @@ int main(int count, char **words)
 	if (!strcmp(words[1], "ask")) {
 		for (int at = 2; at < count; at++)
 			set_word(words[at]);
-		printf("%d %d\n", NAME(_may_steal)(&self, &a), GOES_ON(&self, &a, &one));
+		printf("%d %d\n", NAME(_may_steal)(&self, &a), NAME(_steal_on)(&self, &a, &one));
 		return 0;
 	}
 	state = strtoull(words[2], NULL, 10);

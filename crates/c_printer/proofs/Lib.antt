@@ -5,3 +5,4 @@ pub mod VariableBounds
 pub mod WiderRanges
 pub mod Widest
 pub mod WidthBounds
+pub mod WideLemmas

@@ -1,6 +1,7 @@
 pub mod Adds
 pub mod WordTexts
 pub mod Widths
+pub mod WideRules
 pub mod ExpressionTexts
 pub mod ConditionTexts
 pub mod OrderTexts

@@ -92,8 +92,16 @@ placed_texts p e =
     ++ (two_cores_texts p (codes "a") (codes "b")
     ++ (codes ")\n{\n\treturn " ∷ (pair_texts p (codes " < ") e ++ (codes ";\n}\n" ∷ []))))
 
+-- the same where a thread stays on the core that lets it in, so that nobody need ask
+abbrev pub never_placed_texts : Meaning → List (List ℕ)
+never_placed_texts p =
+    asked_texts p
+    (codes "\n/* Not asked: a thread stays on the core that lets it in. */\n")
+    (codes "_place_before")
+    ++ (two_cores_texts p (codes "a") (codes "b") ++ (codes ")\n{\n\treturn false;\n}\n" ∷ []))
+
 abbrev pub rule_texts : Meaning → PlaceTree → List (List ℕ)
-rule_texts p here = codes "_PLACE_HERE 1\n" ∷ []
+rule_texts p here = codes "_PLACE_HERE 1\n" ∷ never_placed_texts p
 rule_texts p (least e) = codes "_PLACE_HERE 0\n" ∷ placed_texts p e
 
 -- where a thread is placed
@@ -118,7 +126,16 @@ going_on_texts p c =
     ++ (codes ",\n\t" ∷ (thread_texts p (codes "thread")
     ++ (codes ")\n{\n\treturn " ∷ (cond_texts p view.Named c ++ (codes ";\n}\n" ∷ []))))))
 
--- a batch, and nothing where a steal moves one thread
+-- the same where a steal moves one thread
+abbrev pub not_going_on_texts : Meaning → List (List ℕ)
+not_going_on_texts p =
+    asked_texts p
+    (codes "\n/* Not asked: a steal moves one thread. */\n")
+    (codes "_steal_on")
+    ++ (two_cores_texts p (codes "self") (codes "victim")
+    ++ (codes ",\n\t" ∷ (thread_texts p (codes "thread") ++ (codes ")\n{\n\treturn false;\n}\n" ∷ []))))
+
+-- a batch, or that a steal moves one thread
 abbrev pub batch_texts : Meaning → Option BatchTree → List (List ℕ)
-batch_texts p None = []
+batch_texts p None = limit_texts p 1 ++ not_going_on_texts p
 batch_texts p (Some b) = limit_texts p b.limit ++ going_on_texts p b.condition

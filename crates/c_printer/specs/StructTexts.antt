@@ -1,11 +1,12 @@
 -- Cores and threads as structs, with their ranges.
-use Rattle.std.specs.Prelude.{ℕ, List, [], ◌∷◌, ◌++◌, ◌*◌, codes, decimal}
+use Rattle.std.specs.Prelude.{ℕ, Bool, true, false, List, [], ◌∷◌, ◌++◌, ◌*◌, codes, decimal}
 use Rattle.std.specs.List.{flat_map}
 use Rattle.sched_base.specs.declared.limits.TheConstants.{MAX_THREADS}
 use Rattle.policy_tree.specs.declared.typed.Attr.{Attr}
 use Rattle.policy_tree.specs.Meaning.{Meaning}
 use Rattle.policy_eval.specs.Ranges.{greatest_weight, least_weight}
 use Rattle.c_printer.specs.ExpressionTexts.{plain_texts, signed_texts}
+use Rattle.c_printer.specs.WideRules.{is_wide_policy}
 
 -- a constant of an attribute of that kind, of cores or of threads, but for its number
 abbrev pub constant_texts : Meaning → (kind end : List ℕ) → Attr → List (List ℕ)
@@ -31,6 +32,30 @@ constants_texts p =
     ++ (limit_constant_texts p (codes "_WEIGHT_MAX ") (greatest_weight p.load)
     ++ (flat_map (range_texts p (codes "_CORE_")) p.core_attrs
     ++ flat_map (range_texts p (codes "_THREAD_")) p.thread_attrs)))))
+
+-- the macro X, applied to the attribute's name
+abbrev pub applied_texts : Attr → List (List ℕ)
+applied_texts a = codes " X(" ∷ a.name ∷ codes ")" ∷ []
+
+-- attributes as a list that a macro can walk
+abbrev pub list_texts : Meaning → (word : List ℕ) → List Attr → List (List ℕ)
+list_texts p word attrs =
+    codes "#define " ∷ p.name ∷ word ∷ (flat_map applied_texts attrs ++ (codes "\n" ∷ []))
+
+abbrev pub lists_texts : Meaning → List (List ℕ)
+lists_texts p =
+    codes "\n/* The attributes of cores and of threads: each is given to a macro X of one parameter. */\n"
+    ∷ (list_texts p (codes "_CORE_ATTRS(X)") p.core_attrs ++ list_texts p (codes "_THREAD_ATTRS(X)") p.thread_attrs)
+
+abbrev pub digit_text : Bool → List ℕ
+digit_text true = codes "1\n"
+digit_text false = codes "0\n"
+
+-- whether a compiler without `__int128` can take the header
+abbrev pub wide_texts : Meaning → List (List ℕ)
+wide_texts p =
+    codes "\n/* 1 where a rule is computed in __int128, which compilers for 32 bits and for BPF don't have, else 0. */\n"
+    ∷ codes "#define " ∷ p.name ∷ codes "_WIDE " ∷ digit_text (is_wide_policy p) ∷ []
 
 -- a field with its range
 abbrev pub field_texts : Attr → List (List ℕ)
@@ -68,4 +93,5 @@ cut_texts p =
 
 abbrev pub structs_texts : Meaning → List (List ℕ)
 structs_texts p =
-    constants_texts p ++ (core_struct_texts p ++ (thread_struct_texts p ++ (put_enum_texts p ++ cut_texts p)))
+    constants_texts p ++ (lists_texts p ++ (wide_texts p ++ (core_struct_texts p
+    ++ (thread_struct_texts p ++ (put_enum_texts p ++ cut_texts p)))))

@@ -10,6 +10,7 @@ mod orders;
 mod printer;
 mod printing;
 mod structs;
+mod wide_rules;
 mod widths;
 mod words;
 

@@ -8,7 +8,7 @@ ghost use Rattle.c_printer.specs.OrderTexts.{asked_texts, batch_texts, choose_te
 ghost use Rattle.c_printer.specs.OrderTexts.{filter_texts, key_texts, order_texts, pair_texts, place_texts};
 ghost use Rattle.c_printer.specs.OrderTexts.{ranked_texts, steal_texts, thread_texts, two_cores_texts};
 ghost use Rattle.c_printer.specs.OrderTexts.{going_on_texts, limit_texts, placed_texts, preferred_texts};
-ghost use Rattle.c_printer.specs.OrderTexts.{two_threads_texts};
+ghost use Rattle.c_printer.specs.OrderTexts.{never_placed_texts, not_going_on_texts, two_threads_texts};
 
 use crate::printer::Printer;
 use crate::words::View;
@@ -75,7 +75,10 @@ impl Printer {
         self.word("\n/* 1 where a thread stays on the core that lets it in, else 0. */\n#define ")?;
         self.name(policy.name.as_slice())?;
         match &policy.place {
-            PlaceRule::Here => self.word("_PLACE_HERE 1\n"),
+            PlaceRule::Here => {
+                self.word("_PLACE_HERE 1\n")?;
+                self.never_placed(policy)
+            }
             PlaceRule::Least(expr) => {
                 self.word("_PLACE_HERE 0\n")?;
                 self.placed(policy, expr)
@@ -99,6 +102,19 @@ impl Printer {
         self.word(";\n}\n")
     }
 
+    /// The same where a thread stays on the core that lets it in.
+    fn never_placed(&mut self, policy: &Policy) -> Result<(), AllocError>
+        ensures { OnOk result (Prints (never_placed_texts (meaning_of policy.now)) self.old self.new) }
+    {
+        self.asked(
+            policy,
+            "\n/* Not asked: a thread stays on the core that lets it in. */\n",
+            "_place_before",
+        )?;
+        self.two_cores(policy, "a", "b")?;
+        self.word(")\n{\n\treturn false;\n}\n")
+    }
+
     /// When a steal goes on to another thread.
     pub(crate) fn batch(&mut self, policy: &Policy) -> Result<(), AllocError>
         ensures { OnOk result (Prints
@@ -106,7 +122,10 @@ impl Printer {
             self.old self.new) }
     {
         match &policy.batch {
-            None => Ok(()),
+            None => {
+                self.limit(policy, 1)?;
+                self.not_going_on(policy)
+            }
             Some(batch) => {
                 self.limit(policy, batch.limit)?;
                 self.going_on(policy, &batch.cond)
@@ -139,6 +158,21 @@ impl Printer {
         self.word(")\n{\n\treturn ")?;
         self.condition(policy, View::Named, cond)?;
         self.word(";\n}\n")
+    }
+
+    /// The same where a steal moves one thread.
+    fn not_going_on(&mut self, policy: &Policy) -> Result<(), AllocError>
+        ensures { OnOk result (Prints (not_going_on_texts (meaning_of policy.now)) self.old self.new) }
+    {
+        self.asked(
+            policy,
+            "\n/* Not asked: a steal moves one thread. */\n",
+            "_steal_on",
+        )?;
+        self.two_cores(policy, "self", "victim")?;
+        self.word(",\n\t")?;
+        self.thread(policy, "thread")?;
+        self.word(")\n{\n\treturn false;\n}\n")
     }
 
     /// The head of a function that answers whether, up to its parameters.

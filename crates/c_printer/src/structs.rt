@@ -1,15 +1,17 @@
 //! Prints cores and threads as structs, with their ranges.
 
-ghost use Rattle.std.specs.Prelude.{OnOk};
+ghost use Rattle.std.specs.Prelude.{◌≡◌, OnOk};
 ghost use Rattle.std.specs.List.{flat_map};
 ghost use Rattle.policy_tree.specs.Meaning.{meaning_of};
 ghost use Rattle.c_printer.specs.Adds.{Prints};
 ghost use Rattle.c_printer.specs.ExpressionTexts.{plain_texts, signed_texts};
 ghost use Rattle.c_printer.specs.StructTexts.{constant_texts, constants_texts, core_struct_texts, cut_texts};
 ghost use Rattle.c_printer.specs.StructTexts.{field_texts, limit_constant_texts, put_enum_texts, range_texts};
-ghost use Rattle.c_printer.specs.StructTexts.{structs_texts, thread_struct_texts};
+ghost use Rattle.c_printer.specs.StructTexts.{applied_texts, digit_text, list_texts, lists_texts};
+ghost use Rattle.c_printer.specs.StructTexts.{structs_texts, thread_struct_texts, wide_texts};
 
 use crate::printer::Printer;
+use crate::wide_rules::is_wide_policy;
 use crate::widths::{greatest_weight, least_weight};
 use policy_tree::{Attr, Policy};
 use sched_base::MAX_THREADS;
@@ -20,6 +22,8 @@ impl Printer {
         ensures { OnOk result (Prints (structs_texts (meaning_of policy.now)) self.old self.new) }
     {
         self.constants(policy)?;
+        self.lists(policy)?;
+        self.wide_rules(policy)?;
         self.core_struct(policy)?;
         self.thread_struct(policy)?;
         self.put_enum(policy)?;
@@ -112,6 +116,59 @@ impl Printer {
         ensures { OnOk result (Prints (plain_texts attr.now.start) self.old self.new) }
     {
         self.plain(attr.start)
+    }
+
+    /// The attributes as lists that a macro can walk.
+    fn lists(&mut self, policy: &Policy) -> Result<(), AllocError>
+        ensures { OnOk result (Prints (lists_texts (meaning_of policy.now)) self.old self.new) }
+    {
+        self.word(
+            "\n/* The attributes of cores and of threads: each is given to a macro X of one parameter. */\n",
+        )?;
+        self.list(policy, "_CORE_ATTRS(X)", policy.core_attrs.as_slice())?;
+        self.list(policy, "_THREAD_ATTRS(X)", policy.thread_attrs.as_slice())
+    }
+
+    fn list(&mut self, policy: &Policy, word: &str, attrs: &[Attr]) -> Result<(), AllocError>
+        ensures { OnOk result
+            (Prints (list_texts (meaning_of policy.now) word.now attrs.now) self.old self.new) }
+    {
+        self.word("#define ")?;
+        self.name(policy.name.as_slice())?;
+        self.word(word)?;
+        self.applications(attrs)?;
+        self.word("\n")
+    }
+
+    fn applications(&mut self, attrs: &[Attr]) -> Result<(), AllocError>
+        ensures { OnOk result (Prints (flat_map applied_texts attrs.now) self.old self.new) }
+    {
+        for attr in attrs {
+            self.applied(attr)?;
+        }
+        Ok(())
+    }
+
+    /// The macro, applied to the attribute's name.
+    fn applied(&mut self, attr: &Attr) -> Result<(), AllocError>
+        ensures { OnOk result (Prints (applied_texts attr.now) self.old self.new) }
+    {
+        self.word(" X(")?;
+        self.name(attr.name.as_slice())?;
+        self.word(")")
+    }
+
+    /// Whether some rule needs a type that not every compiler has.
+    fn wide_rules(&mut self, policy: &Policy) -> Result<(), AllocError>
+        ensures { OnOk result (Prints (wide_texts (meaning_of policy.now)) self.old self.new) }
+    {
+        self.word(
+            "\n/* 1 where a rule is computed in __int128, which compilers for 32 bits and for BPF don't have, else 0. */\n",
+        )?;
+        self.word("#define ")?;
+        self.name(policy.name.as_slice())?;
+        self.word("_WIDE ")?;
+        self.word(digit_text(is_wide_policy(policy)))
     }
 
     fn core_struct(&mut self, policy: &Policy) -> Result<(), AllocError>
@@ -212,4 +269,10 @@ impl Printer {
         self.word("_cut(int64_t value, int64_t least, int64_t greatest)\n{\n")?;
         self.word("\treturn value < least ? least : value > greatest ? greatest : value;\n}\n")
     }
+}
+
+fn digit_text(holds: bool) -> &'static str
+    ensures { result.now ≡ digit_text holds }
+{
+    if holds { "1\n" } else { "0\n" }
 }

@@ -11,3 +11,10 @@ returns-in_ok-limit-in-Some c =
     (λ last. same_texts
     (sym (ap (λ (b : Option Batch). batch_texts (meaning_of c.args.policy.now) (option_map batch_tree b)) c.in-Some.is))
     (c.in_ok-limit-in-Some.ensures ⊳ last))
+
+pub returns-in_ok-limit-in-None : goal.returns-in_ok-limit-in-None
+returns-in_ok-limit-in-None c =
+    given_ok c.not_going_on.result c.not_going_on.ensures
+    (λ last. same_texts
+    (sym (ap (λ (b : Option Batch). batch_texts (meaning_of c.args.policy.now) (option_map batch_tree b)) c.in-None.is))
+    (c.in_ok-limit-in-None.ensures ⊳ last))

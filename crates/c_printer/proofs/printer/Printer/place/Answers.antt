@@ -5,13 +5,13 @@ use Rattle.c_printer.specs.OrderTexts.{rule_texts}
 use Rattle.c_printer.proofs.AddsLemmas.{◌⊳◌, given_ok, reads_as, same_texts}
 use Rattle.c_printer.proofs.printer.Printer.place.Goals as goal
 
-pub returns-in-Here : goal.returns-in-Here
-returns-in-Here c =
-    given_ok c.word-in-Here.result c.word-in-Here.ensures
+pub returns-in_ok-word-in-Here : goal.returns-in_ok-word-in-Here
+returns-in_ok-word-in-Here c =
+    given_ok c.never_placed.result c.never_placed.ensures
     (λ last. same_texts (sym (ap (λ (r : PlaceRule).
     codes "\n/* 1 where a thread stays on the core that lets it in, else 0. */\n#define " ∷ c.args.policy.now.name
     ∷ rule_texts (meaning_of c.args.policy.now) (place_tree r)) c.in-Here.is))
-    (c.in_ok-word.ensures ⊳ reads_as c.as_slice.ensures.items c.in_ok-name.ensures ⊳ last))
+    (c.in_ok-word.ensures ⊳ reads_as c.as_slice.ensures.items c.in_ok-name.ensures ⊳ c.in_ok-word-in-Here.ensures ⊳ last))
 
 pub returns-in_ok-word-in-Least : goal.returns-in_ok-word-in-Least
 returns-in_ok-word-in-Least c =
