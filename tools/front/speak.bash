@@ -127,11 +127,27 @@ are_numbers() {
   [[ "$1" =~ ^[0-9]{1,20}$ && "$2" =~ ^[0-9]{1,20}$ ]]
 }
 
+# Whether the word is UTF-8, as far as can be told here.
+is_utf8() {
+  ! command -v iconv >/dev/null || printf '%s' "$1" | iconv -f UTF-8 -t UTF-8 >/dev/null 2>&1
+}
+
+# Whether no command takes the word. If so it says why, but of a call for help.
+say_bad_word() {
+  case "$1" in
+    '') say 'ipanema: a word is empty' ;;
+    -h | --help) ;;
+    -*) say "ipanema: there are no options; a file of the name \`$1\` is named as ./$1" ;;
+    *) if is_utf8 "$1"; then return 1; fi; say "ipanema: the word ${1@Q} isn't UTF-8, as words must be; give the file a link with another name" ;;
+  esac
+}
+
 # Status 7: what is wrong with the words, and the usage of the command that was meant, or of all.
 say_words() {
-  local command="${1:-}" word near wanted
+  local command="${1:-}" word near wanted bad=''
   if [ $# -eq 0 ]; then usage; return; fi
   if [[ " ${commands[*]} " != *" $command "* || "$command" = *' '* ]]; then
+    is_utf8 "$command" || command="${command@Q}"
     find_near "$command" "${commands[@]}"
     say_near "$command" command
     if [ ${#near[@]} -eq 1 ]; then say 'usage:'; usage_of "${near[0]}"; else usage; fi
@@ -139,15 +155,13 @@ say_words() {
   fi
   shift
   for word in "$@"; do
-    case "$word" in
-      '') say 'ipanema: a word is empty' ;;
-      -h | --help) ;;
-      -*) say "ipanema: there are no options; a file of the name \`$word\` is named as ./$word" ;;
-    esac
+    if say_bad_word "$word"; then bad=yes; fi
   done
   wanted="$(words_of "$command")"
   if [ $# -ne "$wanted" ]; then
     say "ipanema: the number of words behind \`$command\` is $wanted, and here it is $#"
+  elif [ -n "$bad" ]; then
+    :
   elif [ "$command" = explain ]; then
     find_near "$2" "${obligations[@]}"
     say_near "$2" obligation
