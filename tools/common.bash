@@ -6,7 +6,7 @@
 unset CDPATH
 here="$(readlink -n -f -- "${BASH_SOURCE[0]}" && printf .)"
 top="${here%/*/*}"
-cd -- "$top"
+cd -- "$top" || exit
 source "$top/tools/front/programs.bash"
 
 # How many things were wrong.

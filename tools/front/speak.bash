@@ -214,6 +214,7 @@ say_not_accepted() {
 
 # Status 2 or 10: a sentence on the fault, if python3 is there and finds one.
 say_fault() {
+  # shellcheck disable=SC2261 # `told` is another number than that of the standard error by now
   command -v python3 >/dev/null && python3 -I "$front/tell.py" "$@" >&"$told" 2>/dev/null
 }
 

@@ -174,7 +174,7 @@ PUTS = {"enqueue": "`queue`", "tick": "`queue` or `keep`", "yield": "`queue` or 
 
 
 def of_not_here(text, at, tokens):
-    section, event = "", ""
+    section, event, behind_dot, token = "", "", False, tokens[0]
     for n, token in enumerate(tokens):
         behind_dot = n and tokens[n - 1].text == "."
         if token.at == at:
@@ -297,7 +297,7 @@ def sentence(status, program, command, words):
     how = {"stdin": subprocess.DEVNULL, "stdout": subprocess.PIPE, "stderr": subprocess.DEVNULL, "timeout": SECONDS}
     if "/dev/stdin" in names.values() or any(it.startswith(("/dev/fd/", "/proc/")) for it in names.values()):
         del how["stdin"]
-    ran = subprocess.run([program, command, *words], **how)
+    ran = subprocess.run([program, command, *words], check=False, **how)
     if ran.returncode != status:
         return None
     kind, *rest = ran.stdout.decode("ascii").split("\n")[0].split(" ")
