@@ -9,6 +9,10 @@ top="${here%/*/*}"
 cd -- "$top" || exit
 source "$top/tools/front/programs.bash"
 
+# What was closed is opened, so that no other file takes its place.
+[ -e /dev/fd/0 ] || exec </dev/null
+[ -e /dev/fd/2 ] || exec 2>/dev/null
+
 # How many things were wrong.
 failed=0
 

@@ -36,5 +36,5 @@ program_of() {
 keep_as() {
   local file=$1 place
   place="$(place_of "$2" "$3")"
-  (umask 022 && mkdir -p -- "${place%/*}" && install -m 755 -- "$file" "$place.$$" && sync -- "$place.$$" && mv -f -- "$place.$$" "$place") 2>/dev/null
+  (umask 022 && mkdir -p -- "${place%/*}" && install -m 755 -- "$file" "$place.$$" && sync -- "$place.$$" && mv -f -T -- "$place.$$" "$place") 2>/dev/null
 }
