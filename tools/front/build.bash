@@ -151,7 +151,7 @@ build() {
   say "ipanema: building the program from its sources, in one to three minutes; it isn't proved and is slow, and tools/prove makes the proved one"
   run_try
   if ! is_program "$work/program"; then
-    mv -f -- "$work/log" "$kept/build.log"
+    mv -f -T -- "$work/log" "$kept/build.log"
     cannot "see $kept/build.log"
   fi
   [ "$(sum_of_sources)" = "$sum" ] || cannot "a source has changed meanwhile; call it again"
