@@ -27,7 +27,8 @@ make_work_folder() {
   trap 'rm -rf -- "$work"' EXIT
 }
 
-# Finds `program`, the one that ./ipanema uses, without its look at all sources each time. Should it have to be built, this says so.
+# Finds `program`, the one that ./ipanema uses, without its look at all sources each time. Should it have to be built,
+# this says so.
 find_built() {
   ./ipanema make 1 1 >/dev/null
   program="$(program_of)"

@@ -1,5 +1,6 @@
-"""What the scripts of python beside this file have in common. They read with a limit, whatever is at the end of a name, and write a file
-whole or not at all. Their temporary files don't outlive them. They end with a status, and one sentence where something is wrong.
+"""What the scripts of python beside this file have in common. They read with a limit, whatever is at the end of a name,
+and write a file whole or not at all. Their temporary files don't outlive them. They end with a status, and one sentence
+where something is wrong.
 """
 
 import contextlib
@@ -42,7 +43,8 @@ def open_closed():
             CLOSED.add(number)
             os.open(os.devnull, os.O_RDWR)
     if 2 in CLOSED:
-        sys.stderr = open(os.devnull, "w", encoding="utf-8")  # pylint: disable=consider-using-with # it is open to the end
+        # pylint: disable-next=consider-using-with # it is open to the end
+        sys.stderr = open(os.devnull, "w", encoding="utf-8")
 
 
 # ---- the first words and the last
@@ -131,8 +133,8 @@ def write(text, what="output"):
 
 
 def keep(texts):
-    """Writes each text to the file of its name. Each is there whole or not at all, and no link is followed. None is replaced before all
-    are written.
+    """Writes each text to the file of its name. Each is there whole or not at all, and no link is followed. None is
+    replaced before all are written.
     """
     with contextlib.ExitStack() as parts:
         made = [(parts.enter_context(part_of(name, data)), name) for name, data in texts.items()]

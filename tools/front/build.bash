@@ -1,8 +1,9 @@
-# How ./ipanema builds a program from the sources alone, and what becomes of a build that is cut off. To be read by that script, which
-# has set `top`, `front` and `sum`, or by a guard (below).
+# How ./ipanema builds a program from the sources alone, and what becomes of a build that is cut off. To be read by that
+# script, which has set `top`, `front` and `sum`, or by a guard (below).
 #
-# A build works in a folder of its own, out/unproved/build.XXXXXX. The file `mark` there says that a build made the folder, and is
-# locked as long as the script or its guard lives. Its second line is the process group of `rt try`, with when that began.
+# A build works in a folder of its own, out/unproved/build.XXXXXX. The file `mark` there says that a build made the
+# folder, and is locked as long as the script or its guard lives. Its second line is the process group of `rt try`, with
+# when that began.
 MARK='a build of ./ipanema'
 kept="$top/out/unproved"
 # The folder of the build at hand.
@@ -28,8 +29,8 @@ began_of() {
   echo "${words[19]}"
 }
 
-# Ends `rt try` of the build in that folder, with all that it started, should it still run. `rt` cleans up when it is told to end, so
-# it is given two seconds for that.
+# Ends `rt try` of the build in that folder, with all that it started, should it still run. `rt` cleans up when it is
+# told to end, so it is given two seconds for that.
 end_try() {
   local group began now tries
   read -r group began < <(sed -n 2p -- "$1/mark" 2>/dev/null)
@@ -49,8 +50,9 @@ clear_away() {
   at_end=true
 }
 
-# Clears away should the script be killed outright, of which it is told nothing itself: then the pipe ends that only it holds. A line
-# says that nothing is left to do. The guard is in a session of its own, so that what kills the group of the script spares it.
+# Clears away should the script be killed outright, of which it is told nothing itself: then the pipe ends that only it
+# holds. A line says that nothing is left to do. The guard is in a session of its own, so that what kills the group of
+# the script spares it.
 guard() {
   work=$1
   trap '' HUP INT TERM
@@ -63,27 +65,29 @@ begin_guard() {
   local apart=()
   if command -v setsid >/dev/null; then apart=(setsid); fi
   # shellcheck disable=SC2016 # the words are those of another script
-  exec {hold}> >(exec "${apart[@]}" bash -pc 'top=$1 front=$2; source "$front/build.bash"; guard "$3"' "$top/ipanema" "$top" "$front" "$work" >/dev/null 2>&1)
+  exec {hold}> >(exec "${apart[@]}" bash -pc 'top=$1 front=$2; source "$front/build.bash"; guard "$3"' \
+    "$top/ipanema" "$top" "$front" "$work" >/dev/null 2>&1)
 }
 
 # Makes the folder of a build, with its mark. That is locked before another call can find it.
 make_folder() {
   work="$(mktemp -d -- "$kept/build.XXXXXX" 2>/dev/null)" && [ -n "$work" ] || cannot "nothing can be written to $kept"
   at_end=clear_away
-  { mkdir -- "$work/room" && long_trace >"$work/trace" && echo "$MARK" >"$work/new"; } 2>/dev/null || cannot "nothing can be written to $kept"
+  { mkdir -- "$work/room" && long_trace >"$work/trace" && echo "$MARK" >"$work/new"; } 2>/dev/null ||
+    cannot "nothing can be written to $kept"
   exec {lock}<"$work/new"
   if command -v flock >/dev/null; then flock -n "$lock"; fi
   mv -- "$work/new" "$work/mark"
 }
 
-# Clears away what builds left that were killed with their guards. Only a folder is removed that has the name and the mark of one, and
-# none behind a link.
+# Clears away what builds left that were killed with their guards. Only a folder is removed that has the name and the
+# mark of one, and none behind a link.
 sweep() {
   local folder mark
   if [ -L "$top/out" ] || [ -L "$kept" ] || ! command -v flock >/dev/null; then return; fi
   for folder in "$kept"/build.??????; do
-    if [ -L "$folder" ] || [ -L "$folder/mark" ] || ! read -r mark 2>/dev/null <"$folder/mark" || [ "$mark" != "$MARK" ]; then continue; fi
-    if ! flock -n "$folder/mark" true; then continue; fi
+    if [ -L "$folder" ] || [ -L "$folder/mark" ] || ! read -r mark 2>/dev/null <"$folder/mark"; then continue; fi
+    if [ "$mark" != "$MARK" ] || ! flock -n "$folder/mark" true; then continue; fi
     end_try "$folder"
     rm -rf -- "$folder"
   done
@@ -110,7 +114,8 @@ try_program() {
   local group=$BASHPID
   exec {hold}>&- {lock}<&-
   echo "$group $(began_of "$group")" >>"$work/mark" && cd -- "$top/crates/ipanema" &&
-    TMPDIR="$work/room" exec rt try --data policy="$top/examples/basic.policy" --data trace="$work/trace" -- play policy trace
+    TMPDIR="$work/room" exec rt try --data policy="$top/examples/basic.policy" --data trace="$work/trace" \
+      -- play policy trace
 }
 
 # Runs `rt try` in a process group of its own, which ends when its program is kept, or when this script ends.
@@ -148,7 +153,8 @@ build() {
   umask 022
   mkdir -p -- "$kept" 2>/dev/null || cannot "there can't be a folder $kept"
   make_folder
-  say "ipanema: building the program from its sources, in one to three minutes; it isn't proved and is slow, and tools/prove makes the proved one"
+  say "ipanema: building the program from its sources, in one to three minutes;" \
+    "it isn't proved and is slow, and tools/prove makes the proved one"
   run_try
   if ! is_program "$work/program"; then
     mv -f -T -- "$work/log" "$kept/build.log"
