@@ -57,6 +57,16 @@ def say(words):
         sys.stderr.flush()
 
 
+@contextlib.contextmanager
+def undisturbed():
+    """Signals that end the script wait meanwhile."""
+    before = signal.pthread_sigmask(signal.SIG_BLOCK, ENDING_SIGNALS)
+    try:
+        yield
+    finally:
+        signal.pthread_sigmask(signal.SIG_SETMASK, before)
+
+
 def end_by(number, _):
     for each in ENDING_SIGNALS:
         signal.signal(each, signal.SIG_IGN)
@@ -65,6 +75,8 @@ def end_by(number, _):
 
 def run(tool, main, refused=2):
     """Ends with the status of `main` on the words of the call, or with `refused` and a sentence."""
+    with undisturbed(), contextlib.suppress(OSError):
+        tempfile.gettempdir()  # it tries the folder, by a file there
     for each in ENDING_SIGNALS:
         if signal.getsignal(each) != signal.SIG_IGN:
             signal.signal(each, end_by)
@@ -154,10 +166,11 @@ def writing(name):
 @contextlib.contextmanager
 def part_of(name, data):
     """A new file beside that name, which has the bytes and is gone in the end. All may read it whom the caller lets."""
-    with writing(name):
-        require_place(name)
-        number, part = tempfile.mkstemp(prefix=".", suffix=".part", dir=Path(name).parent)
-    try:
+    with contextlib.ExitStack() as stack:
+        with writing(name), undisturbed():
+            require_place(name)
+            number, part = tempfile.mkstemp(prefix=".", suffix=".part", dir=Path(name).parent)
+            stack.callback(Path(part).unlink, missing_ok=True)
         with writing(name), open(number, "wb") as file:
             file.write(data)
             file.flush()
@@ -166,9 +179,6 @@ def part_of(name, data):
             os.umask(mask)
             os.fchmod(number, 0o666 & ~mask)
         yield part
-    finally:
-        with contextlib.suppress(OSError):
-            os.unlink(part)
 
 
 def require_place(name):
@@ -186,12 +196,22 @@ def passing(data, suffix=""):
     """The name of a temporary file with that text."""
     with contextlib.ExitStack() as stack:
         try:
-            file = stack.enter_context(tempfile.NamedTemporaryFile(suffix=suffix))
+            with undisturbed():
+                file = stack.enter_context(tempfile.NamedTemporaryFile(suffix=suffix))
             file.write(data)
             file.flush()
         except OSError as error:
             raise Refused(f"a temporary file can't be written: {reason(error)}") from error
         yield file.name
+
+
+@contextlib.contextmanager
+def folder():
+    """The name of a temporary folder."""
+    with contextlib.ExitStack() as stack:
+        with undisturbed():
+            made = stack.enter_context(tempfile.TemporaryDirectory())
+        yield made
 
 
 open_closed()
