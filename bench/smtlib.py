@@ -6,6 +6,7 @@ makes no rows of it. It takes texts that the program takes, and looks for no fau
 """
 import re
 import sys
+from pathlib import Path
 
 MOST_THREADS = 1023
 EVENTS = ["enqueue", "tick", "yield", "block"]
@@ -39,14 +40,16 @@ class Policy:
         return True
 
     def read(self):
-        self.next(), self.next(), self.next()
+        for _ in ("policy", "its name", "load"):
+            self.next()
         if self.next() == "weight":
             self.weights = self.range()
         while self.peek() in ("core", "thread"):
             kind, name = self.next(), self.next()
             self.next()
             self.attributes[kind][name] = self.range()
-            self.next(), self.integer()
+            self.next()
+            self.integer()
         while self.peek() not in ("on", "filter"):
             self.next()
         while self.takes("on"):
@@ -171,4 +174,4 @@ def smtlib(text):
 
 
 if __name__ == "__main__":
-    sys.stdout.write(smtlib(open(sys.argv[1]).read())[1])
+    sys.stdout.write(smtlib(Path(sys.argv[1]).read_text(encoding="ascii"))[1])

@@ -3,11 +3,11 @@
 import functools
 import re
 import subprocess
-import sys
 from collections import namedtuple
 from pathlib import Path
 
-from histories import Refused, read_report, read_waste
+from common import LONGEST, Refused, read_file
+from histories import read_report, read_waste
 
 PROGRAM = Path(__file__).resolve().parent.parent / "ipanema"
 WHOLE, STOPPED, NOT_WHOLE = 0, 8, 9
@@ -32,10 +32,12 @@ def build():
 
 def program():
     """The program that ./ipanema uses, without its look at all sources."""
-    subprocess.run([PROGRAM, "make", "1", "1"], stdout=subprocess.DEVNULL, check=True)
-    said = subprocess.run(["bash", "-c", 'top="$PWD"; source tools/front/programs.bash; program_of'], cwd=PROGRAM.parent, stdout=subprocess.PIPE,
-                          check=True, text=True)
-    return said.stdout.strip()
+    build()
+    said = subprocess.run(["bash", "-pc", 'top="$PWD"; source tools/front/programs.bash; program_of'], cwd=PROGRAM.parent,
+                          stdout=subprocess.PIPE, check=False, text=True)
+    if said.returncode:
+        raise Refused("there is no program; ./ipanema builds one")
+    return said.stdout
 
 
 def ask(statuses, *words):
@@ -93,24 +95,9 @@ def waste_of(policy, trace):
 # ---- the files
 
 
-def read_file(name):
-    try:
-        return Path(name).read_bytes()
-    except OSError as error:
-        raise Refused(f"{name} can't be read: {error.strerror}") from error
-
-
-def write(text, what):
-    try:
-        sys.stdout.buffer.write(text.encode("utf-8", "replace"))
-        sys.stdout.buffer.flush()
-    except OSError as error:
-        raise Refused(f"the {what} can't be written: {error.strerror}") from error
-
-
 def words_in(name):
     """The words of the lines that say something. `#` begins what says nothing, as in a trace and in a policy."""
-    lines = (re.sub(r"#.*", "", line).split() for line in read_file(name).decode("latin-1").split("\n"))
+    lines = (re.sub(r"#.*", "", line).split() for line in read_file(name, LONGEST["trace"]).decode("latin-1").split("\n"))
     return [words for words in lines if words]
 
 

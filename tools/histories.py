@@ -3,6 +3,8 @@
 import re
 from collections import namedtuple
 
+from common import Refused
+
 MOST_CORES = 64
 FIRST_FORMAT_CORES = 32
 MOST_STOLEN = 8
@@ -42,10 +44,6 @@ TOTALS = ["rounds", "entries", "steals", "fails", "bad", "wasted"]
 # A line has the values of the words in angle brackets by their names.
 Line = namedtuple("Line", "kind text values")
 Report = namedtuple("Report", "rounds stills fails unexplained totals")
-
-
-class Refused(Exception):
-    """The text isn't of the form. The argument says where."""
 
 
 class History(list):

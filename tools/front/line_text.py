@@ -5,6 +5,9 @@ The ranges are those of docs/FORMATS.md. Where the program goes by others, only 
 import re
 
 CORES = 64
+# Of longer lines no more is said.
+LONGEST_LINE = 65536
+OF_LONG_LINE = 1, f"the fault is in this line, which has more than {LONGEST_LINE:,} bytes"
 NUMBER = r"[0-9]{1,19}"
 FORMS = {
     "cores": "cores N",
@@ -140,6 +143,8 @@ def of_trace(text, number, word, ranges):
     lines = text.split(b"\n")
     if lines[-1] == b"":
         lines.pop()
+    if number <= len(lines) and len(lines[number - 1]) > LONGEST_LINE:
+        return OF_LONG_LINE
     if word == "bad-line":
         return of_bad_line(lines, number)
     words = words_of(lines[number - 1])
@@ -190,35 +195,57 @@ def spelled(form):
     return [form.replace("T..", " ".join("T" * count)) for count in range(1, STOLEN + 1)] if "T.." in form else [form]
 
 
-def of_history(text, number, cores):
-    """The column and a sentence for the first bad line of a history, beside a trace of so many cores."""
-    lines = text.split(b"\n")
-    if lines[0].split(b" ")[0] != b"history":
-        return of_entry(lines, number, 0, FIRST_FORMAT, ends_of(FIRST_FORMAT_CORES), ("a position", 0, MOST_ENTRIES), None)
-    if number == 1:
-        return of_header(lines, cores)
-    start = max([at for at in range(1, number - 1) if lines[at].startswith(b"round ")], default=0)
-    read = ("a distance", 0, MOST_ENTRIES - start)
-    return of_entry(lines, number, 1, SECOND_FORMAT, ends_of(CORES), read, cores)
+class Excerpt:
+    """What must be known of a long text: its first line, that line and whether a line feed ends it, and which line before it opened the
+    last round, from 0. Of lines the first 64 kB are kept.
+    """
+
+    def __init__(self, file, number):
+        self.number, self.first, self.line, self.round, self.is_ended = number, b"", b"", 0, False
+        for at in range(number):
+            if at and self.line.startswith(b"round "):
+                self.round = at - 1
+            self.line, self.is_ended = next_line(file)
+            self.first = self.first if at else self.line
 
 
-def of_header(lines, cores):
+def next_line(file):
+    """The beginning of the next line of the file, and whether a line feed ends it."""
+    line = part = file.readline(LONGEST_LINE + 2)
+    while part and not part.endswith(b"\n"):
+        part = file.readline(1 << 20)
+    return line.removesuffix(b"\n"), part.endswith(b"\n")
+
+
+def of_history(excerpt, cores):
+    """The column and a sentence for the line of that excerpt, the first bad one of a history, beside a trace of so many cores."""
+    if len(excerpt.line) > LONGEST_LINE:
+        return OF_LONG_LINE
+    if excerpt.first.split(b" ")[0] != b"history":
+        return of_entry(excerpt, 0, FIRST_FORMAT, ends_of(FIRST_FORMAT_CORES), ("a position", 0, MOST_ENTRIES), None)
+    if excerpt.number == 1:
+        return of_header(excerpt.line, cores)
+    read = ("a distance", 0, MOST_ENTRIES - excerpt.round)
+    return of_entry(excerpt, 1, SECOND_FORMAT, ends_of(CORES), read, cores)
+
+
+def of_header(line, cores):
     """The same for the first line of the second format."""
-    found = re.fullmatch(rb"history 2 cores ([1-9][0-9]*)", lines[0])
+    found = re.fullmatch(rb"history 2 cores ([1-9][0-9]*)", line)
     if found is None:
         return 1, f"the first line of a history is `{HEADER}`, or its first entry where it is of the first format"
     if int(found[1][:25]) != cores:
         return found.start(1) + 1, f"this history is of {found[1][:25].decode()} cores, and the trace has {cores}"
-    return len(lines[0]) + 1, "the last line lacks its line feed"
+    return len(line) + 1, "the last line lacks its line feed"
 
 
-def of_entry(lines, number, before, entries, ends, read, cores):
+def of_entry(excerpt, before, entries, ends, read, cores):
     """The same for a line that is to be an entry, of a text with so many lines before its entries. An entry that reads, reads
     as many cores as the trace has, where that number is given.
     """
-    if number > MOST_ENTRIES + before:
+    if excerpt.number > MOST_ENTRIES + before:
         return 1, f"a history has at most {MOST_ENTRIES} entries"
-    line = lines[number - 1]
+    line = excerpt.line
     words = [(it.group().decode("latin-1"), it.start() + 1) for it in re.finditer(rb"[^ ]+", line)]
     fitting = [found for entry in entries for form in spelled(entry) if (found := matched(form, words, ends, read)) is not None]
     if not fitting:
@@ -228,7 +255,7 @@ def of_entry(lines, number, before, entries, ends, read, cores):
             return column, outside(word, low, high, what)
         if len(word) > 1 and word[0] == "0":
             return column, f"{word} has a zero before it, and is spelled {int(word)}"
-    if number == len(lines):
+    if not excerpt.is_ended:
         return len(line) + 1, "the last line lacks its line feed"
     if b" ".join(word.encode("latin-1") for word, _ in words) != line:
         return 1, "one blank stands between two words, and none before or behind them"

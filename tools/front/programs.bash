@@ -1,4 +1,5 @@
-# Which program ./ipanema runs, and where it is kept. To be read by a script of bash that has set `top`, the repository's folder.
+# Which program ./ipanema runs, and where it is kept. To be read by a script of bash that has set `top`, the
+# repository's folder.
 #
 # A program is kept by the checksum SUM of the sources that it was made of: as out/proved/SUM/ipanema, or as
 # out/unproved/SUM/ipanema. So one that was made of other sources isn't found, whatever the times of files say.
@@ -9,6 +10,7 @@ sum_of_sources() (
   shopt -s nullglob
   export LC_ALL=C
   cd -- "$top" 2>/dev/null || exit 1
+  set +f
   {
     printf '%s\0' crates.txt HANDLES
     find crates/*/src crates/*/specs crates/*/proofs \( -name '*.rt' -o -name '*.antt' \) ! -type d -print0
@@ -26,7 +28,7 @@ program_of() {
   sum="$(sum_of_sources)" || return
   for kind in proved unproved; do
     place="$(place_of "$kind" "$sum")"
-    if [ -x "$place" ]; then printf '%s' "$place"; return; fi
+    if [ "$("$place" 2>/dev/null </dev/null)" = 'bad words' ]; then printf '%s' "$place"; return; fi
   done
   return 1
 }
@@ -35,5 +37,6 @@ program_of() {
 keep_as() {
   local file=$1 place
   place="$(place_of "$2" "$3")"
-  (umask 022 && mkdir -p -- "${place%/*}" && install -m 755 -- "$file" "$place.$$" && mv -f -- "$place.$$" "$place") 2>/dev/null
+  (umask 022 && mkdir -p -- "${place%/*}" && install -m 755 -- "$file" "$place.$$" && sync -- "$place.$$" &&
+    mv -f -T -- "$place.$$" "$place") 2>/dev/null
 }

@@ -1,11 +1,55 @@
 # What the front adds to the program's answers, on standard error alone: its status and its output stay as they are. To be read by a
 # script of bash that has set `front`, the folder of this file. Sentences on a fault need python3; without it they are left out.
 
+# Where this script's own words go. `answer` keeps what was its standard error under another number.
+told=2
+# The status that the script ends with, unless the program gives another one.
+ending=70
+# Which of the numbers 0, 1 and 2 the caller had closed.
+closed=''
+# The process that runs for it, and the function that clears away what it has begun.
+running=''
+at_end=true
+
 commands=(check explain prove bound rest emit verify play run crew simulate waste replay report migrate make bench)
 obligations=(B1 B2 B3 B4 {H1,H2}.{enqueue,tick,yield,block})
 
 say() {
-  printf '%s\n' "$*" >&2
+  printf '%s\n' "$*" >&"$told"
+}
+
+# From here on the script ends with `ending`, also where bash itself gives up, or by the signal that ends it. Either way it clears away.
+begin() {
+  open_closed
+  trap leave EXIT
+  end_by_signals
+}
+
+# Opens what was closed, so that nothing else takes its place. The program has it closed again.
+open_closed() {
+  if [ ! -d /dev/fd/ ]; then return; fi
+  [ -e /dev/fd/0 ] || { closed+=' 0'; exec 0<>/dev/null; }
+  [ -e /dev/fd/1 ] || { closed+=' 1'; exec 1<>/dev/null; }
+  [ -e /dev/fd/2 ] || { closed+=' 2'; exec 2<>/dev/null; }
+}
+
+leave() {
+  "$at_end"
+  exit "$ending"
+}
+
+end_by_signals() {
+  local signal
+  # shellcheck disable=SC2064 # each trap has the name of its own signal
+  for signal in HUP INT TERM; do trap "end_by $signal" "$signal"; done
+}
+
+# Ends what runs for the script by that signal, and then the script itself.
+end_by() {
+  trap - EXIT HUP INT TERM
+  if [ -n "$running" ]; then { kill -s "$1" "$running"; wait "$running"; } 2>/dev/null; fi
+  "$at_end"
+  kill -s "$1" "$BASHPID"
 }
 
 # The words of a command, and what it does.
@@ -84,11 +128,27 @@ are_numbers() {
   [[ "$1" =~ ^[0-9]{1,20}$ && "$2" =~ ^[0-9]{1,20}$ ]]
 }
 
+# Whether the word is UTF-8, as far as can be told here.
+is_utf8() {
+  ! command -v iconv >/dev/null || printf '%s' "$1" | iconv -f UTF-8 -t UTF-8 >/dev/null 2>&1
+}
+
+# Whether no command takes the word. If so it says why, but of a call for help.
+say_bad_word() {
+  case "$1" in
+    '') say 'ipanema: a word is empty' ;;
+    -h | --help) ;;
+    -*) say "ipanema: there are no options; a file of the name \`$1\` is named as ./$1" ;;
+    *) if is_utf8 "$1"; then return 1; fi; say "ipanema: the word ${1@Q} isn't UTF-8, as words must be; give the file a link with another name" ;;
+  esac
+}
+
 # Status 7: what is wrong with the words, and the usage of the command that was meant, or of all.
 say_words() {
-  local command="${1:-}" word near wanted
+  local command="${1:-}" word near wanted bad=''
   if [ $# -eq 0 ]; then usage; return; fi
   if [[ " ${commands[*]} " != *" $command "* || "$command" = *' '* ]]; then
+    is_utf8 "$command" || command="${command@Q}"
     find_near "$command" "${commands[@]}"
     say_near "$command" command
     if [ ${#near[@]} -eq 1 ]; then say 'usage:'; usage_of "${near[0]}"; else usage; fi
@@ -96,15 +156,13 @@ say_words() {
   fi
   shift
   for word in "$@"; do
-    case "$word" in
-      '') say 'ipanema: a word is empty' ;;
-      -h | --help) ;;
-      -*) say "ipanema: there are no options; a file of the name \`$word\` is named as ./$word" ;;
-    esac
+    if say_bad_word "$word"; then bad=yes; fi
   done
   wanted="$(words_of "$command")"
   if [ $# -ne "$wanted" ]; then
     say "ipanema: the number of words behind \`$command\` is $wanted, and here it is $#"
+  elif [ -n "$bad" ]; then
+    :
   elif [ "$command" = explain ]; then
     find_near "$2" "${obligations[@]}"
     say_near "$2" obligation
@@ -129,11 +187,11 @@ files_of() {
 
 # Status 4: which file wasn't read, and what the system says of it. One that can be opened but once isn't opened again.
 say_file() {
-  local files file told
+  local files file words
   files_of "$@"
   for file in "${files[@]}"; do
     [ ! -p "$file" ] && [ ! -c "$file" ] || continue
-    told="$(LC_ALL=C head -c 1 -- "$file" 2>&1 >/dev/null)" || { say "ipanema: $file wasn't read: ${told##*: }"; return; }
+    words="$(LC_ALL=C head -c 1 -- "$file" 2>&1 >/dev/null)" || { say "ipanema: $file wasn't read: ${words##*: }"; return; }
   done
   say "ipanema: a file wasn't read, and now each can be; call it again"
 }
@@ -157,31 +215,63 @@ say_not_accepted() {
 
 # Status 2 or 10: a sentence on the fault, if python3 is there and finds one.
 say_fault() {
-  command -v python3 >/dev/null && python3 -I "$front/tell.py" "$@" >&2 2>/dev/null
+  # shellcheck disable=SC2261 # `told` is another number than that of the standard error by now
+  command -v python3 >/dev/null && python3 -I "$front/tell.py" "$@" >&"$told" 2>/dev/null
 }
 
 # Answers what doesn't reach the program, and ends then: a call for help, or for the version, which the first word says.
 answer_alone() {
   case "$2" in
-    help | -h | --help) usage; exit 0 ;;
-    --version) say "$1"; exit 0 ;;
+    help | -h | --help) usage; ending=0; exit ;;
+    --version) say "$1"; ending=0; exit ;;
   esac
 }
 
 # Runs the program, as if it were called itself: it ends when this script is ended, and has the files that this script was given.
-# Bash's own line on a signal is left out.
+# It runs beside the script, which so can hear of a signal. Bash would then let it ignore the interrupts of the keyboard. It ignores
+# them only where the script itself was told to.
 run_program() {
-  local guarded=() told
+  local guarded=() heard=(INT QUIT) status=0
   if setpriv --pdeathsig TERM true 2>/dev/null; then guarded=(setpriv --pdeathsig TERM --); fi
-  { true >&2; } 2>/dev/null || { "${guarded[@]}" "$@"; return; }
-  { "${guarded[@]}" "$@" 2>&"$told" {told}>&-; } {told}>&2 2>/dev/null
+  if [[ "$(trap -p INT)" = "trap -- '' "* ]]; then heard=(); fi
+  end_by_signals
+  begin_program "$@" <&0 &
+  running=$!
+  wait "$running" || status=$?
+  running=''
+  return "$status"
 }
 
-# Runs the program on the words, says on standard error what there is to say, and ends with its status.
+# Becomes the program. What was closed as the script began is closed again.
+begin_program() {
+  local number
+  for number in $closed; do exec {number}>&-; done
+  if [ "$told" -ne 2 ] && [[ "$closed" != *2* ]]; then exec 2>&"$told" || exit 70; fi
+  if [ "$told" -ne 2 ]; then exec {told}>&-; fi
+  if [ ${#heard[@]} -gt 0 ]; then trap - "${heard[@]}"; fi
+  exec "${guarded[@]}" "$@"
+}
+
+# Whether that file is the program: called without words it says that they are bad, if it has the memory for that.
+is_program() {
+  local said status=0
+  said="$("$1" 2>/dev/null </dev/null)" || status=$?
+  [ "$status,$said" = '7,bad words' ] || [ "$status" -eq 6 ] || is_signal "$status"
+}
+
+is_signal() {
+  [ "$1" -gt 128 ] && [ "$1" -le 192 ]
+}
+
+# Runs the program on the words, says on standard error what there is to say, and ends with its status. Bash's own line on a signal
+# is left out, where the system has a number left under which standard error can be kept.
 answer() {
-  local program=$1 status=0
+  local program=$1 status=0 kept spare
   shift
+  if (exec {kept}>&2 {spare}>&2) 2>/dev/null; then exec {kept}>&2 2>/dev/null; told=$kept; fi
   run_program "$program" "$@" || status=$?
+  if [ "$status" -gt 11 ] && ! is_signal "$status"; then say "ipanema: the system didn't run $program"; exit 70; fi
+  ending=$status
   {
     case "$status,${1:-}" in
       7,*) say_words "$@" ;;

@@ -174,7 +174,7 @@ PUTS = {"enqueue": "`queue`", "tick": "`queue` or `keep`", "yield": "`queue` or 
 
 
 def of_not_here(text, at, tokens):
-    section, event = "", ""
+    section, event, behind_dot, token = "", "", False, tokens[0]
     for n, token in enumerate(tokens):
         behind_dot = n and tokens[n - 1].text == "."
         if token.at == at:
@@ -236,16 +236,21 @@ def of_trace(file, text, number, word, policy):
     return f"{file}:{number}:{column}: {sentence}"
 
 
-def of_history(file, text, number, trace):
-    column, sentence = lines.of_history(text, number, lines.cores_of(trace.split(b"\n")))
+def of_history(file, number, trace):
+    with open(file, "rb") as text:
+        excerpt = lines.Excerpt(text, number)
+    column, sentence = lines.of_history(excerpt, lines.cores_of(trace.split(b"\n")))
     return f"{file}:{number}:{column}: {sentence}"
 
 
-def of_certs(file, text, number):
-    rows = text.split(b"\n")
-    if number == len(rows) and not rows[-1]:
-        return f"{file}:{number}: the text stops too soon: a part is missing"
-    return f"{file}:{number}: this line can't stand here; docs/FORMATS.md says what a file of certificates is"
+def of_certs(file, number):
+    feeds, part = 0, b"\n"
+    with open(file, "rb") as text:
+        while more := text.read(1 << 20):
+            feeds, part = feeds + more.count(b"\n"), more
+    if number == feeds + 1 and part.endswith(b"\n"):
+        return f"{file}:{number}:1: the text stops too soon: a part is missing"
+    return f"{file}:{number}:1: this line can't stand here; docs/FORMATS.md says what a file of certificates is"
 
 
 def weight_range(tokens):
@@ -274,13 +279,13 @@ def of_too_many(file, text, name):
 
 
 def texts_of(command, words):
-    """The names of the command's files by their kinds, and what is in them; nothing where one can't be read twice."""
+    """The names of the command's files by their kinds, and what is in those that are short; nothing where one can't be read twice."""
     names = dict(zip(FILES.get(command, []), words))
     if not names or not all(os.path.isfile(it) for it in names.values()):
         return None, None
     texts = {}
-    for kind, name in names.items():
-        with open(name, "rb") as it:
+    for kind in names.keys() & {"policy", "trace"}:
+        with open(names[kind], "rb") as it:
             texts[kind] = it.read(LONGEST[kind] + 1)
     return names, texts
 
@@ -292,7 +297,7 @@ def sentence(status, program, command, words):
     how = {"stdin": subprocess.DEVNULL, "stdout": subprocess.PIPE, "stderr": subprocess.DEVNULL, "timeout": SECONDS}
     if "/dev/stdin" in names.values() or any(it.startswith(("/dev/fd/", "/proc/")) for it in names.values()):
         del how["stdin"]
-    ran = subprocess.run([program, command, *words], **how)
+    ran = subprocess.run([program, command, *words], check=False, **how)
     if ran.returncode != status:
         return None
     kind, *rest = ran.stdout.decode("ascii").split("\n")[0].split(" ")
@@ -301,9 +306,9 @@ def sentence(status, program, command, words):
     if kind == "trace":
         return of_trace(names[kind], texts[kind], int(rest[0]), rest[1], policies.tokens_of(texts["policy"]))
     if kind == "history":
-        return of_history(names[kind], texts[kind], int(rest[0]), texts["trace"])
+        return of_history(names[kind], int(rest[0]), texts["trace"])
     if kind == "certs":
-        return of_certs(names[kind], texts[kind], int(rest[0]))
+        return of_certs(names[kind], int(rest[0]))
     if kind == "too-long":
         return of_too_long(rest[0], names[rest[0]])
     return of_too_many(names["policy"], texts["policy"], rest[0]) if kind == "too-many-cases" else None

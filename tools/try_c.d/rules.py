@@ -67,7 +67,7 @@ class Rules(apart.Policy):
 
     @staticmethod
     def rule(text):
-        return eval(f"lambda v: {text}")  # pylint: disable=eval-used
+        return eval(f"lambda v: {text}")  # pylint: disable=eval-used # the text is made here, of tokens
 
     @staticmethod
     def never(_values):
