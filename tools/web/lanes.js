@@ -1,32 +1,24 @@
-"use strict";
-
 // Draws time: a row for each core, a column for each entry, and the reads of the entry at hand as arcs back to what they saw.
 // Position p, the state behind p entries, is the left edge of column p.
 
-const SVG = "http://www.w3.org/2000/svg";
+import { shape } from "./elements.js";
+
 const HEAD = 54;
 const FOOT = 26;
 const SIDE = 40;
 const LABEL_ROOM = 330;
 
-function shape(parent, name, settings, words) {
-  const made = parent.appendChild(document.createElementNS(SVG, name));
-  for (const [key, value] of Object.entries(settings)) made.setAttribute(key, value);
-  if (words !== undefined) made.textContent = words;
-  return made;
-}
-
-// Few cores get high rows, where the window has room for them beside all else.
-function rowHeight(cores) {
+// Few cores get high rows, where there is room for them.
+function rowHeight(cores, room) {
   const least = cores <= 4 ? 44 : cores <= 8 ? 32 : 20;
-  return Math.max(least, Math.min(72, (window.innerHeight - 540) / cores));
+  return Math.max(least, Math.min(72, room / cores));
 }
 
-class Lanes {
-  constructor(parent, names, entries, cores) {
+export class Lanes {
+  constructor(parent, names, entries, cores, room) {
     this.entries = entries;
     this.cores = cores;
-    this.row = rowHeight(cores);
+    this.row = rowHeight(cores, room);
     const least = cores <= 8 ? 46 : 34;
     this.column = Math.max(least, Math.min(72, (parent.clientWidth - LABEL_ROOM) / Math.max(entries.length, 1)));
     this.half = Math.min(this.row * 0.38, this.column * 0.26);
@@ -233,7 +225,7 @@ function drawIllegal(lanes, group, x) {
   shape(group, "text", { x, y: 16 }, "illegal");
 }
 
-const MARKS = {
+export const MARKS = {
   round: drawRound, enter: drawComing, wake: drawComing, work: drawWork, nothing: drawNothing, steal: drawSteal,
   fail: drawFail, pass: drawPass, illegal: drawIllegal,
 };
