@@ -1,0 +1,78 @@
+// What else the program says of the policy: each of its other commands, its output, and files to be kept.
+
+import { add, part } from "./elements.js";
+import { Asker, Trouble, ask, saidWords } from "./ask.js";
+import { nameOf } from "./beside.js";
+
+const SHOWN_ELSEWHERE = ["check", "explain", "play", "run", "crew", "simulate", "waste", "replay", "report", "migrate", "verify"];
+const ENDINGS = { emit: "h", prove: "certs" };
+
+export class More {
+  // `commands` are those that the program's help names. `values` gives the texts, and `history` what was played last.
+  constructor(commands, values, history) {
+    Object.assign(this, { values, history, asker: new Asker() });
+    const list = add(part("more"), "div", "commands");
+    for (const [name, { words, does }] of Object.entries(commands)) {
+      const isOfTexts = words.every((word) => word === "POLICY" || word === "TRACE");
+      if (isOfTexts && !SHOWN_ELSEWHERE.includes(name)) this.drawButton(list, name, does, () => this.run(name));
+    }
+    this.drawButton(list, "perfetto", "write what was played last for the viewer ui.perfetto.dev", () => this.perfetto());
+    this.said = add(part("more"), "p", "said");
+    this.said.setAttribute("role", "status");
+    this.link = add(part("more"), "a", "download");
+    this.output = add(part("more"), "pre", "output");
+    this.clear();
+  }
+
+  drawButton(list, name, does, act) {
+    const row = add(list, "p");
+    const button = add(row, "button", "", name);
+    button.dataset.command = name;
+    button.addEventListener("click", () => this.act(act));
+    add(row, "span", "", does);
+  }
+
+  clear() {
+    this.said.textContent = "";
+    this.output.textContent = "";
+    this.link.hidden = true;
+  }
+
+  async act(doing) {
+    this.clear();
+    this.said.textContent = "…";
+    try {
+      await doing();
+    } catch (error) {
+      if (!(error instanceof Trouble)) throw error;
+      this.said.textContent = error.message;
+    }
+  }
+
+  async run(name) {
+    const answer = await ask(name, this.values(), this.asker.begin());
+    if (!answer) return;
+    this.said.textContent = answer.said ? saidWords(answer.said) : `ipanema ${name} ends with status ${answer.status}.`;
+    this.output.textContent = answer.output;
+    if (answer.status === 0 && ENDINGS[name]) this.offer(answer.output, ENDINGS[name]);
+  }
+
+  async perfetto() {
+    const last = this.history();
+    if (!last || last.way === "simulate") throw new Trouble("Nothing was played under an accepted policy.");
+    const answer = await ask("perfetto", { ...this.values(), history: last.history.text }, this.asker.begin());
+    if (!answer) return;
+    if (answer.status !== 0) throw new Trouble(saidWords(answer.said));
+    this.said.textContent = "The file can be opened at ui.perfetto.dev.";
+    this.offer(answer.output, "json");
+  }
+
+  // A file of that text, to be kept.
+  offer(text, ending) {
+    URL.revokeObjectURL(this.link.href);
+    this.link.href = URL.createObjectURL(new Blob([text], { type: "text/plain" }));
+    this.link.download = `${nameOf(this.values().policy).replace(/\W+/g, "_")}.${ending}`;
+    this.link.textContent = `Download ${this.link.download}`;
+    this.link.hidden = false;
+  }
+}

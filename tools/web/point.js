@@ -1,0 +1,84 @@
+// Draws a failing obligation: the numbers of its point as two cores with their threads, and the scene read aloud.
+
+import { add, part, threads } from "./elements.js";
+import { attributesOf, numbersIn, sceneOf } from "./scene.js";
+
+const MOST_DRAWN = 8;
+const LETTERS = "ABCDEFGHIJKLMNOPQRSTUVWXYZ";
+const TITLES = { self: "self, the thief", victim: "victim" };
+
+export class Point {
+  // `seek` makes a trace that shows the obligation at work.
+  constructor(seek) {
+    this.panel = part("point");
+    this.seek = seek;
+  }
+
+  say(words) {
+    this.panel.replaceChildren();
+    add(this.panel, "p", "plain", words);
+  }
+
+  // Draws what `explain` wrote of the obligation.
+  show(name, line) {
+    const numbers = numbersIn(line);
+    this.panel.replaceChildren();
+    add(this.panel, "code", "told", line);
+    add(this.panel, "p", "aloud", sceneOf(name, numbers));
+    if (name.startsWith("B")) this.drawCores(numbers);
+    this.drawNumbers(numbers);
+    if (name.startsWith("B")) {
+      const button = add(this.panel, "button", "", "Make the smallest trace that shows it");
+      button.addEventListener("click", () => this.seek(name));
+    }
+  }
+
+  drawCores(numbers) {
+    const pair = add(this.panel, "div", "cores pair");
+    pair.style.setProperty("--cores", 2);
+    let first = 0;
+    for (const side of ["self", "victim"]) {
+      const count = numbers[`${side}.nr`];
+      drawSide(pair, numbers, side, count, first);
+      first += count;
+    }
+  }
+
+  drawNumbers(numbers) {
+    if (!Object.keys(numbers).length) {
+      add(this.panel, "p", "plain", "There are no numbers to tell: it fails always.");
+      return;
+    }
+    const table = add(this.panel, "table", "numbers");
+    const [names, values] = [add(table, "tr"), add(table, "tr")];
+    for (const [name, value] of Object.entries(numbers)) {
+      add(names, "th", "", name);
+      add(values, "td", "", value);
+    }
+  }
+}
+
+// A core of the point: its first thread runs, and the others wait.
+function drawSide(parent, numbers, side, count, first) {
+  const card = add(parent, "div", `core${side === "self" && count === 0 ? " wasted" : ""}`);
+  card.dataset.side = side;
+  const head = add(card, "div", "head");
+  add(head, "span", "title", TITLES[side]);
+  add(head, "span", "load", count === 0 ? "idle" : `${threads(count)}, load ${numbers[`${side}.load`]}`);
+  drawLine(card, "runs", first, Math.min(count, 1));
+  drawLine(card, "waits", first + 1, count - 1);
+  attributesOf(numbers, side).forEach(([name, value]) => add(card, "span", "attribute", `${name} ${value}`));
+}
+
+function drawLine(card, kind, first, count) {
+  const line = add(card, "div", kind === "runs" ? "runs" : "queue");
+  add(line, "span", "what", kind);
+  const drawn = Math.min(count, MOST_DRAWN);
+  for (let number = 0; number < drawn; number++) add(line, "b", "", letterOf(first + number));
+  if (count > drawn) add(line, "span", "rest", `and ${count - drawn} more`);
+  if (count <= 0) add(line, "i", "", "none");
+}
+
+function letterOf(number) {
+  return number < LETTERS.length ? LETTERS[number] : `${LETTERS[number % LETTERS.length]}${Math.floor(number / LETTERS.length)}`;
+}

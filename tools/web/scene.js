@@ -1,0 +1,86 @@
+// Reads a point aloud: numbers at which an obligation fails, as a scene in words. The numbers and the verdict are the program's.
+
+import { threads } from "./elements.js";
+
+const EVENTS = {
+  enqueue: "A thread comes or wakes", tick: "A thread has run for a unit of time", yield: "A thread gives way", block: "A thread blocks",
+};
+const SIDES = ["self", "victim"];
+const COUNTS = ["nr", "load", "weight"];
+
+// The numbers of a line such as `B1 fails self.nr=0 victim.nr=2`, by their names.
+export function numbersIn(line) {
+  return Object.fromEntries([...line.matchAll(/(\S+)=(-?\d+)/g)].map(([, name, value]) => [name, Number(value)]));
+}
+
+// What a side has beside its threads and its load: the attributes that the policy gives.
+export function attributesOf(numbers, side) {
+  return Object.entries(numbers).filter(([name]) => name.startsWith(`${side}.`) && !COUNTS.includes(name.slice(side.length + 1)))
+    .map(([name, value]) => [name.slice(side.length + 1), value]);
+}
+
+function listed(pairs) {
+  return pairs.map(([name, value]) => `${name} ${value}`).join(" and ");
+}
+
+// The sentence on attributes of the two cores, or nothing.
+function attributeWords(numbers) {
+  const [own, other] = SIDES.map((side) => listed(attributesOf(numbers, side)));
+  if (own && other) return ` The thief has ${own}, and the victim ${other}.`;
+  if (own) return ` The thief has ${own}.`;
+  return other ? ` The victim has ${other}.` : "";
+}
+
+function holds(numbers, side) {
+  const [count, load] = [numbers[`${side}.nr`], numbers[`${side}.load`]];
+  return count === load ? threads(count) : `${threads(count)} and the load ${load}`;
+}
+
+function waiting(count) {
+  return count - 1 === 1 ? "one waits" : `${count - 1} wait`;
+}
+
+function ofB1(numbers) {
+  const count = numbers["victim.nr"];
+  return `A core without a thread meets a core with ${holds(numbers, "victim")}, of which ${waiting(count)}.`
+    + `${attributeWords(numbers)} The filter is false here. So the idle core may not steal, and stays idle.`;
+}
+
+function ofB2(numbers) {
+  const loses = numbers["victim.nr"] > 0 ? "So that core may lose its last thread." : "There is nothing that could move.";
+  return `A core with ${holds(numbers, "self")} meets a core with ${holds(numbers, "victim")}.${attributeWords(numbers)}`
+    + ` The filter is true here. ${loses}`;
+}
+
+// How the loads stand before the move of a thread, and after it.
+function moveWords(numbers) {
+  const [own, other, weight] = [numbers["self.load"], numbers["victim.load"], numbers["t.weight"] ?? 1];
+  return `The stolen thread weighs ${weight}. Before the move the loads are ${own} and ${other}, and behind it ${own + weight} and`
+    + ` ${other - weight}. So the gap gets no narrower, and the thread may go to and fro.`;
+}
+
+function ofB3(numbers) {
+  return `A core with ${holds(numbers, "self")} meets a core with ${holds(numbers, "victim")}.${attributeWords(numbers)}`
+    + ` The filter is true here. ${moveWords(numbers)}`;
+}
+
+function ofB4(numbers) {
+  return `A thief has taken a thread, and now has ${holds(numbers, "self")}. Its victim has ${holds(numbers, "victim")}.`
+    + `${attributeWords(numbers)} The steal goes on to one more. ${moveWords(numbers)}`;
+}
+
+function ofHandler(name, numbers) {
+  const [kind, event] = name.split(".");
+  const own = attributesOf(numbers, "t").filter(([word]) => word !== "fresh");
+  if ("t.weight" in numbers) own.unshift(["weight", numbers["t.weight"]]);
+  const has = own.length ? ` It has ${listed(own)}.` : "";
+  const fresh = "t.fresh" in numbers ? ` It ${numbers["t.fresh"] ? "enters just now" : "was there before"}.` : "";
+  const core = listed(attributesOf(numbers, "self"));
+  const rules = kind === "H1" ? "Two rules apply to it, and say different things." : "No rule applies to it, so nothing says what becomes of it.";
+  return `${EVENTS[event]}.${has}${fresh}${core ? ` Its core has ${core}.` : ""} ${rules}`;
+}
+
+export function sceneOf(name, numbers) {
+  const forms = { B1: ofB1, B2: ofB2, B3: ofB3, B4: ofB4 };
+  return forms[name] ? forms[name](numbers) : ofHandler(name, numbers);
+}
