@@ -29,13 +29,13 @@ export class Editor {
     return this.area.value;
   }
 
-  // Replaces the text. It is put in as if it were typed, so that it can be undone.
+  // Replaces the text. It is put in as if it were typed, so that it can be undone, unless the editor isn't in sight.
   set(text) {
     if (text === this.text) return;
     const focused = document.activeElement;
     this.area.focus({ preventScroll: true });
     this.area.select();
-    const typed = isColoured(text) && document.execCommand(text === "" ? "delete" : "insertText", false, text);
+    const typed = document.activeElement === this.area && isColoured(text) && document.execCommand(text === "" ? "delete" : "insertText", false, text);
     if (!typed) {
       this.area.value = text;
       this.area.dispatchEvent(new Event("input"));

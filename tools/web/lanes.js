@@ -2,6 +2,7 @@
 // Position p, the state behind p entries, is the left edge of column p.
 
 import { shape } from "./elements.js";
+import { strength } from "./history.js";
 
 const HEAD = 54;
 const FOOT = 26;

@@ -63,7 +63,7 @@ export async function played(way, values, signal) {
     : await require("waste", values, [WHOLE, STOPPED], signal);
   if (!numbers) return null;
   const facts = await stepsOf(way, values, history, signal);
-  return { way, history, ...numbersOf(numbers.output), facts };
+  return facts && { way, history, ...numbersOf(numbers.output), facts };
 }
 
 // The steps of a history that isn't too long, or a sentence that says why there are none.

@@ -44,16 +44,21 @@ export class Point {
     }
   }
 
+  // A row for each name, and a column for each of `self`, `victim` and `t` that has numbers.
   drawNumbers(numbers) {
     if (!Object.keys(numbers).length) {
       add(this.panel, "p", "plain", "There are no numbers to tell: it fails always.");
       return;
     }
+    const pairs = Object.keys(numbers).map((name) => name.split("."));
+    const [owners, names] = [0, 1].map((place) => [...new Set(pairs.map((pair) => pair[place]))]);
     const table = add(this.panel, "table", "numbers");
-    const [names, values] = [add(table, "tr"), add(table, "tr")];
-    for (const [name, value] of Object.entries(numbers)) {
-      add(names, "th", "", name);
-      add(values, "td", "", value);
+    const head = add(table, "tr");
+    ["", ...owners].forEach((owner) => add(head, "th", "", owner));
+    for (const name of names) {
+      const row = add(table, "tr");
+      add(row, "th", "", name);
+      owners.forEach((owner) => add(row, "td", "", numbers[`${owner}.${name}`] ?? ""));
     }
   }
 }
