@@ -25,7 +25,7 @@ export class Point {
     this.panel.replaceChildren();
     add(this.panel, "code", "told", line);
     add(this.panel, "p", "aloud", sceneOf(name, numbers));
-    if (name.startsWith("B")) this.drawCores(numbers);
+    if (name.startsWith("B")) this.drawCores(name, numbers);
     this.drawNumbers(numbers);
     if (name.startsWith("B")) {
       const button = add(this.panel, "button", "", "Make the smallest trace that shows it");
@@ -33,13 +33,15 @@ export class Point {
     }
   }
 
-  drawCores(numbers) {
+  // Under B1 the thief is wasted: it stays idle.
+  drawCores(name, numbers) {
     const pair = add(this.panel, "div", "cores pair");
     pair.style.setProperty("--cores", 2);
     let first = 0;
     for (const side of ["self", "victim"]) {
       const count = numbers[`${side}.nr`];
-      drawSide(pair, numbers, side, count, first);
+      const card = drawSide(pair, numbers, side, count, first);
+      card.classList.toggle("wasted", name === "B1" && side === "self");
       first += count;
     }
   }
@@ -65,7 +67,7 @@ export class Point {
 
 // A core of the point: its first thread runs, and the others wait.
 function drawSide(parent, numbers, side, count, first) {
-  const card = add(parent, "div", `core${side === "self" && count === 0 ? " wasted" : ""}`);
+  const card = add(parent, "div", "core");
   card.dataset.side = side;
   const head = add(card, "div", "head");
   add(head, "span", "title", TITLES[side]);
@@ -73,6 +75,7 @@ function drawSide(parent, numbers, side, count, first) {
   drawLine(card, "runs", first, Math.min(count, 1));
   drawLine(card, "waits", first + 1, count - 1);
   attributesOf(numbers, side).forEach(([name, value]) => add(card, "span", "attribute", `${name} ${value}`));
+  return card;
 }
 
 function drawLine(card, kind, first, count) {

@@ -31,9 +31,15 @@ function attributeWords(numbers) {
   return other ? ` The victim has ${other}.` : "";
 }
 
-function holds(numbers, side) {
+// What a core has: its threads, and its load where that is another number.
+function has(numbers, side) {
   const [count, load] = [numbers[`${side}.nr`], numbers[`${side}.load`]];
-  return count === load ? threads(count) : `${threads(count)} and the load ${load}`;
+  if (count === 0) return "without a thread";
+  return count === load ? `with ${threads(count)}` : `with ${threads(count)} and the load ${load}`;
+}
+
+function meeting(numbers) {
+  return `A core ${has(numbers, "self")} meets a core ${has(numbers, "victim")}`;
 }
 
 function waiting(count) {
@@ -41,15 +47,13 @@ function waiting(count) {
 }
 
 function ofB1(numbers) {
-  const count = numbers["victim.nr"];
-  return `A core without a thread meets a core with ${holds(numbers, "victim")}, of which ${waiting(count)}.`
-    + `${attributeWords(numbers)} The filter is false here. So the idle core may not steal, and stays idle.`;
+  return `${meeting(numbers)}, and there ${waiting(numbers["victim.nr"])}.${attributeWords(numbers)}`
+    + ` The filter is false here. So the idle core may not steal, and stays idle.`;
 }
 
 function ofB2(numbers) {
   const loses = numbers["victim.nr"] > 0 ? "So that core may lose its last thread." : "There is nothing that could move.";
-  return `A core with ${holds(numbers, "self")} meets a core with ${holds(numbers, "victim")}.${attributeWords(numbers)}`
-    + ` The filter is true here. ${loses}`;
+  return `${meeting(numbers)}.${attributeWords(numbers)} The filter is true here. ${loses}`;
 }
 
 // How the loads stand before the move of a thread, and after it.
@@ -60,12 +64,11 @@ function moveWords(numbers) {
 }
 
 function ofB3(numbers) {
-  return `A core with ${holds(numbers, "self")} meets a core with ${holds(numbers, "victim")}.${attributeWords(numbers)}`
-    + ` The filter is true here. ${moveWords(numbers)}`;
+  return `${meeting(numbers)}.${attributeWords(numbers)} The filter is true here. ${moveWords(numbers)}`;
 }
 
 function ofB4(numbers) {
-  return `A thief has taken a thread, and now has ${holds(numbers, "self")}. Its victim has ${holds(numbers, "victim")}.`
+  return `A thief has taken a thread. Now it is a core ${has(numbers, "self")}, and its victim one ${has(numbers, "victim")}.`
     + `${attributeWords(numbers)} The steal goes on to one more. ${moveWords(numbers)}`;
 }
 
@@ -73,11 +76,11 @@ function ofHandler(name, numbers) {
   const [kind, event] = name.split(".");
   const own = attributesOf(numbers, "t").filter(([word]) => word !== "fresh");
   if ("t.weight" in numbers) own.unshift(["weight", numbers["t.weight"]]);
-  const has = own.length ? ` It has ${listed(own)}.` : "";
+  const words = own.length ? ` It has ${listed(own)}.` : "";
   const fresh = "t.fresh" in numbers ? ` It ${numbers["t.fresh"] ? "enters just now" : "was there before"}.` : "";
   const core = listed(attributesOf(numbers, "self"));
-  const rules = kind === "H1" ? "Two rules apply to it, and say different things." : "No rule applies to it, so nothing says what becomes of it.";
-  return `${EVENTS[event]}.${has}${fresh}${core ? ` Its core has ${core}.` : ""} ${rules}`;
+  const rules = kind === "H1" ? "Two rules apply to it, and there may be only one." : "No rule applies to it, so nothing says what becomes of it.";
+  return `${EVENTS[event]}.${words}${fresh}${core ? ` Its core has ${core}.` : ""} ${rules}`;
 }
 
 export function sceneOf(name, numbers) {

@@ -46,12 +46,13 @@ def traces():
             for folder in TRACES for path in sorted((EXAMPLES / folder).glob("*.trace"))]
 
 
-# ---- what an obligation asks, by the table of the README
+# ---- what an obligation asks, by the table of the gallery
 
 
 def obligations():
-    rows = re.findall(r"(?m)^\| `(B\d|H\d\.e)` \| (.*) \|$", (TOP / "README.md").read_text())
-    return {name: asks.replace("`", "") for name, asks in rows}
+    """A sentence for each kind. Of a handler the table has the event `tick`, and here it is any event, called e."""
+    rows = dict(re.findall(r"(?m)^\| `(B\d|H\d)(?:\.tick)?` \| (.*) \|$", (TOP / "docs" / "GALLERY.md").read_text()))
+    return {name: re.sub(r"applies to .*", "applies to a thread at the event e.", asks) for name, asks in rows.items()}
 
 
 # ---- colours, by the word lists of the file for vim

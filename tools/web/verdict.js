@@ -89,8 +89,7 @@ export class Verdict {
   choose(name) {
     for (const button of part("obligations").children) button.setAttribute("aria-pressed", button.dataset.name === name);
     const [kind, event] = name.split(".");
-    const asks = this.asks[name] || this.asks[`${kind}.e`] || "";
-    part("asks").textContent = event ? `${name}: ${asks.replace("the event e", `the event ${event}`)}` : `${name}: ${asks}`;
+    part("asks").textContent = `${name}: ${event ? this.asks[kind].replace(" e.", ` ${event}.`) : this.asks[kind]}`;
     this.chosen(name, this.explained.get(name));
   }
 }

@@ -13,14 +13,15 @@ import { Trace } from "./trace.js";
 import { Verdict } from "./verdict.js";
 
 const MENUS = { examples: "Examples", gallery: "Gallery", levels: "Levels" };
-const FIRST_TRACE = "witnesses/timid";
+const FIRST = "timid";
+const OWN = "own text";
 const TRACE_REST = 300;
 const texts = await readTexts();
 const values = () => ({ policy: editor.text, trace: trace.text });
 
 // ---- the parts
 
-const editor = new Editor(part("policy-editor"), "Policy", texts.colours.policy, () => verdict.touch());
+const editor = new Editor(part("policy-editor"), "Policy", texts.colours.policy, () => touchPolicy());
 const trace = new Trace(texts.colours.trace, () => editor.text, () => touchTrace());
 const point = new Point((name) => seek(name));
 const happens = new Happens(values, (fault) => trace.mark(fault));
@@ -60,6 +61,22 @@ let traceTimer = 0;
 function touchTrace() {
   clearTimeout(traceTimer);
   traceTimer = setTimeout(refresh, TRACE_REST);
+  showName("traces", texts.traces, trace.text);
+}
+
+function touchPolicy() {
+  verdict.touch();
+  const name = showName("policies", texts.policies, editor.text);
+  const other = name && neighbourOf(name);
+  part("neighbour").hidden = !other;
+  part("neighbour").textContent = other && other.endsWith("-wrong") ? "Its wrong neighbour" : "The right one";
+}
+
+// The menu names the text that stands there, and returns the name, or nothing where the text was written here.
+function showName(menu, list, text) {
+  const known = list.find((one) => one.text === text);
+  part(menu).value = known ? known.name : OWN;
+  return known && known.name;
 }
 
 async function seek(name) {
@@ -70,6 +87,7 @@ async function seek(name) {
 // ---- the menus
 
 function fillMenus() {
+  for (const menu of ["policies", "traces"]) Object.assign(part(menu).appendChild(new Option(OWN)), { disabled: true });
   for (const [menu, words] of Object.entries(MENUS)) {
     const group = document.createElement("optgroup");
     group.label = words;
@@ -100,22 +118,9 @@ function neighbourOf(name) {
 function choosePolicy(name) {
   const policy = policyNamed(name);
   const isKnown = texts.traces.some((one) => one.text === trace.text);
-  if (policy.trace && isKnown) chooseTrace(policy.trace);
+  if (policy.trace && isKnown) trace.set(traceNamed(policy.trace));
   editor.set(policy.text);
-  nameNeighbour(name);
   verdict.judge();
-}
-
-function chooseTrace(name) {
-  part("traces").value = name;
-  trace.set(traceNamed(name));
-}
-
-function nameNeighbour(name) {
-  part("policies").value = name;
-  const other = neighbourOf(name);
-  part("neighbour").hidden = !other;
-  part("neighbour").textContent = other && other.endsWith("-wrong") ? "Its wrong neighbour" : "The right one";
 }
 
 // ---- the keys
@@ -146,17 +151,13 @@ part("keep").addEventListener("click", () => {
 function open(opened) {
   if (opened.trace !== undefined) trace.set(opened.trace);
   if (opened.policy !== undefined) editor.set(opened.policy);
-  const known = texts.policies.find((policy) => policy.text === editor.text);
-  if (known) nameNeighbour(known.name);
   verdict.judge();
 }
 
 fillMenus();
 new Links(values, open);
-chooseTrace(FIRST_TRACE);
-nameNeighbour("basic");
 tabs.show("point");
-open({ policy: policyNamed("basic").text, ...texts.opened, ...textsIn(window.location.href) });
+open({ policy: policyNamed(FIRST).text, trace: traceNamed(policyNamed(FIRST).trace), ...texts.opened, ...textsIn(window.location.href) });
 window.addEventListener("hashchange", () => open(textsIn(window.location.href) || {}));
 editor.area.focus();
 document.body.dataset.ready = "true";
