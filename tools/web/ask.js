@@ -15,10 +15,10 @@ export async function readTexts() {
 
 // The answer of a command, or null where the signal has ended the request.
 export async function ask(command, values, signal) {
+  const request = { method: "POST", headers: { "Content-Type": "application/json" }, body: JSON.stringify(values), signal };
   try {
-    return await answerOf(await fetch(command, {
-      method: "POST", headers: { "Content-Type": "application/json" }, body: JSON.stringify(values), signal,
-    }));
+    const answer = await answerOf(await fetch(command, request));
+    return signal.aborted ? null : answer;
   } catch (error) {
     if (error.name === "AbortError") return null;
     if (error instanceof Trouble) throw error;

@@ -72,8 +72,9 @@ export class Happens {
     this.judge(this.word);
     await this.act(async (signal) => {
       this.said.textContent = "…";
-      const came = await played(this.way.value, this.wayValues(), signal);
-      if (came) this.show(came);
+      const values = this.wayValues();
+      const came = await played(this.way.value, values, signal);
+      if (came) this.show({ ...values, ...came });
     });
   }
 

@@ -6,6 +6,7 @@ import { nameOf } from "./beside.js";
 
 const SHOWN_ELSEWHERE = ["check", "explain", "play", "run", "crew", "simulate", "waste", "replay", "report", "migrate", "verify"];
 const ENDINGS = { emit: "h", prove: "certs" };
+const MOST_SHOWN = 100000;
 
 export class More {
   // `commands` are those that the program's help names. `values` gives the texts, and `history` what was played last.
@@ -53,14 +54,16 @@ export class More {
     const answer = await ask(name, this.values(), this.asker.begin());
     if (!answer) return;
     this.said.textContent = answer.said ? saidWords(answer.said) : `ipanema ${name} ends with status ${answer.status}.`;
-    this.output.textContent = answer.output;
+    const rest = answer.output.length - MOST_SHOWN;
+    this.output.textContent = rest > 0 ? `${answer.output.slice(0, MOST_SHOWN)}\n.. and ${rest} signs more` : answer.output;
     if (answer.status === 0 && ENDINGS[name]) this.offer(answer.output, ENDINGS[name]);
   }
 
   async perfetto() {
     const last = this.history();
     if (!last || last.way === "simulate") throw new Trouble("Nothing was played under an accepted policy.");
-    const answer = await ask("perfetto", { ...this.values(), history: last.history.text }, this.asker.begin());
+    const texts = { policy: last.policy, trace: last.trace, history: last.history.text };
+    const answer = await ask("perfetto", texts, this.asker.begin());
     if (!answer) return;
     if (answer.status !== 0) throw new Trouble(saidWords(answer.said));
     this.said.textContent = "The file can be opened at ui.perfetto.dev.";

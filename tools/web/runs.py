@@ -56,7 +56,7 @@ class Client:
 
 
 class Runs:
-    """All programs that run for requests. `kernel_limits` says whether the program takes a limit of its address space."""
+    """All programs that run for requests. `kernel_limits` says whether the program lives with a limit of memory by the system."""
 
     def __init__(self, folder, environment, kernel_limits):
         self.folder, self.environment, self.kernel_limits = folder, environment, kernel_limits
@@ -110,14 +110,14 @@ class Runs:
         """Starts it in a group of its own, with limits of the system: bytes of a file, seconds of a processor, and memory."""
         limits = f"ulimit -f {MOST_WRITTEN // 512}; ulimit -t {SECONDS}"
         if self.kernel_limits:
-            limits += f"; ulimit -v {MEMORY // 1024}"
+            limits += f"; ulimit -d {MEMORY // 1024}"
         guarded = ["setpriv", "--pdeathsig", "KILL", "--"] if shutil.which("setpriv") else []
         whole = [*guarded, "sh", "-c", f'{limits}; exec "$@"', "sh", *map(str, words)]
         with self.lock:
             if self.closed:
                 raise Gone
-            process = subprocess.Popen(whole, cwd=place, env=self.environment, stdin=subprocess.DEVNULL, stdout=output, stderr=said,
-                                       start_new_session=True)
+            process = subprocess.Popen(whole, cwd=place, env={**self.environment, "TMPDIR": str(place)}, stdin=subprocess.DEVNULL,
+                                       stdout=output, stderr=said, start_new_session=True)
             self.groups.add(process.pid)
             return process
 
@@ -164,9 +164,13 @@ def end_group(group):
 
 def memory_of(process):
     """The bytes that a process and those that it started have in memory. One that has ended meanwhile has none."""
+    pages, children = (words_of(f"/proc/{process}/{name}") for name in ("statm", f"task/{process}/children"))
+    return (int(pages[1]) * PAGE if pages else 0) + sum(map(memory_of, children))
+
+
+def words_of(name):
+    """The words of a file of the system, or none where it isn't there any more."""
     try:
-        own = int(Path(f"/proc/{process}/statm").read_text().split()[1]) * PAGE
-        children = Path(f"/proc/{process}/task/{process}/children").read_text().split()
-    except (OSError, IndexError):
-        return 0
-    return own + sum(map(memory_of, children))
+        return Path(name).read_text().split()
+    except OSError:
+        return []

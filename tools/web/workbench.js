@@ -155,6 +155,7 @@ function open(opened) {
 }
 
 fillMenus();
+part("program").textContent = texts.version;
 new Links(values, open);
 tabs.show("point");
 open({ policy: policyNamed(FIRST).text, trace: traceNamed(policyNamed(FIRST).trace), ...texts.opened, ...textsIn(window.location.href) });
