@@ -1,5 +1,5 @@
-"""Leads a browser without a window, for `tools/try_classroom` and `tools/try_workbench`. Chromium or Chrome must be on the path. It is
-led by its DevTools protocol over two pipes."""
+"""Leads a browser without a window, for `tools/try_classroom` and `tools/try_workbench`. Chromium or Chrome must be on
+the path. It is led by its DevTools protocol over two pipes."""
 
 import base64
 import json
@@ -10,12 +10,10 @@ import subprocess
 import time
 
 BROWSERS = ["chromium", "chromium-browser", "google-chrome", "google-chrome-stable"]
-FLAGS = ["--headless", "--no-sandbox", "--disable-gpu", "--hide-scrollbars", "--no-first-run", "--remote-debugging-pipe"]
-KEY_CODES = {
-    "Tab": 9, "Enter": 13, "Escape": 27, " ": 32, "End": 35, "Home": 36, "ArrowLeft": 37, "ArrowUp": 38, "ArrowRight": 39,
-    "ArrowDown": 40, "F8": 119,
-}
-TEXTS = {"Enter": "\r", " ": " "}
+FLAGS = ["--headless", "--no-sandbox", "--disable-gpu", "--hide-scrollbars", "--no-first-run",
+         "--remote-debugging-pipe"]
+KEY_CODES = {"Tab": 9, "Enter": 13, "End": 35, "Home": 36, "ArrowLeft": 37, "ArrowRight": 39, "F8": 119}
+TEXTS = {"Enter": "\r"}
 CONTROL, SHIFT = 2, 8
 PATIENCE = 60
 
@@ -96,8 +94,8 @@ class Browser:
         """Presses a key, and lets it go. `modifiers` is CONTROL, SHIFT, or both added up."""
         code = KEY_CODES.get(key, ord(key[0].upper()))
         values = {"key": key, "code": key, "windowsVirtualKeyCode": code, "modifiers": modifiers}
-        text = "" if modifiers & CONTROL else TEXTS.get(key, "")
-        self.send("Input.dispatchKeyEvent", type="keyDown" if text else "rawKeyDown", **values, **({"text": text} if text else {}))
+        typed = {} if modifiers & CONTROL or key not in TEXTS else {"text": TEXTS[key]}
+        self.send("Input.dispatchKeyEvent", type="keyDown" if typed else "rawKeyDown", **values, **typed)
         self.send("Input.dispatchKeyEvent", type="keyUp", **values)
 
     def type(self, text):
@@ -129,7 +127,8 @@ class Browser:
         for event in self.events:
             method, values = event.get("method"), event.get("params", {})
             level = values.get("type") or values.get("entry", {}).get("level")
-            if method == "Runtime.exceptionThrown" or method in ("Runtime.consoleAPICalled", "Log.entryAdded") and level == "error":
+            is_told = method in ("Runtime.consoleAPICalled", "Log.entryAdded") and level == "error"
+            if is_told or method == "Runtime.exceptionThrown":
                 yield json.dumps(values)[:300]
 
     def addresses(self):

@@ -1,7 +1,8 @@
-"""Tells a history for a page that steps through it, for `tools/classroom` and `tools/workbench`: its entries, what the judge says of
-it, and its report.
+"""Tells a history for a page that steps through it, for `tools/classroom` and `tools/workbench`: its entries, what the
+judge says of it, and its report.
 
-    tools/history_facts.py POLICY TRACE            of the history that is played, or simulated where the policy isn't accepted, as JSON
+    tools/history_facts.py POLICY TRACE            of the history that is played, as JSON. Where the policy isn't
+                                                   accepted, it is the one that is simulated
     tools/history_facts.py POLICY TRACE HISTORY    of that history, under a policy that is accepted
 """
 
@@ -61,8 +62,8 @@ def illegal_in(lines, verdict):
 
 def report_lines(report):
     """The lines of a report, but for those of its rounds."""
-    rest = [line.text for line in report.stills + sorted(report.fails + report.unexplained, key=lambda line: line.values["position"])]
-    return rest + [f"{name} {count}" for name, count in report.totals.items()]
+    fails = sorted(report.fails + report.unexplained, key=lambda line: line.values["position"])
+    return [line.text for line in report.stills + fails] + [f"{name} {count}" for name, count in report.totals.items()]
 
 
 def verdict_words(verdict):

@@ -1,4 +1,4 @@
-"""What `tools/workbench` answers: the program's own commands, and the scripts of `tools` that tell more of its answers."""
+"""What `tools/workbench` answers: the program's own commands, and scripts of `tools` that tell more of its answers."""
 
 import re
 from pathlib import Path
@@ -29,7 +29,8 @@ class Answers:
 
     def __init__(self, runs, program, python, commands):
         self.runs, self.program, self.python = runs, program, python
-        self.forms = {name: command["words"] for name, command in commands.items()} | {name: words for name, (_, words) in SCRIPTS.items()}
+        self.forms = {name: command["words"] for name, command in commands.items()}
+        self.forms.update({name: words for name, (_, words) in SCRIPTS.items()})
         self.names = self.forms.keys()
         self.turn = runs.turn
 
@@ -45,7 +46,8 @@ class Answers:
             done = self.runs.run([*self.caller(name), *words], place, client)
         if not 0 <= done.status < 128:
             raise Ended(500, "the program was ended by the system, at a limit or for another reason")
-        return {"status": done.status, "output": done.output.decode("utf-8", "replace"), "said": done.said.decode("utf-8", "replace")}
+        output, said = (text.decode("utf-8", "replace") for text in (done.output, done.said))
+        return {"status": done.status, "output": output, "said": said}
 
     def caller(self, name):
         """The words before those of the command: a script, or the program with its front."""

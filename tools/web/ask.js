@@ -1,4 +1,5 @@
-// Asks the workbench's server. It runs the program on the texts, and gives its status, its output, and what was said beside.
+// Asks the workbench's server. It runs the program on the texts, and gives its status, its output, and what was said
+// beside.
 
 export class Trouble extends Error {}
 
@@ -15,7 +16,8 @@ export async function readTexts() {
 
 // The answer of a command, or null where the signal has ended the request.
 export async function ask(command, values, signal) {
-  const request = { method: "POST", headers: { "Content-Type": "application/json" }, body: JSON.stringify(values), signal };
+  const headers = { "Content-Type": "application/json" };
+  const request = { method: "POST", headers, body: JSON.stringify(values), signal };
   try {
     const answer = await answerOf(await fetch(command, request));
     return signal.aborted ? null : answer;
@@ -26,7 +28,8 @@ export async function ask(command, values, signal) {
   }
 }
 
-// Asks one thing after the other. What is asked later ends what was asked before, so an older answer never follows a newer one.
+// Asks one thing after the other. What is asked later ends what was asked before, so an older answer never follows a
+// newer one.
 export class Asker {
   constructor() {
     this.control = new AbortController();

@@ -1,4 +1,5 @@
-// Before and after: two policies on the same trace, with their idle cores by round, the cores at the end of a round, and both reports.
+// Before and after: two policies on the same trace, with their idle cores by round, the cores at the end of a round,
+// and both reports.
 
 import { add, part } from "./elements.js";
 import { Asker, Trouble, ask, linesOf } from "./ask.js";
@@ -8,7 +9,11 @@ import { played, wayFor } from "./played.js";
 import { drawRounds, markRound } from "./rounds.js";
 import { layoutOf } from "./steps.js";
 
-const TOTALS = { bad: "bad rounds", wasted: "idle cores in them", steals: "steals", fails: "failed steals", rounds: "rounds", entries: "entries" };
+const TOTALS = {
+  bad: "bad rounds", wasted: "idle cores in them", steals: "steals", fails: "failed steals", rounds: "rounds",
+  entries: "entries",
+};
+const WASTE = ["bad", "wasted"];
 
 export function nameOf(policy) {
   const found = /^\s*(?:#.*\n\s*)*(?:policy|levels)\s+(\w+)/.exec(policy);
@@ -25,7 +30,9 @@ export class Beside {
     this.menu.id = "before";
     this.menu.add(new Option("choose one", ""));
     policies.forEach((policy, at) => this.menu.add(new Option(policy.name, at)));
-    this.menu.addEventListener("change", () => this.menu.value !== "" && this.compare(policies[Number(this.menu.value)].text));
+    this.menu.addEventListener("change", () => {
+      if (this.menu.value !== "") this.compare(policies[Number(this.menu.value)].text);
+    });
     this.drawSlider(add(line, "label", "slider", "End of round "));
     this.said = add(this.panel, "p", "said");
     this.said.setAttribute("role", "status");
@@ -64,7 +71,7 @@ export class Beside {
   async update() {
     const signal = this.asker.begin();
     if (this.before === null) {
-      this.say("Choose a policy that is to stand before that of the editor, or keep the editor's own by “Keep as before”.");
+      this.say("Choose a policy that stands before the editor's, or keep the editor's by “Keep as before”.");
       return;
     }
     const { policy, trace } = this.values();
@@ -139,7 +146,8 @@ export class Beside {
     for (const [name, words] of Object.entries(TOTALS)) {
       const line = add(this.table, "tr");
       add(line, "th", "", words);
-      both.forEach(({ totals }) => add(line, "td", (name === "bad" || name === "wasted") && totals[name] ? "bad" : "", totals[name]));
+      const isWaste = WASTE.includes(name);
+      both.forEach(({ totals }) => add(line, "td", isWaste && totals[name] ? "bad" : "", totals[name]));
     }
   }
 }

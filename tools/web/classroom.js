@@ -30,6 +30,8 @@ drawLegend(part("legend"));
 const filled = Object.fromEntries(NAMES.map((name) => [name, part(name)]));
 const steps = new Steps(filled, facts, window.innerHeight - 540, writeAddress);
 document.addEventListener("keydown", (event) => steps.press(event));
-Object.entries(BUTTONS).forEach(([name, key]) => part(name).addEventListener("click", () => steps.show(steps.keys[key]())));
+for (const [name, key] of Object.entries(BUTTONS)) {
+  part(name).addEventListener("click", () => steps.show(steps.keys[key]()));
+}
 window.addEventListener("hashchange", () => steps.show(asked()));
 steps.show(asked());

@@ -4,9 +4,9 @@ import { add, threads } from "./elements.js";
 import { countOf, strength } from "./history.js";
 
 const ROLES = {
-  enter: { core: "lets in", target: "gets it" }, wake: { core: "wakes it", target: "gets it" }, work: { core: "runs" },
-  nothing: { core: "has nothing" }, steal: { core: "thief", victim: "victim" }, fail: { core: "thief", victim: "victim" },
-  pass: { core: "looks" }, round: {}, illegal: {},
+  enter: { core: "lets in", target: "gets it" }, wake: { core: "wakes it", target: "gets it" },
+  work: { core: "runs" }, nothing: { core: "has nothing" }, pass: { core: "looks" },
+  steal: { core: "thief", victim: "victim" }, fail: { core: "thief", victim: "victim" }, round: {}, illegal: {},
 };
 
 export function drawCores(parent, history, at) {

@@ -1,8 +1,10 @@
-// An editor with line numbers, colours and a marked fault. The browser's own field takes the keys, so that undo, selection and
-// the keyboard are what they are elsewhere. Its letters are clear, and the coloured ones lie behind them.
+// An editor with line numbers, colours and a marked fault. The browser's own field takes the keys, so that undo,
+// selection and the keyboard are what they are elsewhere. Its letters are clear, and the coloured ones lie behind them.
 
 import { add } from "./elements.js";
 import { Language, isColoured, lengthAt, placeOf, withFault } from "./colours.js";
+
+const PLAIN = { spellcheck: "false", autocapitalize: "off", autocomplete: "off" };
 
 export class Editor {
   // `rules` are the patterns of the language, and `changed` is told of each change.
@@ -14,9 +16,8 @@ export class Editor {
     this.layer = add(sheet, "div", "layer");
     this.layer.setAttribute("aria-hidden", "true");
     this.area = add(sheet, "textarea", "typed");
-    for (const [name, value] of Object.entries({ "aria-label": label, spellcheck: "false", autocapitalize: "off", autocomplete: "off" })) {
-      this.area.setAttribute(name, value);
-    }
+    this.area.setAttribute("aria-label", label);
+    for (const [name, value] of Object.entries(PLAIN)) this.area.setAttribute(name, value);
     this.area.addEventListener("input", () => {
       this.fault = null;
       this.paint();
@@ -35,8 +36,8 @@ export class Editor {
     const focused = document.activeElement;
     this.area.focus({ preventScroll: true });
     this.area.select();
-    const typed = document.activeElement === this.area && isColoured(text) && document.execCommand(text === "" ? "delete" : "insertText", false, text);
-    if (!typed) {
+    const canType = document.activeElement === this.area && isColoured(text);
+    if (!canType || !document.execCommand(text === "" ? "delete" : "insertText", false, text)) {
       this.area.value = text;
       this.area.dispatchEvent(new Event("input"));
     }

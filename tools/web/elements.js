@@ -1,4 +1,5 @@
-// Makes the elements of a page. Words are set as texts, so nothing that a file or a person wrote becomes a part of the page.
+// Makes the elements of a page. Words are set as texts, so nothing that a file or a person wrote becomes a part of the
+// page.
 
 const SVG = "http://www.w3.org/2000/svg";
 

@@ -7,7 +7,11 @@ import { drawRounds, markRound } from "./rounds.js";
 import { Steps, drawLegend, layoutOf } from "./steps.js";
 
 const PARTS = ["place", "sentence", "cause", "cores", "names", "lanes", "legend", "entries"];
-const BUTTONS = [["Home", "|◀", "first entry"], ["ArrowLeft", "◀", "back"], ["ArrowRight", "▶", "next"], ["End", "▶|", "last entry"]];
+const BUTTONS = [
+  ["Home", "|◀", "first entry"], ["ArrowLeft", "◀", "back"],
+  ["ArrowRight", "▶", "next"], ["End", "▶|", "last entry"],
+];
+const STOPPED = " It stopped before the round that might not fit the trace's limit of entries.";
 const LANES_ROOM = 88;
 
 export class Happens {
@@ -110,13 +114,15 @@ export class Happens {
 
   show(came) {
     this.last = came;
-    const stopped = came.history.isStopped ? " It stopped before the round that might not fit the trace's limit of entries." : "";
-    this.said.textContent = typeof came.facts === "object" ? `${capital(came.facts.verdict)}${stopped}` : came.facts;
+    const words = typeof came.facts === "object" ? capital(came.facts.verdict) : came.facts;
+    this.said.textContent = came.history.isStopped ? words + STOPPED : words;
     drawTotals(this.totals, came.totals);
     this.rounds.hidden = false;
     this.report.textContent = came.lines.join("\n");
     const most = Math.max(0, ...came.rounds.map((round) => round.idle));
-    drawRounds(this.rounds, came.rounds, most, (round) => this.steps && this.steps.show(this.steps.history.rounds.indexOf(round)));
+    drawRounds(this.rounds, came.rounds, most, (round) => {
+      if (this.steps) this.steps.show(this.steps.history.rounds.indexOf(round));
+    });
     this.body.replaceChildren();
     this.steps = null;
     if (typeof came.facts === "object") this.drawSteps({ ...came.facts, rounds: came.rounds });
@@ -124,8 +130,11 @@ export class Happens {
 
   // Goes on where it was, so that a changed policy is seen at the same entry.
   drawSteps(facts) {
-    const parts = Object.fromEntries(PARTS.map((name) => [name, document.createElement(name === "entries" ? "ol" : "div")]));
-    for (const [name, element] of Object.entries(parts)) element.id = name;
+    const parts = {};
+    for (const name of PARTS) {
+      parts[name] = document.createElement(name === "entries" ? "ol" : "div");
+      parts[name].id = name;
+    }
     parts.cores.className = "cores";
     this.body.className = `steps ${layoutOf(facts.cores)}`;
     const told = add(this.body, "div", "told");

@@ -1,4 +1,5 @@
-// A history as `tools/history_facts.py` tells it: what the cores have behind each entry, the rounds, and the looks of thieves.
+// A history as `tools/history_facts.py` tells it: what the cores have behind each entry, the rounds, and the looks of
+// thieves.
 
 export function countOf(core) {
   return core.queue.length + (core.running === null ? 0 : 1);
@@ -51,17 +52,20 @@ export class History {
     return Math.max(0, this.rounds.findLastIndex((one) => one <= round));
   }
 
-  // The looks behind the entry whose attempts are still to come, and how often the number that was seen has changed since.
+  // The looks behind the entry whose attempts are still to come, and how often the number that was seen has changed
+  // since.
   pendingLooks(at) {
+    const cores = this.stateAt(at);
     return this.looks.filter((look) => look.position <= at + 1 && at < look.at).map((look) => ({
-      ...look, changes: look.changes.filter((change) => change <= at).length, now: countOf(this.stateAt(at)[look.victim]),
+      ...look, changes: look.changes.filter((change) => change <= at).length, now: countOf(cores[look.victim]),
     }));
   }
 
   // Whether a core without a thread is wasted: another one has several, as was so when the round began.
   isWasted(core, at) {
     const round = this.roundAt(at);
-    return countOf(core) === 0 && round !== undefined && round.idle > 0 && this.stateAt(at).some((other) => countOf(other) > 1);
+    const isBad = round !== undefined && round.idle > 0;
+    return isBad && countOf(core) === 0 && this.stateAt(at).some((other) => countOf(other) > 1);
   }
 
   // The load of a core, with its running thread.

@@ -8,8 +8,8 @@ const MOST = 60000;
 export function textsIn(address) {
   const place = address.indexOf("#");
   const words = new URLSearchParams(place < 0 ? "" : address.slice(place + 1));
-  const texts = Object.fromEntries(["policy", "trace"].filter((kind) => words.has(kind)).map((kind) => [kind, words.get(kind)]));
-  return Object.keys(texts).length ? texts : null;
+  const kinds = ["policy", "trace"].filter((kind) => words.has(kind));
+  return kinds.length ? Object.fromEntries(kinds.map((kind) => [kind, words.get(kind)])) : null;
 }
 
 export function fragmentOf(texts) {

@@ -4,7 +4,7 @@ import { add, part } from "./elements.js";
 import { Asker, Trouble, ask, saidWords } from "./ask.js";
 import { nameOf } from "./beside.js";
 
-const SHOWN_ELSEWHERE = ["check", "explain", "play", "run", "crew", "simulate", "waste", "replay", "report", "migrate", "verify"];
+const SHOWN_ELSEWHERE = ["check", "explain", "play", "run", "simulate", "waste"];
 const ENDINGS = { emit: "h", prove: "certs" };
 const MOST_SHOWN = 100000;
 
@@ -17,7 +17,7 @@ export class More {
       const isOfTexts = words.every((word) => word === "POLICY" || word === "TRACE");
       if (isOfTexts && !SHOWN_ELSEWHERE.includes(name)) this.drawButton(list, name, does, () => this.run(name));
     }
-    this.drawButton(list, "perfetto", "write what was played last for the viewer ui.perfetto.dev", () => this.perfetto());
+    this.drawButton(list, "perfetto", "write what was played last for ui.perfetto.dev", () => this.perfetto());
     this.said = add(part("more"), "p", "said");
     this.said.setAttribute("role", "status");
     this.link = add(part("more"), "a", "download");
@@ -55,7 +55,7 @@ export class More {
     if (!answer) return;
     this.said.textContent = answer.said ? saidWords(answer.said) : `ipanema ${name} ends with status ${answer.status}.`;
     const rest = answer.output.length - MOST_SHOWN;
-    this.output.textContent = rest > 0 ? `${answer.output.slice(0, MOST_SHOWN)}\n.. and ${rest} signs more` : answer.output;
+    this.output.textContent = answer.output.slice(0, MOST_SHOWN) + (rest > 0 ? `\n.. and ${rest} signs more` : "");
     if (answer.status === 0 && ENDINGS[name]) this.offer(answer.output, ENDINGS[name]);
   }
 

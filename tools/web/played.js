@@ -1,4 +1,5 @@
-// What comes of a trace under a policy: its history, the numbers of its report, and the steps where they are few enough to be shown.
+// What comes of a trace under a policy: its history, the numbers of its report, and the steps where they are few enough
+// to be shown.
 
 import { Trouble, ask, faultIn, linesOf, saidWords } from "./ask.js";
 

@@ -87,6 +87,8 @@ function drawLine(card, kind, first, count) {
   if (count <= 0) add(line, "i", "", "none");
 }
 
+// A name for each thread: A to Z, then A1 to Z1.
 function letterOf(number) {
-  return number < LETTERS.length ? LETTERS[number] : `${LETTERS[number % LETTERS.length]}${Math.floor(number / LETTERS.length)}`;
+  const turn = Math.floor(number / LETTERS.length);
+  return LETTERS[number % LETTERS.length] + (turn || "");
 }

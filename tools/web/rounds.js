@@ -11,7 +11,8 @@ export function drawRounds(parent, rounds, most, chosen) {
   parent.replaceChildren();
   const few = rounds.slice(0, MOST_DRAWN);
   const wide = Math.max(2, Math.min(46, (parent.clientWidth - 16) / Math.max(few.length, 1)));
-  const picture = shape(parent, "svg", { width: wide * few.length + 4, height: HEIGHT + FOOT, class: "rounds", role: "img" });
+  const size = { width: wide * few.length + 4, height: HEIGHT + FOOT };
+  const picture = shape(parent, "svg", { ...size, class: "rounds", role: "img" });
   picture.setAttribute("aria-label", `idle cores in ${rounds.length} rounds`);
   few.forEach((round, at) => drawBar(picture, round, 2 + at * wide, wide, most, chosen));
   if (rounds.length > MOST_DRAWN) add(parent, "p", "plain", `The picture has the first ${MOST_DRAWN} rounds.`);

@@ -1,7 +1,8 @@
 """Runs programs for the requests of `tools/workbench`.
 
-Each runs in an empty folder of its own, in a group of processes that is ended as a whole. It is ended where it takes too long, or too
-much memory, or where nobody waits for its answer any more. At most four run at a time; others wait for their turn.
+Each runs in an empty folder of its own, in a group of processes that is ended as a whole. It is ended where it takes
+too long, or too much memory, or where nobody waits for its answer any more. At most four requests have programs at a
+time; others wait for their turn.
 """
 
 import os
@@ -56,7 +57,7 @@ class Client:
 
 
 class Runs:
-    """All programs that run for requests. `kernel_limits` says whether the program lives with a limit of memory by the system."""
+    """All programs that run for requests. `kernel_limits`: whether they live with a limit of memory by the system."""
 
     def __init__(self, folder, environment, kernel_limits):
         self.folder, self.environment, self.kernel_limits = folder, environment, kernel_limits
@@ -107,7 +108,7 @@ class Runs:
             return Answer(process.returncode, output.read(), said.read())
 
     def start(self, words, place, output, said):
-        """Starts it in a group of its own, with limits of the system: bytes of a file, seconds of a processor, and memory."""
+        """Starts it in a group of its own, with limits by the system: of files, of processor time, and of memory."""
         limits = f"ulimit -f {MOST_WRITTEN // 512}; ulimit -t {SECONDS}"
         if self.kernel_limits:
             limits += f"; ulimit -d {MEMORY // 1024}"
@@ -116,8 +117,8 @@ class Runs:
         with self.lock:
             if self.closed:
                 raise Gone
-            process = subprocess.Popen(whole, cwd=place, env={**self.environment, "TMPDIR": str(place)}, stdin=subprocess.DEVNULL,
-                                       stdout=output, stderr=said, start_new_session=True)
+            process = subprocess.Popen(whole, cwd=place, env={**self.environment, "TMPDIR": str(place)}, stdout=output,
+                                       stdin=subprocess.DEVNULL, stderr=said, start_new_session=True)
             self.groups.add(process.pid)
             return process
 

@@ -1,12 +1,18 @@
-// Reads a point aloud: numbers at which an obligation fails, as a scene in words. The numbers and the verdict are the program's.
+// Reads a point aloud: numbers at which an obligation fails, as a scene in words. The numbers and the verdict are the
+// program's.
 
 import { threads } from "./elements.js";
 
 const EVENTS = {
-  enqueue: "A thread comes or wakes", tick: "A thread has run for a unit of time", yield: "A thread gives way", block: "A thread blocks",
+  enqueue: "A thread comes or wakes", tick: "A thread has run for a unit of time", yield: "A thread gives way",
+  block: "A thread blocks",
 };
 const SIDES = ["self", "victim"];
 const COUNTS = ["nr", "load", "weight"];
+const RULES = {
+  H1: "Two rules apply to it, and there may be only one.",
+  H2: "No rule applies to it, so nothing says what becomes of it.",
+};
 
 // The numbers of a line such as `B1 fails self.nr=0 victim.nr=2`, by their names.
 export function numbersIn(line) {
@@ -15,8 +21,8 @@ export function numbersIn(line) {
 
 // What a side has beside its threads and its load: the attributes that the policy gives.
 export function attributesOf(numbers, side) {
-  return Object.entries(numbers).filter(([name]) => name.startsWith(`${side}.`) && !COUNTS.includes(name.slice(side.length + 1)))
-    .map(([name, value]) => [name.slice(side.length + 1), value]);
+  return Object.entries(numbers).map(([name, value]) => [...name.split("."), value])
+    .filter(([owner, name]) => owner === side && !COUNTS.includes(name)).map(([, name, value]) => [name, value]);
 }
 
 function listed(pairs) {
@@ -52,15 +58,16 @@ function ofB1(numbers) {
 }
 
 function ofB2(numbers) {
-  const loses = numbers["victim.nr"] > 0 ? "So that core may lose its last thread." : "There is nothing that could move.";
+  const isThere = numbers["victim.nr"] > 0;
+  const loses = isThere ? "So that core may lose its last thread." : "There is nothing that could move.";
   return `${meeting(numbers)}.${attributeWords(numbers)} The filter is true here. ${loses}`;
 }
 
 // How the loads stand before the move of a thread, and after it.
 function moveWords(numbers) {
   const [own, other, weight] = [numbers["self.load"], numbers["victim.load"], numbers["t.weight"] ?? 1];
-  return `The stolen thread weighs ${weight}. Before the move the loads are ${own} and ${other}, and behind it ${own + weight} and`
-    + ` ${other - weight}. So the gap gets no narrower, and the thread may go to and fro.`;
+  return `The stolen thread weighs ${weight}. Before the move the loads are ${own} and ${other}, and behind it`
+    + ` ${own + weight} and ${other - weight}. So the gap gets no narrower, and the thread may go to and fro.`;
 }
 
 function ofB3(numbers) {
@@ -68,8 +75,9 @@ function ofB3(numbers) {
 }
 
 function ofB4(numbers) {
-  return `A thief has taken a thread. Now it is a core ${has(numbers, "self")}, and its victim one ${has(numbers, "victim")}.`
-    + `${attributeWords(numbers)} The steal goes on to one more. ${moveWords(numbers)}`;
+  const [own, other] = SIDES.map((side) => has(numbers, side));
+  return `A thief has taken a thread. Now it is a core ${own}, and its victim one ${other}.${attributeWords(numbers)}`
+    + ` The steal goes on to one more. ${moveWords(numbers)}`;
 }
 
 function ofHandler(name, numbers) {
@@ -79,8 +87,7 @@ function ofHandler(name, numbers) {
   const words = own.length ? ` It has ${listed(own)}.` : "";
   const fresh = "t.fresh" in numbers ? ` It ${numbers["t.fresh"] ? "enters just now" : "was there before"}.` : "";
   const core = listed(attributesOf(numbers, "self"));
-  const rules = kind === "H1" ? "Two rules apply to it, and there may be only one." : "No rule applies to it, so nothing says what becomes of it.";
-  return `${EVENTS[event]}.${words}${fresh}${core ? ` Its core has ${core}.` : ""} ${rules}`;
+  return `${EVENTS[event]}.${words}${fresh}${core ? ` Its core has ${core}.` : ""} ${RULES[kind]}`;
 }
 
 export function sceneOf(name, numbers) {

@@ -1,7 +1,8 @@
 """The server of `tools/workbench`: who may ask, what may be asked, and how long a request may be.
 
-A request must have the secret word as the first part of its path, and the Host header that was printed. One of another origin is
-refused. It names a part of the page or a command, and never a file of the disk: texts come in its body, as JSON.
+A request must have the secret word as the first part of its path, and the Host header that was printed. One of another
+origin is refused. It names a part of the page or a command, and never a file of the disk: texts come in its body, as
+JSON.
 """
 
 import hmac
@@ -13,7 +14,8 @@ from socket import AF_INET, AF_INET6, SHUT_RDWR
 
 from web.runs import Client, Ended, Gone
 
-# What the formats allow for each text, in bytes, and how many of a body beside them. A byte of a text may take six in JSON.
+# What the formats allow for each text, in bytes, and what a body may have beside them. A byte of a text may take six in
+# JSON.
 LONGEST = {"policy": 65536, "trace": 4194304, "history": 33554432}
 BESIDE = 4096
 LONGEST_SPELLING = 6
@@ -21,10 +23,11 @@ MOST_CONNECTIONS = 64
 SECONDS_TO_READ = 10
 
 HEADERS = {
-    "Content-Security-Policy": "default-src 'none'; script-src 'self'; style-src 'self'; connect-src 'self'; img-src data:; "
-                               "base-uri 'none'; form-action 'none'; frame-ancestors 'none'",
-    "Cache-Control": "no-store", "Cross-Origin-Opener-Policy": "same-origin", "Cross-Origin-Resource-Policy": "same-origin",
-    "Referrer-Policy": "no-referrer", "X-Content-Type-Options": "nosniff", "X-Frame-Options": "DENY",
+    "Content-Security-Policy": "default-src 'none'; script-src 'self'; style-src 'self'; connect-src 'self'; "
+                               "img-src data:; base-uri 'none'; form-action 'none'; frame-ancestors 'none'",
+    "Cache-Control": "no-store", "Referrer-Policy": "no-referrer", "X-Content-Type-Options": "nosniff",
+    "Cross-Origin-Opener-Policy": "same-origin", "Cross-Origin-Resource-Policy": "same-origin",
+    "X-Frame-Options": "DENY",
 }
 
 
@@ -123,8 +126,8 @@ class Request(BaseHTTPRequestHandler):
         origins = self.headers.get_all("Origin", [])
         if origins not in ([], [f"http://{self.server.host}"]) or (self.command == "POST" and not origins):
             raise Refused(403, "a page of another origin can't ask this workbench")
-        site, goes = self.headers.get("Sec-Fetch-Site"), self.headers.get("Sec-Fetch-Mode") == "navigate" and self.name == ""
-        if site not in (None, "same-origin", "none") and not goes:
+        opens_page = self.headers.get("Sec-Fetch-Mode") == "navigate" and self.name == ""
+        if self.headers.get("Sec-Fetch-Site") not in (None, "same-origin", "none") and not opens_page:
             raise Refused(403, "a page of another site can't ask this workbench")
 
     def name_behind_secret(self):
@@ -165,7 +168,7 @@ class Request(BaseHTTPRequestHandler):
         return int(word)
 
     def read_body(self, length):
-        """The values of the body, each a text or a number. Texts are bytes from here on, and none is longer than its format allows."""
+        """The values of the body, texts or numbers. Texts are bytes from here on, as long as their formats allow."""
         with self.in_time():
             body = self.rfile.read(length)
         try:
@@ -190,7 +193,8 @@ class Request(BaseHTTPRequestHandler):
     def write(self, status, kind, body):
         self.close_connection = True
         self.send_response(status)
-        for name, value in {**HEADERS, "Content-Type": kind, "Content-Length": len(body), "Connection": "close"}.items():
+        own = {"Content-Type": kind, "Content-Length": len(body), "Connection": "close"}
+        for name, value in {**HEADERS, **own}.items():
             self.send_header(name, value)
         self.end_headers()
         self.wfile.write(body)

@@ -1,4 +1,5 @@
-// Steps through the entries of a history. What is shown at an entry is the cores behind it, the entry in words, and time.
+// Steps through the entries of a history. What is shown at an entry is the cores behind it, the entry in words, and
+// time.
 
 import { add, shape } from "./elements.js";
 import { History } from "./history.js";
@@ -27,7 +28,8 @@ export function layoutOf(cores) {
   return cores <= 8 ? "some" : "many";
 }
 
-// Room for a mark of the legend. The two cores of a steal lie above each other, and the core of another mark in the middle.
+// Room for a mark of the legend. The two cores of a steal lie above each other, and the core of another mark in the
+// middle.
 function sampleLanes(kind) {
   const places = kind === "steal" || kind === "fail" ? [7, 27] : [17, 17];
   return { half: 6, y: (core) => places[core] };
@@ -46,8 +48,8 @@ export function drawLegend(parent) {
 }
 
 export class Steps {
-  // `parts` are the elements that are filled, by their names. `room` is how high the rows of time may be, all together, and
-  // `moved` is told of each step.
+  // `parts` are the elements that are filled, by their names. `room` is how high the rows of time may be, all together,
+  // and `moved` is told of each step.
   constructor(parts, facts, room, moved) {
     Object.assign(this, { parts, facts, moved, at: 0, history: new History(facts) });
     this.entries = this.history.entries;

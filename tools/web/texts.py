@@ -1,5 +1,5 @@
-"""What the page of `tools/workbench` is told once: policies and traces of `examples`, what each obligation asks, words to be coloured,
-and the commands of the program. All of it is read when the workbench starts."""
+"""What the page of `tools/workbench` is told once: policies and traces of `examples`, what each obligation asks, words
+to be coloured, and the commands of the program. All of it is read when the workbench starts."""
 
 import re
 import subprocess
@@ -20,7 +20,7 @@ SPELLED = {r"\%(": "(?:", r"\<": r"\b", r"\>": r"\b", r"\h": "[A-Za-z_]", **{"\\
 
 
 def policies():
-    """Each policy with its menu, its name, its text, the name of its wrong neighbour, and of a trace that goes with it."""
+    """Each policy with its menu, its name, its text, and the names of its wrong neighbour and of a trace for it."""
     found = [policy_of(PLAIN, path) for path in sorted(EXAMPLES.glob("*.policy"))]
     found += [policy_of(GALLERY, path) for path in sorted((EXAMPLES / "gallery").glob("*.policy"))]
     return found
@@ -59,11 +59,11 @@ def obligations():
 
 
 def colours():
-    """For policies, traces and histories: kinds of words with their patterns. Where several fit, the first counts."""
+    """For policies and traces: kinds of words with their patterns. Where several fit, the first counts."""
     parts = re.split(r"(?m)^(?:if expand\('%:e'\) ==# '|elseif expand\('%:e'\) ==# '|else$|endif$)",
                      (TOP / "tools" / "ipanema.vim").read_text())
-    trace, history, policy, number = parts[-4:]
-    return {name: rules_of(text + number) for name, text in (("policy", policy), ("trace", trace), ("history", history))}
+    trace, _, policy, number = parts[-4:]
+    return {"policy": rules_of(policy + number), "trace": rules_of(trace + number)}
 
 
 def rules_of(text):
@@ -78,8 +78,12 @@ def rules_of(text):
 
 
 def pattern_of(text):
-    """A pattern of vim as one of JavaScript. What is a sign with a backslash in the one is a sign without it in the other."""
-    return re.sub(r"\\%\(|\\.|[()|?+]", lambda found: SPELLED.get(found[0], found[0] if found[0][0] == "\\" else "\\" + found[0]), text)
+    """A pattern of vim as one of JavaScript. A sign with a backslash in the one is a sign without it in the other."""
+    def spell(found):
+        word = found[0]
+        return SPELLED.get(word) or (word if word[0] == "\\" else "\\" + word)
+
+    return re.sub(r"\\%\(|\\.|[()|?+]", spell, text)
 
 
 # ---- the program

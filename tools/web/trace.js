@@ -41,7 +41,8 @@ export class Trace {
   judge(fails) {
     this.fails = fails.filter((name) => SHOWN.test(name));
     this.button.disabled = this.fails.length === 0;
-    this.button.title = this.fails.length ? `a trace on which ${this.fails[0]} is seen to fail` : "no obligation on balance fails";
+    const [first] = this.fails;
+    this.button.title = first ? `a trace on which ${first} is seen to fail` : "no obligation on balance fails";
   }
 
   // A fault of the trace at its place, or none.

@@ -1,11 +1,14 @@
-// A form for those who don't know the format of traces: cores, rounds, and a row for each thread with its bursts of work.
+// A form for those who don't know the format of traces: cores, rounds, and a row for each thread with its bursts of
+// work.
 
 import { add } from "./elements.js";
 import { KINDS, formOf, oneMore, textOf } from "./trace_text.js";
 
 const MOST_BURSTS = 16;
 const MOST_ROWS = 100;
-const LIMITS = { cores: [1, 64], rounds: [0, 4096], round: [1, 4096], weight: [1, 1048575], units: [1, 1048575], block: [1, 4096] };
+const LIMITS = {
+  cores: [1, 64], rounds: [0, 4096], round: [1, 4096], weight: [1, 1048575], units: [1, 1048575], block: [1, 4096],
+};
 
 export class TraceForm {
   // `changed` is told the new text.
@@ -33,8 +36,9 @@ export class TraceForm {
       add(this.box, "p", "plain", `The form has no place for line ${this.form} of the text.`);
       return;
     }
-    if (this.form.threads.length > MOST_ROWS) {
-      add(this.box, "p", "plain", `The form takes at most ${MOST_ROWS} threads, and the text has ${this.form.threads.length}.`);
+    const count = this.form.threads.length;
+    if (count > MOST_ROWS) {
+      add(this.box, "p", "plain", `The form takes at most ${MOST_ROWS} threads, and the text has ${count}.`);
       return;
     }
     const head = add(this.box, "p", "fields");
@@ -53,7 +57,8 @@ export class TraceForm {
     if (thread.weight !== null) this.number(row, "weight", thread, "weight", LIMITS.weight);
     thread.bursts.forEach((burst, place) => this.drawBurst(row, thread, burst, place));
     if (thread.weight === null) this.button(row, "Weight", () => { thread.weight = 1; });
-    this.button(row, "Remove", () => this.form.threads.splice(at, 1)).setAttribute("aria-label", `Remove thread ${thread.number}`);
+    const remove = this.button(row, "Remove", () => this.form.threads.splice(at, 1));
+    remove.setAttribute("aria-label", `Remove thread ${thread.number}`);
   }
 
   drawBurst(row, thread, burst, place) {

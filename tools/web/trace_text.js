@@ -1,6 +1,7 @@
 // The text of a trace as the rows of a form, and back. What the form has no field for is kept as it is.
 
 export const KINDS = { forever: "for ever", end: "then ends", yield: "then gives way", block: "then blocks for" };
+const FOREVER = { kind: "forever", units: 1, rounds: 1 };
 const THREAD = /^\s*thread\s+(\d+)\s+core\s+(\d+)\s+round\s+(\d+)(?:\s+weight\s+(\d+))?((?:\s+\S+)+)\s*$/;
 
 // The bursts of a program, or null where it isn't one: each with its kind, its units, and the rounds of its block.
@@ -19,7 +20,7 @@ export function burstsIn(program) {
 
 function burstAt(words) {
   const first = words.shift();
-  if (first === "forever") return { kind: "forever", units: 1, rounds: 1 };
+  if (first === "forever") return { ...FOREVER };
   const units = Number(words.shift());
   if (first !== "run" || !Number.isInteger(units)) return null;
   if (words[0] !== "yield" && words[0] !== "block") return { kind: "end", units, rounds: 1 };
@@ -58,12 +59,14 @@ export function formOf(text) {
 }
 
 function lineOf({ number, core, round, weight, bursts }) {
-  return `thread ${number} core ${core} round ${round}${weight === null ? "" : ` weight ${weight}`} ${programOf(bursts)}`;
+  const weighs = weight === null ? "" : ` weight ${weight}`;
+  return `thread ${number} core ${core} round ${round}${weighs} ${programOf(bursts)}`;
 }
 
 // The text of a form. Comments, constants of cores and orders stand between the rounds and the threads.
 export function textOf(form) {
-  return [`cores ${form.cores}`, `rounds ${form.rounds}`, ...form.others, ...form.threads.map(lineOf)].map((line) => `${line}\n`).join("");
+  const lines = [`cores ${form.cores}`, `rounds ${form.rounds}`, ...form.others, ...form.threads.map(lineOf)];
+  return lines.map((line) => `${line}\n`).join("");
 }
 
 // One more thread, as the last one is, with the least number that is free.
@@ -71,6 +74,6 @@ export function oneMore(form) {
   const taken = new Set(form.threads.map((thread) => thread.number));
   let number = 1;
   while (taken.has(number)) number++;
-  const last = form.threads.at(-1) || { core: 0, round: 1, weight: null, bursts: [{ kind: "forever", units: 1, rounds: 1 }] };
+  const last = form.threads.at(-1) || { core: 0, round: 1, weight: null, bursts: [FOREVER] };
   return { ...structuredClone(last), number };
 }

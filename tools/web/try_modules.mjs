@@ -29,8 +29,12 @@ for (const name of traces) {
   assert.equal(typeof form, "object", name);
   same(formOf(textOf(form)), form, name);
 }
-const form = formOf("cores 2\nrounds 3\n# one\norder 1 0 1\nthread 4 core 1 round 1 weight 5 run 2 block 3 run 1 yield forever\n");
-same(textOf(form), "cores 2\nrounds 3\n# one\norder 1 0 1\nthread 4 core 1 round 1 weight 5 run 2 block 3 run 1 yield forever\n", "kept lines");
+const kept = [
+  "cores 2", "rounds 3", "# one", "order 1 0 1",
+  "thread 4 core 1 round 1 weight 5 run 2 block 3 run 1 yield forever", "",
+].join("\n");
+const form = formOf(kept);
+same(textOf(form), kept, "kept lines");
 same(oneMore(form).number, 1, "the number of one more thread");
 same(formOf("cores 2\nrounds 3\nthread 1 core 0 round 1 run 2 block\n"), 3, "a line without a form");
 same(formOf("cores 2\nrounds 3\nthread 1 core 0 round 1 forever run 1\n"), 3, "a burst behind the last");
@@ -39,7 +43,8 @@ same(formOf("rounds 3"), 1, "no cores");
 // Colours, and the place of a fault: columns count bytes.
 const language = new Language([["statement", "\\bcores\\b"], ["number", "\\b\\d+\\b"]]);
 same(language.piecesOf("cores 12 x"), [
-  { kind: "statement", text: "cores" }, { kind: "", text: " " }, { kind: "number", text: "12" }, { kind: "", text: " x" },
+  { kind: "statement", text: "cores" }, { kind: "", text: " " }, { kind: "number", text: "12" },
+  { kind: "", text: " x" },
 ], "pieces");
 same(withFault([{ kind: "a", text: "abc" }, { kind: "", text: "de" }], 1, 3), [
   { kind: "a", text: "a" }, { kind: "a fault", text: "bc" }, { kind: " fault", text: "d" }, { kind: "", text: "e" },
@@ -62,8 +67,11 @@ for (const path of readdirSync(new URL("gallery/", examples)).filter((name) => n
   same(/undefined|NaN/.test(scene), false, `${path}: ${scene}`);
 }
 same(numbersOf("round 1 spread 2 idle 1\nstill 1 1 spread 2 bad 1 steals 0\nrounds 1\nbad 1\n"), {
-  rounds: [{ round: 1, spread: 2, idle: 1 }], totals: { rounds: 1, bad: 1 }, lines: ["still 1 1 spread 2 bad 1 steals 0", "rounds 1", "bad 1"],
+  rounds: [{ round: 1, spread: 2, idle: 1 }], totals: { rounds: 1, bad: 1 },
+  lines: ["still 1 1 spread 2 bad 1 steals 0", "rounds 1", "bad 1"],
 }, "a report");
-same([wayFor("run", "accepted"), wayFor("run", "refused"), wayFor("simulate", "accepted")], ["run", "simulate", "simulate"], "ways");
+same(wayFor("run", "accepted"), "run", "the way under an accepted policy");
+same(wayFor("run", "refused"), "simulate", "the way under a refused policy");
+same(wayFor("simulate", "accepted"), "simulate", "a way that is always there");
 
 console.log(`modules: ${tried} trials, 0 wrong`);

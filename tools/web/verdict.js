@@ -7,7 +7,8 @@ const REST = 300;
 const NAME = /^(B\d|H\d\.\w+) (holds|fails|undecided)$/;
 
 export class Verdict {
-  // `asks` has what each obligation asks. `told` is called with each new verdict, and `chosen` with an obligation that is looked at.
+  // `asks` has what each obligation asks. `told` is called with each new verdict, and `chosen` with an obligation that
+  // is looked at.
   constructor(editor, asks, told, chosen) {
     Object.assign(this, { editor, asks, told, chosen, asker: new Asker(), timer: 0, explained: new Map() });
     this.word = "";
@@ -87,7 +88,9 @@ export class Verdict {
 
   // Says what the obligation asks. Where it fails, its point is drawn.
   choose(name) {
-    for (const button of part("obligations").children) button.setAttribute("aria-pressed", button.dataset.name === name);
+    for (const button of part("obligations").children) {
+      button.setAttribute("aria-pressed", button.dataset.name === name);
+    }
     const [kind, event] = name.split(".");
     part("asks").textContent = `${name}: ${event ? this.asks[kind].replace(" e.", ` ${event}.`) : this.asks[kind]}`;
     this.chosen(name, this.explained.get(name));

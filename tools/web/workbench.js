@@ -1,4 +1,5 @@
-// The workbench: a policy, its verdict, the point of what fails, a trace, and what happens. Here its parts are put together.
+// The workbench: a policy, its verdict, the point of what fails, a trace, and what happens. Here its parts are put
+// together.
 
 import { part } from "./elements.js";
 import { readTexts } from "./ask.js";
@@ -158,7 +159,8 @@ fillMenus();
 part("program").textContent = texts.version;
 new Links(values, open);
 tabs.show("point");
-open({ policy: policyNamed(FIRST).text, trace: traceNamed(policyNamed(FIRST).trace), ...texts.opened, ...textsIn(window.location.href) });
+const first = policyNamed(FIRST);
+open({ policy: first.text, trace: traceNamed(first.trace), ...texts.opened, ...textsIn(window.location.href) });
 window.addEventListener("hashchange", () => open(textsIn(window.location.href) || {}));
 editor.area.focus();
 document.body.dataset.ready = "true";

@@ -1,0 +1,271 @@
+"""What `tools/try_workbench` tries on the page. What is seen there must be what `./ipanema` writes."""
+
+import json
+import subprocess
+import time
+
+from browser import CONTROL, SHIFT, Wrong
+from web.page import OBLIGATIONS, TOP, WRONG_LINE, require
+
+EXAMPLES = TOP / "examples"
+GALLERY = sorted((EXAMPLES / "gallery").glob("*.policy"))
+# What is played: a policy, a trace, and how.
+PLAYS = [("timid", "witnesses/timid", "simulate"), ("basic", "eight_threads", "play"), ("basic", "stale_read", "crew"),
+         ("fair", "fair/block_and_wake", "play"), ("basic", "two_thieves", "run")]
+SCRIPT = "<script>document.title = 'run'</script>"
+
+
+def asked(*words):
+    """The lines that ./ipanema writes on these words, and what it says beside."""
+    done = subprocess.run([TOP / "ipanema", *words], capture_output=True, text=True, check=False)
+    return done.stdout.rstrip("\n").split("\n"), done.stderr
+
+
+def file_of(policy):
+    return next(path for folder in (EXAMPLES, EXAMPLES / "gallery") if (path := folder / f"{policy}.policy").exists())
+
+
+# ---- the policy
+
+
+def try_gallery(page):
+    """Each policy of the gallery and its wrong neighbour: the lines of `check`, and the point of what fails."""
+    for path in GALLERY:
+        lines, _ = asked("check", path)
+        page.type_policy(path.read_text())
+        require(lines[-1], page.judged(), f"the verdict on {path.stem}")
+        require(lines[:-1], page.value(OBLIGATIONS), f"the obligations of {path.stem}")
+        fails = [line.split()[0] for line in lines if line.endswith(" fails")]
+        if fails:
+            check_point(page, path, fails[0])
+        page.check_layout(f"of {path.stem}")
+
+
+def check_point(page, path, name):
+    """The first failing obligation is drawn by itself, with the numbers of `explain`, and read aloud."""
+    told = asked("explain", path, name)[0][0]
+    page.until_text("#point code", told, f"the point of {path.stem}")
+    numbers = dict(word.split("=") for word in told.split()[2:])
+    drawn = page.value("[...document.querySelectorAll('#point .core')].map((core) => core.querySelectorAll('b').length)")
+    wanted = [min(int(numbers[f"{side}.nr"]), 9) for side in ("self", "victim")] if name.startswith("B") else []
+    require(wanted, drawn, f"how many threads the point of {path.stem} has")
+    require(True, len(page.text("#point .aloud")) > 60, f"whether the point of {path.stem} is read aloud")
+
+
+def try_faults(page):
+    """Each kind of fault: the program's line, its sentence, and the line of the text."""
+    for path in sorted((EXAMPLES / "faults").glob("*.policy")):
+        if path.read_bytes().isascii():
+            check_fault(page, path)
+    page.type_policy("policy p\nload count # \N{LATIN SMALL LETTER A WITH DIAERESIS}\n")
+    require("policy 22 not-ascii", page.judged(), "the answer on a sign that isn't ASCII")
+    require(2, page.value(WRONG_LINE), "the marked line of that sign")
+
+
+def check_fault(page, path):
+    lines, said = asked("check", path)
+    page.type_policy(path.read_text())
+    require(lines[0], page.judged(), f"the answer on {path.stem}")
+    if lines[0].startswith("policy "):
+        _, line, _, sentence = said.split(":", 3)
+        require(f"Line {line}: {sentence.strip()}", page.text("#fault"), f"the sentence on {path.stem}")
+        require(int(line), page.value(WRONG_LINE), f"the marked line of {path.stem}")
+    page.check_layout(f"of the fault {path.stem}")
+
+
+def try_undo(page):
+    """What is chosen in a menu can be undone like what is typed."""
+    page.choose_policy("basic")
+    page.choose_policy("fair")
+    page.focus("#policy .typed")
+    page.browser.press("z", CONTROL)
+    page.until_typed("policy", file_of("basic").read_text(), "the text before")
+    page.judged()
+
+
+def try_late_answers(page):
+    """Whatever is typed in between, the verdict that stands in the end is that of the text that stands there."""
+    for name in ("knapsack", "eager", "timid", "basic"):
+        page.type_policy(file_of(name).read_text())
+        time.sleep(0.35)
+    require("accepted", page.judged(), "the last verdict")
+    time.sleep(1)
+    require("accepted", page.text("#answer"), "the verdict that stays")
+
+
+def try_neighbour(page):
+    """From a policy to its wrong neighbour and back, with the trace that shows it."""
+    require("accepted", page.choose_policy("counts"), "the verdict on counts")
+    page.click("#neighbour")
+    require("refused", page.judged(), "the verdict on its wrong neighbour")
+    wanted = (EXAMPLES / "witnesses" / "counts-wrong.trace").read_text()
+    require(wanted, page.typed("trace"), "the trace that comes with it")
+    page.click("#neighbour")
+    require("accepted", page.judged(), "the verdict on the right one")
+    require(file_of("counts").read_text(), page.typed("policy"), "the right one")
+
+
+# ---- the trace
+
+
+def try_witness(page):
+    """The smallest trace that shows a failing obligation."""
+    page.choose_policy("timid", "one_core")
+    page.view("trace")
+    page.click("#witness")
+    page.until_typed("trace", (EXAMPLES / "witnesses" / "timid.trace").read_text(), "the smallest trace")
+    shows = "B1: core 0 stays idle beside core 1 with 2 threads, rounds 2 to 9."
+    page.until_text("#trace .said", shows, "what it shows")
+    page.check_layout("of a trace")
+
+
+def try_form(page):
+    """The form and the text of a trace are the same, and a fault is marked."""
+    page.choose_policy("timid", "witnesses/timid")
+    page.view("trace")
+    page.click("#trace .form > button")
+    page.fill("#trace .fields:first-child label:first-child input", "3", "input")
+    page.fill("#trace .burst select", "block", "change")
+    wanted = "".join(f"{line}\n" for line in (
+        "cores 3", "rounds 9", "thread 1 core 1 round 1 forever", "thread 2 core 1 round 1 forever",
+        "thread 3 core 1 round 1 run 1 block 1 run 1"))
+    require(wanted, page.typed("trace"), "the text of the form")
+    page.check_layout("of a form")
+    page.fill("#trace .typed", "cores 2\nrounds 9\nthread 1 core 7 round 1 forever\n", "input")
+    page.until_count("#trace .line.wrong", 1, "the marked line of the trace")
+    require("Line 3: 7 is out of its range, 0..1 (a core)", page.text("#trace .said"), "the sentence on the trace")
+    page.check_layout("of a fault of a trace")
+
+
+# ---- what happens
+
+
+def try_play(page):
+    """The numbers and the steps of what is played are those of the program."""
+    for policy, trace, way in PLAYS:
+        files = file_of(policy), EXAMPLES / f"{trace}.trace"
+        page.choose_policy(policy, trace)
+        page.view("happens")
+        page.choose("way", way)
+        numbers = dict(line.split() for line in asked("waste", *files)[0][-6:])
+        entries = json.dumps(f"{numbers['entries']} entries")
+        page.until(f"document.querySelector('#happens .totals').textContent.includes({entries})", f"{way} of {policy}")
+        page.until_text("#happens .said", "Simulated" if way == "simulate" else "Whole", "the steps")
+        if way in ("play", "simulate"):
+            shown = [f"{count} {name}" in page.text("#happens .totals") for name, count in numbers.items()]
+            require([True] * len(numbers), shown, f"which numbers of {policy} are there")
+            check_steps(page, asked(way, *files)[0][1:])
+        page.check_layout(f"of {way} of {policy}")
+
+
+def check_steps(page, history):
+    """The steps go through the program's lines, by the keys."""
+    page.focus("#happens")
+    page.browser.press("Home")
+    for at, line in enumerate(history):
+        require([at, line], page.value("""[Number(document.getElementById("happens").dataset.at),
+            document.querySelector("#entries [aria-current] code").textContent]"""), f"the entry at {at}")
+        page.browser.press("ArrowRight")
+    page.browser.press("Home")
+
+
+def try_beside(page):
+    """Timid wastes and basic doesn't, side by side."""
+    page.choose_policy("timid", "witnesses/timid")
+    page.click("#keep")
+    page.until_count("#beside section", 2, "two policies")
+    page.choose_policy("basic")
+    page.until_text("#beside .after h3", "after: basic accepted", "the second policy")
+    rows = page.value("""Object.fromEntries([...document.querySelectorAll("#beside tr")].map((row) =>
+        [row.children[0].textContent, [row.children[1].textContent, row.children[2].textContent]]))""")
+    require(["refused", "accepted"], rows["verdict"], "the verdicts side by side")
+    require(["8", "1"], rows["bad rounds"], "the bad rounds side by side")
+    require(["0", "1"], rows["steals"], "the steals side by side")
+    require(1, page.count("#beside .before .core.wasted"), "how many cores are wasted before")
+    require(0, page.count("#beside .after .core.wasted"), "how many cores are wasted after")
+    page.check_layout("of two policies")
+
+
+def try_more(page):
+    """The other commands write what the program writes, and Perfetto's file can be kept."""
+    page.choose_policy("basic", "one_core")
+    page.view("more")
+    names = page.value("[...document.querySelectorAll('#more [data-command]')].map((one) => one.dataset.command)")
+    for name in names[:-1]:
+        page.click(f"#more [data-command={name}]")
+        page.until_text("#more .output", "\n".join(asked(name, EXAMPLES / "basic.policy")[0]), f"what {name} writes")
+        page.check_layout(f"of {name}")
+    page.view("happens")
+    page.until_text("#happens .said", "Whole", "a history")
+    page.view("more")
+    page.click("#more [data-command=perfetto]")
+    page.until_text("#more .download", "Download basic.json", "Perfetto's file")
+
+
+# ---- the whole page
+
+
+def try_link(page):
+    """A link has policy and trace in it, and nothing of it is sent to the server."""
+    page.choose_policy("numa")
+    page.click("#link")
+    link = page.value("document.getElementById('link-out').value")
+    page.check_layout("of a link")
+    page.click("#link-close")
+    page.choose_policy("basic")
+    page.browser.go("about:blank")
+    page.browser.go(link)
+    page.ready()
+    require(file_of("numa").read_text(), page.typed("policy"), "the policy of the link")
+    require([], [one for one in page.browser.addresses() if "policy=" in one], "what the server is sent of a link")
+
+
+def try_scripts(page):
+    """Scripts in names, in texts and in links are shown as texts."""
+    page.type_policy(f"policy p<img src=x onerror=alert(1)>\n# {SCRIPT}\n")
+    page.judged()
+    page.browser.go("about:blank")
+    page.browser.go(f"{page.address}#policy={SCRIPT}&trace=<b>{SCRIPT}")
+    page.ready()
+    require("Nailbracken workbench", page.value("document.title"), "the title")
+    require(SCRIPT, page.typed("policy"), "the policy that is a script")
+    require(0, page.count("main script, main img, .layer b"), "how many elements are made of texts")
+
+
+def try_keyboard(page):
+    """By the keyboard alone: a policy is typed, and the verdict, the steps and the comparison are reached."""
+    browser = page.browser
+    page.choose("traces", "witnesses/timid")
+    page.value("document.activeElement.blur()")
+    browser.press("F8")
+    browser.press("a", CONTROL)
+    browser.type(file_of("timid").read_text())
+    page.until_text("#answer", "refused", "the verdict by keys")
+    browser.press("F8")
+    require("tab", page.value("document.activeElement.getAttribute('role')"), "what F8 leads to")
+    for name in ("point", "trace", "happens", "beside", "more"):
+        browser.press("ArrowRight")
+    browser.press("Enter", CONTROL)
+    page.until_text("#happens .said", "Simulated", "what happens by keys")
+    require("happens", page.value("document.activeElement.id"), "what Ctrl and Enter lead to")
+    browser.press("End")
+    require(True, page.value("Number(document.getElementById('happens').dataset.at) > 0"), "whether a key steps")
+    browser.press("Tab", SHIFT)
+    require("tab-happens", page.value("document.activeElement.id"), "what is before the view")
+    reach(page, "keep")
+    browser.press("Enter")
+    page.until_count("#beside section", 2, "two policies by keys")
+
+
+def reach(page, name):
+    """Goes back by the tab key until the element has the focus."""
+    for _ in range(60):
+        if page.value("document.activeElement.id") == name:
+            return
+        page.browser.press("Tab", SHIFT)
+    raise Wrong(f"the keyboard doesn't reach {name}")
+
+
+TRIALS = {trial.__name__.removeprefix("try_"): trial for trial in (
+    try_gallery, try_faults, try_undo, try_late_answers, try_neighbour, try_witness, try_form, try_play, try_beside,
+    try_more, try_link, try_scripts, try_keyboard)}
