@@ -13,6 +13,12 @@ GALLERY = sorted((EXAMPLES / "gallery").glob("*.policy"))
 PLAYS = [("timid", "witnesses/timid", "simulate"), ("basic", "eight_threads", "play"), ("basic", "stale_read", "crew"),
          ("fair", "fair/block_and_wake", "play"), ("basic", "two_thieves", "run")]
 SCRIPT = "<script>document.title = 'run'</script>"
+# Holds back what is answered on the policy `eager`, so that it comes behind what is asked later.
+HOLD_BACK = """(() => { const real = window.fetch; window.fetch = async (...words) => {
+    const response = await real(...words);
+    if (words[1] && words[1].body.includes("policy eager")) await new Promise((go) => { setTimeout(go, 1500); });
+    return response;
+}; })()"""
 
 
 def asked(*words):
@@ -46,7 +52,7 @@ def check_point(page, path, name):
     told = asked("explain", path, name)[0][0]
     page.until_text("#point code", told, f"the point of {path.stem}")
     numbers = dict(word.split("=") for word in told.split()[2:])
-    drawn = page.value("[...document.querySelectorAll('#point .core')].map((core) => core.querySelectorAll('b').length)")
+    drawn = page.value("[...document.querySelectorAll('#point .core')].map((one) => one.querySelectorAll('b').length)")
     wanted = [min(int(numbers[f"{side}.nr"]), 9) for side in ("self", "victim")] if name.startswith("B") else []
     require(wanted, drawn, f"how many threads the point of {path.stem} has")
     require(True, len(page.text("#point .aloud")) > 60, f"whether the point of {path.stem} is read aloud")
@@ -84,12 +90,13 @@ def try_undo(page):
 
 
 def try_late_answers(page):
-    """Whatever is typed in between, the verdict that stands in the end is that of the text that stands there."""
-    for name in ("knapsack", "eager", "timid", "basic"):
+    """An answer that comes late never stands in the place of that on a newer text."""
+    page.value(HOLD_BACK)
+    for name in ("knapsack", "eager", "basic"):
         page.type_policy(file_of(name).read_text())
-        time.sleep(0.35)
+        time.sleep(0.4)
     require("accepted", page.judged(), "the last verdict")
-    time.sleep(1)
+    time.sleep(2)
     require("accepted", page.text("#answer"), "the verdict that stays")
 
 
@@ -131,6 +138,11 @@ def try_form(page):
         "thread 3 core 1 round 1 run 1 block 1 run 1"))
     require(wanted, page.typed("trace"), "the text of the form")
     page.check_layout("of a form")
+    page.focus("#trace .fields input")
+    page.browser.press("a", CONTROL)
+    for digit in "12":
+        page.browser.type(digit)
+    require("cores 12", page.typed("trace").split("\n")[0], "what is typed in a field")
     page.fill("#trace .typed", "cores 2\nrounds 9\nthread 1 core 7 round 1 forever\n", "input")
     page.until_count("#trace .line.wrong", 1, "the marked line of the trace")
     require("Line 3: 7 is out of its range, 0..1 (a core)", page.text("#trace .said"), "the sentence on the trace")
@@ -190,10 +202,13 @@ def try_more(page):
     """The other commands write what the program writes, and Perfetto's file can be kept."""
     page.choose_policy("basic", "one_core")
     page.view("more")
-    names = page.value("[...document.querySelectorAll('#more [data-command]')].map((one) => one.dataset.command)")
-    for name in names[:-1]:
+    commands = page.value("fetch('texts').then((response) => response.json()).then(({ commands }) => commands)")
+    files = {"POLICY": EXAMPLES / "basic.policy", "TRACE": EXAMPLES / "one_core.trace"}
+    shown = page.value("[...document.querySelectorAll('#more [data-command]')].map((one) => one.dataset.command)")
+    for name in shown[:-1]:
         page.click(f"#more [data-command={name}]")
-        page.until_text("#more .output", "\n".join(asked(name, EXAMPLES / "basic.policy")[0]), f"what {name} writes")
+        lines, _ = asked(name, *(files[word] for word in commands[name]["words"]))
+        page.until_text("#more .output", "\n".join(lines), f"what {name} writes")
         page.check_layout(f"of {name}")
     page.view("happens")
     page.until_text("#happens .said", "Whole", "a history")
@@ -264,6 +279,12 @@ def reach(page, name):
             return
         page.browser.press("Tab", SHIFT)
     raise Wrong(f"the keyboard doesn't reach {name}")
+
+
+def try_ended(page):
+    """A page whose workbench has ended says so."""
+    page.type_policy(file_of("basic").read_text() + "# more\n")
+    page.until_text("#fault", "the workbench doesn't answer; has it been ended?", "the sentence of a page that is left alone")
 
 
 TRIALS = {trial.__name__.removeprefix("try_"): trial for trial in (
