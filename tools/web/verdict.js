@@ -8,7 +8,7 @@ const NAME = /^(B\d|H\d\.\w+) (holds|fails|undecided)$/;
 
 export class Verdict {
   // `asks` has what each obligation asks. `told` is called with each new verdict, and `chosen` with an obligation that
-  // is looked at.
+  // is looked at, what `explain` wrote of it, and whether it was pressed.
   constructor(editor, asks, told, chosen) {
     Object.assign(this, { editor, asks, told, chosen, asker: new Asker(), timer: 0, explained: new Map() });
     this.word = "";
@@ -46,10 +46,20 @@ export class Verdict {
     const fails = lines.filter(([, , word]) => word === "fails").map(([, name]) => name);
     this.told({ word: this.word, fails, fault: faultIn(answer.said) });
     for (const name of fails) {
-      const told = await ask("explain", { policy, name }, signal);
-      if (!told) return;
-      this.explained.set(name, linesOf(told.output)[0]);
-      if (name === fails[0]) this.choose(name);
+      this.explained.set(name, await this.explain(policy, name, signal));
+      if (signal.aborted) return;
+      if (name === fails[0]) this.choose(name, false);
+    }
+  }
+
+  // The line of `explain`, or a sentence that says why there is none.
+  async explain(policy, name, signal) {
+    try {
+      const answer = await ask("explain", { policy, name }, signal);
+      return answer && linesOf(answer.output)[0];
+    } catch (error) {
+      if (!(error instanceof Trouble)) throw error;
+      return error.message;
     }
   }
 
@@ -81,18 +91,18 @@ export class Verdict {
       add(button, "span", "", ` ${word}`);
       Object.assign(button, { type: "button", title: line });
       button.dataset.name = name;
-      button.addEventListener("click", () => this.choose(name));
+      button.addEventListener("click", () => this.choose(name, true));
     }
     part("asks").textContent = "";
   }
 
   // Says what the obligation asks. Where it fails, its point is drawn.
-  choose(name) {
+  choose(name, isPressed) {
     for (const button of part("obligations").children) {
       button.setAttribute("aria-pressed", button.dataset.name === name);
     }
     const [kind, event] = name.split(".");
     part("asks").textContent = `${name}: ${event ? this.asks[kind].replace(" e.", ` ${event}.`) : this.asks[kind]}`;
-    this.chosen(name, this.explained.get(name));
+    this.chosen(name, this.explained.get(name), isPressed);
   }
 }

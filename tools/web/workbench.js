@@ -28,7 +28,7 @@ const point = new Point((name) => seek(name));
 const happens = new Happens(values, (fault) => trace.mark(fault));
 const beside = new Beside(texts.policies, values);
 const more = new More(texts.commands, values, () => happens.last);
-const verdict = new Verdict(editor, texts.obligations, (told) => judged(told), (name, line) => chosen(name, line));
+const verdict = new Verdict(editor, texts.obligations, judged, chosen);
 const tabs = new Tabs(() => refresh());
 
 // ---- what one part tells the others
@@ -46,8 +46,12 @@ function nothingFails(word) {
   return word ? "No obligation is known to fail, so there is no point to be drawn." : "The policy isn't judged.";
 }
 
-function chosen(name, line) {
-  if (line && line.includes(" fails")) point.show(name, line);
+// An obligation that fails is drawn, and where it was pressed, its point is shown.
+function chosen(name, line, isPressed) {
+  if (!line) return;
+  if (line.startsWith(`${name} fails`)) point.show(name, line);
+  else point.say(line);
+  if (isPressed) tabs.show("point");
 }
 
 // What is shown follows the texts.
