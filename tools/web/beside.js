@@ -75,6 +75,7 @@ export class Beside {
       return;
     }
     const { policy, trace } = this.values();
+    this.said.textContent = "…";
     try {
       const both = [];
       for (const one of [this.before, policy]) both.push(await this.side(one, trace, signal));
@@ -116,11 +117,8 @@ export class Beside {
     drawRounds(rounds, side.rounds, most, (round) => this.turn(round));
     const cores = add(box, "div", "cores");
     const history = typeof side.facts === "object" ? new History({ ...side.facts, rounds: side.rounds }) : null;
-    if (!history) add(cores, "p", "plain", side.facts);
-    else {
-      cores.style.setProperty("--cores", Math.min(history.facts.cores, 4));
-      box.classList.add(layoutOf(history.facts.cores));
-    }
+    if (history) box.classList.add(layoutOf(history.facts.cores));
+    else add(cores, "p", "plain", side.facts);
     return { rounds, cores, history };
   }
 

@@ -17,10 +17,11 @@ export class More {
       const isOfTexts = words.every((word) => word === "POLICY" || word === "TRACE");
       if (isOfTexts && !SHOWN_ELSEWHERE.includes(name)) this.drawButton(list, name, does, () => this.run(name));
     }
+    this.drawButton(list, "save", "keep the policy and the trace as files", () => this.save());
     this.drawButton(list, "perfetto", "write what was played last for ui.perfetto.dev", () => this.perfetto());
     this.said = add(part("more"), "p", "said");
     this.said.setAttribute("role", "status");
-    this.link = add(part("more"), "a", "download");
+    this.links = add(part("more"), "p", "links");
     this.output = add(part("more"), "pre", "output");
     this.clear();
   }
@@ -36,7 +37,8 @@ export class More {
   clear() {
     this.said.textContent = "";
     this.output.textContent = "";
-    this.link.hidden = true;
+    for (const link of this.links.children) URL.revokeObjectURL(link.href);
+    this.links.replaceChildren();
   }
 
   async act(doing) {
@@ -59,6 +61,13 @@ export class More {
     if (answer.status === 0 && ENDINGS[name]) this.offer(answer.output, ENDINGS[name]);
   }
 
+  async save() {
+    const { policy, trace } = this.values();
+    this.said.textContent = "";
+    this.offer(policy, "policy");
+    this.offer(trace, "trace");
+  }
+
   async perfetto() {
     const last = this.history();
     if (!last || last.way === "simulate") throw new Trouble("Nothing was played under an accepted policy.");
@@ -72,10 +81,9 @@ export class More {
 
   // A file of that text, to be kept.
   offer(text, ending) {
-    URL.revokeObjectURL(this.link.href);
-    this.link.href = URL.createObjectURL(new Blob([text], { type: "text/plain" }));
-    this.link.download = `${nameOf(this.values().policy).replace(/\W+/g, "_")}.${ending}`;
-    this.link.textContent = `Download ${this.link.download}`;
-    this.link.hidden = false;
+    const link = add(this.links, "a", "download");
+    link.href = URL.createObjectURL(new Blob([text], { type: "text/plain" }));
+    link.download = `${nameOf(this.values().policy).replace(/\W+/g, "_")}.${ending}`;
+    link.textContent = `Download ${link.download}`;
   }
 }

@@ -6,6 +6,7 @@ import signal
 import subprocess
 import sys
 import tempfile
+import time
 from contextlib import contextmanager
 from pathlib import Path
 
@@ -138,6 +139,18 @@ class Page:
         self.browser.press("a", CONTROL)
         self.browser.type(text)
         self.value("document.getElementById('policy').classList.add('old')")
+
+    def download(self, name):
+        """The text of a file that the page offers, as the browser keeps it."""
+        with tempfile.TemporaryDirectory() as folder:
+            self.browser.send("Browser.setDownloadBehavior", behavior="allow", downloadPath=folder)
+            self.click(f"#more .download[download={json.dumps(name)}]")
+            kept = Path(folder) / name
+            for _ in range(200):
+                if kept.exists() and kept.stat().st_size:
+                    return kept.read_text()
+                time.sleep(0.05)
+        raise Wrong(f"{name} isn't kept by the browser")
 
     def picture(self, name):
         (TOP / "docs" / f"workbench_{name}.png").write_bytes(self.browser.picture())

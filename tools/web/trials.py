@@ -69,6 +69,17 @@ def try_play(page):
             require([True] * len(numbers), shown, f"which numbers of {policy} are there")
             check_steps(page, asked(way, *files)[0][1:])
         page.check_layout(f"of {way} of {policy}")
+    for cores in (4, 16):
+        page.fill("#trace .typed", crowded(cores), "input")
+        page.until_count("#happens .core", cores, f"{cores} cores")
+        page.browser.press("End")
+        page.check_layout(f"of steps on {cores} cores")
+
+
+def crowded(cores):
+    """A trace with many threads on the first cores, so that there is much to be drawn."""
+    lines = [f"thread {thread} core {thread % 3} round 1 forever" for thread in range(1, 25)]
+    return "".join(f"{line}\n" for line in [f"cores {cores}", "rounds 3", *lines])
 
 
 def check_steps(page, history):
@@ -97,6 +108,10 @@ def try_beside(page):
     require(1, page.count("#beside .before .core.wasted"), "how many cores are wasted before")
     require(0, page.count("#beside .after .core.wasted"), "how many cores are wasted after")
     page.check_layout("of two policies")
+    for cores in (4, 16):
+        page.fill("#trace .typed", crowded(cores), "input")
+        page.until_count("#beside .after .core", cores, f"{cores} cores")
+        page.check_layout(f"of two policies on {cores} cores")
 
 
 def try_more(page):
@@ -106,11 +121,14 @@ def try_more(page):
     commands = page.value("fetch('texts').then((response) => response.json()).then(({ commands }) => commands)")
     files = {"POLICY": EXAMPLES / "basic.policy", "TRACE": EXAMPLES / "one_core.trace"}
     shown = page.value("[...document.querySelectorAll('#more [data-command]')].map((one) => one.dataset.command)")
-    for name in shown[:-1]:
+    for name in shown[:-2]:
         page.click(f"#more [data-command={name}]")
         lines, _ = asked(name, *(files[word] for word in commands[name]["words"]))
         page.until_text("#more .output", "\n".join(lines), f"what {name} writes")
         page.check_layout(f"of {name}")
+    page.click("#more [data-command=save]")
+    for kind in ("policy", "trace"):
+        require(page.typed(kind), page.download(f"basic.{kind}"), f"the {kind} that is kept as a file")
     page.view("happens")
     page.until_text("#happens .said", "Whole", "a history")
     page.view("more")
