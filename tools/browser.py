@@ -109,7 +109,7 @@ class Browser:
             raise Wrong(f"{expression}: {json.dumps(answer['exceptionDetails'])[:300]}")
         return answer["result"].get("value")
 
-    def until(self, expression, what, seconds=20):
+    def until(self, expression, what, seconds=PATIENCE):
         """Waits until the expression is true of the page, and returns what it comes to."""
         ends = time.monotonic() + seconds
         while time.monotonic() < ends:

@@ -78,8 +78,8 @@ def try_play(page):
 
 def crowded(cores):
     """A trace with many threads on the first cores, so that there is much to be drawn."""
-    lines = [f"thread {thread} core {thread % 3} round 1 forever" for thread in range(1, 25)]
-    return "".join(f"{line}\n" for line in [f"cores {cores}", "rounds 3", *lines])
+    lines = [f"thread {thread} core {thread % 3} round 1 forever" for thread in range(1, 17)]
+    return "".join(f"{line}\n" for line in [f"cores {cores}", "rounds 2", *lines])
 
 
 def check_steps(page, history):
@@ -93,13 +93,18 @@ def check_steps(page, history):
     page.browser.press("Home")
 
 
-def try_beside(page):
-    """Timid wastes and basic doesn't, side by side."""
+def compare(page):
+    """Puts timid before basic, on the smallest trace under which timid wastes."""
     page.choose_policy("timid", "witnesses/timid")
     page.click("#keep")
     page.until_count("#beside section", 2, "two policies")
     page.choose_policy("basic")
     page.until_text("#beside .after h3", "after: basic accepted", "the second policy")
+
+
+def try_beside(page):
+    """Timid wastes and basic doesn't, side by side."""
+    compare(page)
     rows = page.value("""Object.fromEntries([...document.querySelectorAll("#beside tr")].map((row) =>
         [row.children[0].textContent, [row.children[1].textContent, row.children[2].textContent]]))""")
     require(["refused", "accepted"], rows["verdict"], "the verdicts side by side")
