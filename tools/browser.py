@@ -98,6 +98,11 @@ class Browser:
         self.send("Input.dispatchKeyEvent", type="keyDown" if typed else "rawKeyDown", **values, **typed)
         self.send("Input.dispatchKeyEvent", type="keyUp", **values)
 
+    def click(self, x, y):
+        """Clicks with the mouse at that point of the window."""
+        for kind in ("mousePressed", "mouseReleased"):
+            self.send("Input.dispatchMouseEvent", type=kind, x=x, y=y, button="left", clickCount=1)
+
     def type(self, text):
         """Types the text where the cursor is."""
         self.send("Input.insertText", text=text)

@@ -23,7 +23,7 @@ export function nameOf(policy) {
 export class Beside {
   // `policies` are those of the menus, and `values` gives the texts of the editors.
   constructor(policies, values) {
-    Object.assign(this, { values, asker: new Asker(), before: null, round: Infinity });
+    Object.assign(this, { values, asker: new Asker(), before: null, round: Infinity, sides: [] });
     this.panel = part("beside");
     const line = add(this.panel, "p", "controls");
     this.menu = add(add(line, "label", "", "Before "), "select");

@@ -117,7 +117,7 @@ export class Happens {
     const words = typeof came.facts === "object" ? capital(came.facts.verdict) : came.facts;
     this.said.textContent = came.history.isStopped ? words + STOPPED : words;
     drawTotals(this.totals, came.totals);
-    this.rounds.hidden = false;
+    this.rounds.hidden = came.rounds.length === 0;
     this.report.textContent = came.lines.join("\n");
     const most = Math.max(0, ...came.rounds.map((round) => round.idle));
     drawRounds(this.rounds, came.rounds, most, (round) => {

@@ -111,6 +111,12 @@ class Page:
     def click(self, selector):
         self.value(f"document.querySelector({json.dumps(selector)}).click()")
 
+    def point_at(self, selector):
+        """Clicks with the mouse on the middle of an element."""
+        self.browser.click(*self.value(f"""(() => {{
+            const box = document.querySelector({json.dumps(selector)}).getBoundingClientRect();
+            return [box.x + box.width / 2, box.y + box.height / 2]; }})()"""))
+
     def view(self, name):
         self.click(f"#tab-{name}")
 

@@ -58,13 +58,18 @@ export async function historyOf(way, values, signal) {
 export async function played(way, values, signal) {
   const history = await historyOf(way, values, signal);
   if (!history) return null;
-  const isMine = way === "run" || way === "crew";
-  const numbers = isMine && !history.isStopped
-    ? await require("report", { ...values, history: history.text }, [WHOLE], signal)
-    : await require("waste", values, [WHOLE, STOPPED], signal);
+  const numbers = await reportOf(way, values, history, signal);
   if (!numbers) return null;
   const facts = await stepsOf(way, values, history, signal);
   return facts && { way, history, ...numbersOf(numbers.output), facts };
+}
+
+// The report on it. `waste` has that of what is played core after core, also where it stopped. Of another history that
+// stopped there is none.
+async function reportOf(way, values, history, signal) {
+  if (way === "play" || way === "simulate") return require("waste", values, [WHOLE, STOPPED], signal);
+  if (history.isStopped) return { output: "" };
+  return require("report", { ...values, history: history.text }, [WHOLE], signal);
 }
 
 // The steps of a history that isn't too long, or a sentence that says why there are none.

@@ -8,7 +8,7 @@ export class Tabs {
     this.tabs = [...document.querySelectorAll("[role=tab]")];
     this.shown = shown;
     for (const tab of this.tabs) {
-      tab.addEventListener("click", () => this.show(nameOf(tab)));
+      tab.addEventListener("click", (event) => this.click(event, nameOf(tab)));
       tab.addEventListener("keydown", (event) => this.press(event, tab));
     }
   }
@@ -22,6 +22,12 @@ export class Tabs {
       part(nameOf(tab)).hidden = !isShown;
     }
     this.shown(name);
+  }
+
+  // The mouse goes on into the view, so that the arrow keys step there.
+  click(event, name) {
+    this.show(name);
+    if (event.detail > 0) part(name).focus();
   }
 
   press(event, tab) {

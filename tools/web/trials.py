@@ -171,6 +171,18 @@ def try_scripts(page):
     require(0, page.count("main script, main img, .layer b"), "how many elements are made of texts")
 
 
+def try_mouse(page):
+    """By the mouse: behind a click on a view the arrow keys step in it, and a click on a bar goes to its round."""
+    page.choose_policy("timid", "witnesses/timid")
+    page.point_at("#tab-happens")
+    page.until_text("#happens .said", "Simulated", "the steps")
+    page.browser.press("Home")
+    page.browser.press("ArrowRight")
+    require("1", page.value("document.getElementById('happens').dataset.at"), "the entry behind a step")
+    page.point_at("#happens .bar[data-round='3'] .back")
+    require("Round 3 begins.", page.text("#sentence"), "the entry that a bar leads to")
+
+
 def try_keyboard(page):
     """By the keyboard alone: a policy is typed, and the verdict, the steps and the comparison are reached."""
     browser = page.browser
@@ -212,4 +224,5 @@ def try_ended(page):
 
 
 TRIALS = {trial.__name__.removeprefix("try_"): trial for trial in (
-    *POLICY_TRIALS, try_witness, try_form, try_play, try_beside, try_more, try_link, try_scripts, try_keyboard)}
+    *POLICY_TRIALS, try_witness, try_form, try_play, try_beside, try_more, try_link, try_scripts, try_mouse,
+    try_keyboard)}
