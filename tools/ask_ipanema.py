@@ -1,6 +1,7 @@
 """Asks the program `ipanema`, for the scripts beside this file, and reads policies and traces that it has found no fault in."""
 
 import functools
+import os
 import re
 import subprocess
 from collections import namedtuple
@@ -9,7 +10,9 @@ from pathlib import Path
 from common import LONGEST, Refused, read_file
 from histories import read_report, read_waste
 
-PROGRAM = Path(__file__).resolve().parent.parent / "ipanema"
+TOP = Path(__file__).resolve().parent.parent
+# The variable IPANEMA may name another program, as it does for tools/ci_recipe.
+PROGRAM = Path(os.environ.get("IPANEMA") or TOP / "ipanema")
 WHOLE, STOPPED, NOT_WHOLE = 0, 8, 9
 VERDICTS = {1, 3}
 MEANS = {
@@ -33,7 +36,7 @@ def build():
 def program():
     """The program that ./ipanema uses, without its look at all sources."""
     build()
-    said = subprocess.run(["bash", "-pc", 'top="$PWD"; source tools/front/programs.bash; program_of'], cwd=PROGRAM.parent,
+    said = subprocess.run(["bash", "-pc", 'top="$PWD"; source tools/front/programs.bash; program_of'], cwd=TOP,
                           stdout=subprocess.PIPE, check=False, text=True)
     if said.returncode:
         raise Refused("there is no program; ./ipanema builds one")

@@ -1,32 +1,25 @@
-"use strict";
+// Draws time: a row for each core, a column for each entry, and the reads of the entry at hand as arcs back to what
+// they saw. Position p, the state behind p entries, is the left edge of column p.
 
-// Draws time: a row for each core, a column for each entry, and the reads of the entry at hand as arcs back to what they saw.
-// Position p, the state behind p entries, is the left edge of column p.
+import { shape } from "./elements.js";
+import { strength } from "./history.js";
 
-const SVG = "http://www.w3.org/2000/svg";
 const HEAD = 54;
 const FOOT = 26;
 const SIDE = 40;
 const LABEL_ROOM = 330;
 
-function shape(parent, name, settings, words) {
-  const made = parent.appendChild(document.createElementNS(SVG, name));
-  for (const [key, value] of Object.entries(settings)) made.setAttribute(key, value);
-  if (words !== undefined) made.textContent = words;
-  return made;
-}
-
-// Few cores get high rows, where the window has room for them beside all else.
-function rowHeight(cores) {
+// Few cores get high rows, where there is room for them.
+function rowHeight(cores, room) {
   const least = cores <= 4 ? 44 : cores <= 8 ? 32 : 20;
-  return Math.max(least, Math.min(72, (window.innerHeight - 540) / cores));
+  return Math.max(least, Math.min(72, room / cores));
 }
 
-class Lanes {
-  constructor(parent, names, entries, cores) {
+export class Lanes {
+  constructor(parent, names, entries, cores, room) {
     this.entries = entries;
     this.cores = cores;
-    this.row = rowHeight(cores);
+    this.row = rowHeight(cores, room);
     const least = cores <= 8 ? 46 : 34;
     this.column = Math.max(least, Math.min(72, (parent.clientWidth - LABEL_ROOM) / Math.max(entries.length, 1)));
     this.half = Math.min(this.row * 0.38, this.column * 0.26);
@@ -82,7 +75,8 @@ class Lanes {
     MARKS[entry.kind](this, mark, this.middle(position), entry);
   }
 
-  // What the entry at hand adds: its column, its reads, the entry that explains it, and the looks whose attempts come later.
+  // What the entry at hand adds: its column, its reads, the entry that explains it, and the looks whose attempts come
+  // later.
   show(at, pending) {
     const entry = this.entries[at];
     this.over.replaceChildren();
@@ -101,7 +95,8 @@ class Lanes {
 
   fade(at) {
     const x = this.x(at + 1);
-    shape(this.over, "rect", { x, y: HEAD, width: Math.max(this.end - x, 0), height: this.bottom - HEAD, class: "later" });
+    const width = Math.max(this.end - x, 0);
+    shape(this.over, "rect", { x, y: HEAD, width, height: this.bottom - HEAD, class: "later" });
   }
 
   drawRead(at, reader, read) {
@@ -117,8 +112,9 @@ class Lanes {
     if (stale) this.drawLabel(group, this.x(at + 1) + 8, y, `stale: saw ${read.saw}, now ${read.now}`);
   }
 
-  // A thief's eye at the moment and on the victim that it saw, with the number there. A line goes from it to the thief, behind the
-  // entry at hand. Thieves that saw the same share an eye. It lies above its row, where no read of the entry at hand hides it.
+  // A thief's eye at the moment and on the victim that it saw, with the number there. A line goes from it to the thief,
+  // behind the entry at hand. Thieves that saw the same share an eye. It lies above its row, where no read of the entry
+  // at hand hides it.
   drawEye(at, look, pending) {
     const group = shape(this.over, "g", { class: look.changes ? "eye faded" : "eye", opacity: strength(look) });
     Object.assign(group.dataset, { core: look.core, victim: look.victim, saw: look.saw });
@@ -158,7 +154,8 @@ class Lanes {
     const group = shape(this.over, "g", { class: "cause" });
     const [from, to] = [this.middle(cause), this.middle(at)];
     shape(group, "path", { d: `M ${from} ${HEAD - 22} V ${y} H ${to} V ${HEAD - 26}` });
-    shape(group, "path", { d: `M ${to - 6} ${HEAD - 31} L ${to} ${HEAD - 22} L ${to + 6} ${HEAD - 31} Z`, class: "tip" });
+    const tip = `M ${to - 6} ${HEAD - 31} L ${to} ${HEAD - 22} L ${to + 6} ${HEAD - 31} Z`;
+    shape(group, "path", { d: tip, class: "tip" });
     shape(group, "text", { x: to + 12, y: y + 8 }, `explained by entry ${cause}`);
   }
 
@@ -191,8 +188,8 @@ function drawRound(lanes, group, x, entry) {
 function drawComing(lanes, group, x, entry) {
   const [y, half] = [lanes.y(entry.target), lanes.half * 1.25];
   if (entry.core !== entry.target) shape(group, "line", { x1: x, x2: x, y1: lanes.y(entry.core), y2: y, class: "way" });
-  const tip = y + half * 0.3;
-  shape(group, "path", { d: `M ${x - half} ${y - half} H ${x + half} V ${tip} L ${x} ${y + half} L ${x - half} ${tip} Z` });
+  const [top, tip] = [y - half, y + half * 0.3];
+  shape(group, "path", { d: `M ${x - half} ${top} H ${x + half} V ${tip} L ${x} ${y + half} L ${x - half} ${tip} Z` });
   named(lanes, group, x, y - half * 0.15, entry.thread);
 }
 
@@ -233,7 +230,7 @@ function drawIllegal(lanes, group, x) {
   shape(group, "text", { x, y: 16 }, "illegal");
 }
 
-const MARKS = {
+export const MARKS = {
   round: drawRound, enter: drawComing, wake: drawComing, work: drawWork, nothing: drawNothing, steal: drawSteal,
   fail: drawFail, pass: drawPass, illegal: drawIllegal,
 };

@@ -1,0 +1,103 @@
+"""Tells a history for a page that steps through it, for `tools/classroom` and `tools/workbench`: its entries, what the
+judge says of it, and its report.
+
+    tools/history_facts.py POLICY TRACE            of the history that is played, as JSON. Where the policy isn't
+                                                   accepted, it is the one that is simulated
+    tools/history_facts.py POLICY TRACE HISTORY    of that history, under a policy that is accepted
+"""
+
+import json
+import sys
+import tempfile
+
+sys.dont_write_bytecode = True
+from ask_ipanema import Verdict, cores_in, judge, played, read_file, report_of, simulated, waste_of, weights_in, write
+from histories import Refused, read_history
+from history_steps import steps_of, words_of
+
+MOST_ENTRIES = 600
+
+
+def require_few(text):
+    entries = entries_in(text)
+    if entries > MOST_ENTRIES:
+        raise Refused(f"the history has {entries} entries, and a page takes at most {MOST_ENTRIES}")
+
+
+def entries_in(text):
+    """How many entries the text has, if it is a history: the header of the second format is none."""
+    return text.count(b"\n") - text.startswith(b"history ")
+
+
+def judged(policy, trace, text):
+    """The verdict on a history, and its report where it is whole."""
+    with tempfile.NamedTemporaryFile() as history:
+        history.write(text)
+        history.flush()
+        verdict = judge(policy, trace, history.name)
+        return verdict, report_of(policy, trace, history.name, verdict)
+
+
+def facts_of(policy, trace, text, verdict, report):
+    """All that a page is told, of a history and what was said of it."""
+    lines = read_history(text)
+    steps = list(steps_of(lines[:verdict.legal], cores_in(trace)))
+    for line in report.fails if report else []:
+        steps[line.values["position"]]["cause"] = line.values["by"]
+    return {
+        "cores": cores_in(trace), "steps": steps, "illegal": illegal_in(lines, verdict),
+        "verdict": verdict_words(verdict), "word": verdict.word, "unjudged": max(len(lines) - verdict.legal - 1, 0),
+        "rounds": [line.values for line in report.rounds] if report else [],
+        "report": report_lines(report) if report else [], "weights": weights_in(policy, trace),
+    }
+
+
+def illegal_in(lines, verdict):
+    """The first entry that isn't legal, or None."""
+    if verdict.word != "illegal":
+        return None
+    line = lines[verdict.legal]
+    return {"kind": "illegal", "text": line.text, "words": words_of(line)}
+
+
+def report_lines(report):
+    """The lines of a report, but for those of its rounds."""
+    fails = sorted(report.fails + report.unexplained, key=lambda line: line.values["position"])
+    return [line.text for line in report.stills + fails] + [f"{name} {count}" for name, count in report.totals.items()]
+
+
+def verdict_words(verdict):
+    return f"{verdict.line}: " + {
+        "whole": "every entry is legal, and no more is due.",
+        "illegal": f"the entry at position {verdict.legal} isn't legal after those before it.",
+        "short": "every entry is legal, but more have to come.",
+        "simulated": "the policy isn't accepted. This is what it does.",
+    }[verdict.word]
+
+
+def read_facts(policy, trace, *history):
+    """The facts of the history in the third file, or of what is played where only two are named."""
+    text = read_file(*history) if history else played(policy, trace)
+    said = None
+    if text is None:
+        text = simulated(policy, trace)
+        count = entries_in(text)
+        said = Verdict("simulated", count, f"simulated {count}"), waste_of(policy, trace)
+    require_few(text)
+    return facts_of(policy, trace, text, *(said or judged(policy, trace, text)))
+
+
+def main(words):
+    if len(words) not in (2, 3):
+        print("usage: tools/history_facts.py POLICY TRACE [HISTORY] > FACTS.json", file=sys.stderr)
+        return 2
+    try:
+        write(json.dumps(read_facts(*words)) + "\n", "text")
+    except Refused as refused:
+        print(f"tools/history_facts.py: {refused}", file=sys.stderr)
+        return 2
+    return 0
+
+
+if __name__ == "__main__":
+    sys.exit(main(sys.argv[1:]))
