@@ -206,11 +206,11 @@ def passing(data, suffix=""):
 
 
 @contextlib.contextmanager
-def folder():
-    """The name of a temporary folder."""
+def folder(prefix="tmp."):
+    """The name of a temporary folder, which begins so. What is still written there doesn't keep it from being removed."""
     with contextlib.ExitStack() as stack:
         with undisturbed():
-            made = stack.enter_context(tempfile.TemporaryDirectory())
+            made = stack.enter_context(tempfile.TemporaryDirectory(prefix=prefix, ignore_cleanup_errors=True))
         yield made
 
 

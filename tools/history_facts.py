@@ -8,11 +8,11 @@ judge says of it, and its report.
 
 import json
 import sys
-import tempfile
 
 sys.dont_write_bytecode = True
-from ask_ipanema import Verdict, cores_in, judge, played, read_file, report_of, simulated, waste_of, weights_in, write
-from histories import Refused, read_history
+from ask_ipanema import Verdict, cores_in, judge, played, report_of, simulated, waste_of, weights_in
+from common import Refused, passing, read_file, run, say, write
+from histories import read_history
 from history_steps import steps_of, words_of
 
 MOST_ENTRIES = 600
@@ -31,11 +31,9 @@ def entries_in(text):
 
 def judged(policy, trace, text):
     """The verdict on a history, and its report where it is whole."""
-    with tempfile.NamedTemporaryFile() as history:
-        history.write(text)
-        history.flush()
-        verdict = judge(policy, trace, history.name)
-        return verdict, report_of(policy, trace, history.name, verdict)
+    with passing(text) as history:
+        verdict = judge(policy, trace, history)
+        return verdict, report_of(policy, trace, history, verdict)
 
 
 def facts_of(policy, trace, text, verdict, report):
@@ -89,15 +87,11 @@ def read_facts(policy, trace, *history):
 
 def main(words):
     if len(words) not in (2, 3):
-        print("usage: tools/history_facts.py POLICY TRACE [HISTORY] > FACTS.json", file=sys.stderr)
+        say("usage: tools/history_facts.py POLICY TRACE [HISTORY] > FACTS.json")
         return 2
-    try:
-        write(json.dumps(read_facts(*words)) + "\n", "text")
-    except Refused as refused:
-        print(f"tools/history_facts.py: {refused}", file=sys.stderr)
-        return 2
+    write(json.dumps(read_facts(*words)) + "\n", "text")
     return 0
 
 
 if __name__ == "__main__":
-    sys.exit(main(sys.argv[1:]))
+    run("tools/history_facts.py", main)

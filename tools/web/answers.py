@@ -14,7 +14,7 @@ SCRIPTS = {
 }
 WORDS = {"name": r"(?:B[1-4]|H[12]\.(?:enqueue|tick|yield|block))", "workers": r"[0-9]{1,2}"}
 # What the front of the program says behind some answers, as `./ipanema` does.
-FRONT = 'front="$1" program="$2"; shift 2; source "$front/speak.bash"; answer "$program" "$@"'
+FRONT = 'front="$1" program="$2"; shift 2; source "$front/speak.bash"; begin; answer "$program" "$@"'
 
 
 class Wrong(Ended):
@@ -53,7 +53,7 @@ class Answers:
         """The words before those of the command: a script, or the program with its front."""
         if name in SCRIPTS:
             return [self.python, TOOLS / SCRIPTS[name][0]]
-        return ["bash", "-c", FRONT, "bash", TOOLS / "front", self.program, name]
+        return ["bash", "-pc", FRONT, "bash", TOOLS / "front", self.program, name]
 
     @staticmethod
     def words_of(form, values):

@@ -5,12 +5,12 @@ import os
 import signal
 import subprocess
 import sys
-import tempfile
 import time
 from contextlib import contextmanager
 from pathlib import Path
 
 from browser import CONTROL, Wrong
+from common import folder, keep
 
 TOP = Path(__file__).resolve().parent.parent.parent
 
@@ -36,16 +36,16 @@ def require(wanted, seen, what):
 @contextmanager
 def workbench(*words):
     """A workbench on these words, as long as it is tried. It must end by Ctrl-C, and leave nothing."""
-    with tempfile.TemporaryDirectory() as folder:
+    with folder() as place:
         process = subprocess.Popen([sys.executable, TOP / "tools" / "workbench", *words], stdout=subprocess.PIPE,
-                                   stderr=subprocess.DEVNULL, text=True, env={**os.environ, "TMPDIR": folder})
+                                   stderr=subprocess.DEVNULL, text=True, env={**os.environ, "TMPDIR": place})
         try:
             yield process.stdout.readline().strip()
         finally:
             process.send_signal(signal.SIGINT)
             process.wait(30)
             process.stdout.close()
-        require([], [path.name for path in Path(folder).iterdir()], "what the workbench leaves")
+        require([], [path.name for path in Path(place).iterdir()], "what the workbench leaves")
 
 
 class Page:
@@ -148,10 +148,10 @@ class Page:
 
     def download(self, name):
         """The text of a file that the page offers, as the browser keeps it."""
-        with tempfile.TemporaryDirectory() as folder:
-            self.browser.send("Browser.setDownloadBehavior", behavior="allow", downloadPath=folder)
+        with folder() as place:
+            self.browser.send("Browser.setDownloadBehavior", behavior="allow", downloadPath=place)
             self.click(f"#more .download[download={json.dumps(name)}]")
-            kept = Path(folder) / name
+            kept = Path(place) / name
             for _ in range(200):
                 if kept.exists() and kept.stat().st_size:
                     return kept.read_text()
@@ -159,4 +159,4 @@ class Page:
         raise Wrong(f"{name} isn't kept by the browser")
 
     def picture(self, name):
-        (TOP / "docs" / f"workbench_{name}.png").write_bytes(self.browser.picture())
+        keep({str(TOP / "docs" / f"workbench_{name}.png"): self.browser.picture()})

@@ -172,6 +172,6 @@ def memory_of(process):
 def words_of(name):
     """The words of a file of the system, or none where it isn't there any more."""
     try:
-        return Path(name).read_text().split()
+        return Path(name).read_text(encoding="ascii").split()
     except OSError:
         return []

@@ -12,11 +12,10 @@ from contextlib import contextmanager
 from http.server import BaseHTTPRequestHandler, ThreadingHTTPServer
 from socket import AF_INET, AF_INET6, SHUT_RDWR
 
+from common import LONGEST
 from web.runs import Client, Ended, Gone
 
-# What the formats allow for each text, in bytes, and what a body may have beside them. A byte of a text may take six in
-# JSON.
-LONGEST = {"policy": 65536, "trace": 4194304, "history": 33554432}
+# How many bytes a body may have beside its texts. A byte of a text may take six in JSON.
 BESIDE = 4096
 LONGEST_SPELLING = 6
 MOST_CONNECTIONS = 64
@@ -112,7 +111,7 @@ class Request(BaseHTTPRequestHandler):
             self.require_right()
             act()
         except (Refused, Ended) as refused:
-            self.refuse(*refused.args)
+            self.refuse(refused.args[0], refused.args[1])
         except (Gone, OSError):
             self.close_connection = True
 

@@ -5,6 +5,8 @@ import re
 import subprocess
 from pathlib import Path
 
+from common import Refused
+
 TOP = Path(__file__).resolve().parent.parent.parent
 EXAMPLES = TOP / "examples"
 LEVELS, GALLERY, PLAIN = "levels", "gallery", "examples"
@@ -91,8 +93,10 @@ def pattern_of(text):
 
 def commands(program):
     """The commands that the program's help names, each with the kinds of its words, and what it does."""
-    said = subprocess.run([program, "help"], capture_output=True, text=True, check=True).stderr
-    rows = re.findall(r"(?m)^ +ipanema (\w+)((?: [A-Z]+)+) {2,}(.+)$", said)
+    said = subprocess.run([program, "help"], capture_output=True, text=True, check=False)
+    if said.returncode:
+        raise Refused(f"ipanema help ends with status {said.returncode}")
+    rows = re.findall(r"(?m)^ +ipanema (\w+)((?: [A-Z]+)+) {2,}(.+)$", said.stderr)
     return {name: {"words": words.split(), "does": does} for name, words, does in rows if set(words.split()) <= TAKEN}
 
 

@@ -194,7 +194,7 @@ def try_keyboard(page):
     page.until_text("#answer", "refused", "the verdict by keys")
     browser.press("F8")
     require("tab", page.value("document.activeElement.getAttribute('role')"), "what F8 leads to")
-    for name in ("point", "trace", "happens", "beside", "more"):
+    for _ in ("point", "trace", "happens", "beside", "more"):
         browser.press("ArrowRight")
     browser.press("Enter", CONTROL)
     page.until_text("#happens .said", "Simulated", "what happens by keys")
