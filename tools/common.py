@@ -207,7 +207,7 @@ def passing(data, suffix=""):
 
 @contextlib.contextmanager
 def folder(prefix="tmp."):
-    """The name of a temporary folder, which begins so. What is still written there doesn't keep it from being removed."""
+    """The name of a temporary folder, which begins so. That something is still written there stops no script."""
     with contextlib.ExitStack() as stack:
         with undisturbed():
             made = stack.enter_context(tempfile.TemporaryDirectory(prefix=prefix, ignore_cleanup_errors=True))

@@ -12,6 +12,7 @@ from collections import namedtuple
 from pathlib import Path
 
 from building import build_scheduler
+from common import write
 from guests import Job, boot
 from places import TOP, WORKLOADS, Refused
 
@@ -106,12 +107,12 @@ def files_of(loader):
 
 def print_table(loader, cpus=4):
     files = files_of(loader)
-    print("| Workload | Scheduler | Time to the end | Wasted core time | Migrations |\n|---|---|---|---|---|")
+    write("| Workload | Scheduler | Time to the end | Wasted core time | Migrations |\n|---|---|---|---|---|\n")
     for workload in SHOWN:
         jobs = {name: [job_of(name, workload, number) for number in range(TIMES)] for name in [OWN, *POLICIES]}
         done = boot([job for one in jobs.values() for job in one], files, cpus)
         for scheduler, one in jobs.items():
             found = middle([measure(done[job.name], cpus) for job in one])
-            print(f"| `{workload}` | {scheduler if scheduler == OWN else f'`{scheduler}`'} | {found.seconds:.2f} s | "
-                  f"{found.wasted * 1000:.0f} ms | {found.migrations:.0f} |", flush=True)
+            write(f"| `{workload}` | {scheduler if scheduler == OWN else f'`{scheduler}`'} | {found.seconds:.2f} s | "
+                  f"{found.wasted * 1000:.0f} ms | {found.migrations:.0f} |\n")
     return 0

@@ -6,6 +6,7 @@ import tempfile
 from pathlib import Path
 
 from building import types_in
+from common import write
 from places import LIBRARIES, OUT, ROOT, TOP, VMLINUX, Refused, guest_kernel, needed, run
 
 LIST = Path(__file__).with_name("packages.txt")
@@ -19,7 +20,7 @@ PACKINGS = [(b"\x28\xb5\x2f\xfd", "zstd"), (b"\xfd7zXZ\0", "xz"), (b"\x1f\x8b\x0
 
 def packages():
     """Name, version and checksum of each."""
-    return [line.split() for line in LIST.read_text().splitlines() if line and not line.startswith("#")]
+    return [line.split() for line in LIST.read_text(encoding="ascii").splitlines() if line and not line.startswith("#")]
 
 
 def sum_of(file):
@@ -97,4 +98,4 @@ def fetch():
     if not LIBRARIES.is_dir():
         raise Refused("the packages have no libraries")
     write_types()
-    print(f"kernel: {len(packages())} packages are unpacked in {ROOT.relative_to(TOP)}")
+    write(f"kernel: {len(packages())} packages are unpacked in {ROOT.relative_to(TOP)}\n")

@@ -129,6 +129,7 @@ def boot(jobs, files, cpus=4, seconds=180, console=None):
         (folder / "data").touch()
         words, programs = emulator(folder, cpus, accelerator)
         with open(folder / "console", "wb") as out:
+            # pylint: disable-next=subprocess-popen-preexec-fn # no other thread runs as a guest is begun
             guest = subprocess.Popen(words, stdin=subprocess.DEVNULL, stdout=out, stderr=out, env=programs,
                                      preexec_fn=end_with_parent)
             try:
@@ -138,7 +139,7 @@ def boot(jobs, files, cpus=4, seconds=180, console=None):
                 guest.wait()
         said = (folder / "console").read_text(errors="replace")
         if console:
-            Path(console).write_text(said)
+            Path(console).write_text(said, encoding="utf-8")
         return read_answers((folder / "data").read_bytes())
 
 

@@ -8,7 +8,7 @@ from pathlib import Path
 
 TOP = Path(__file__).resolve().parent.parent.parent
 sys.path.insert(0, str(TOP / "tools"))
-from histories import Refused  # pylint: disable=wrong-import-position
+from common import Refused  # pylint: disable=wrong-import-position # the folder of the module is named first
 
 SOURCES = TOP / "kernel"
 WORKLOADS = SOURCES / "workloads"

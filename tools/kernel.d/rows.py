@@ -9,6 +9,7 @@ import tempfile
 from pathlib import Path
 
 from building import build_scheduler
+from common import write
 from guests import Job, boot
 from places import SOURCES, TOP, WORKLOADS, Refused
 
@@ -63,7 +64,7 @@ def print_rows(loader):
         if name not in done:
             raise Refused(f"the guest ended before {name}")
         *statuses, state = done[name].output.split()
-        print(f"{name}: {' '.join(statuses)}{'' if state == 'disabled' else ', and the scheduler is still there'}")
+        write(f"{name}: {' '.join(statuses)}{'' if state == 'disabled' else ', and the scheduler is still there'}\n")
         for line in done[name].error.splitlines():
-            print(f"  {line}")
+            write(f"  {line}\n")
     return 0

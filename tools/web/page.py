@@ -37,8 +37,10 @@ def require(wanted, seen, what):
 def workbench(*words):
     """A workbench on these words, as long as it is tried. It must end by Ctrl-C, and leave nothing."""
     with folder() as place:
-        process = subprocess.Popen([sys.executable, TOP / "tools" / "workbench", *words], stdout=subprocess.PIPE,
-                                   stderr=subprocess.DEVNULL, text=True, env={**os.environ, "TMPDIR": place})
+        # It hears an interrupt also where this script was begun to ignore it.
+        process = subprocess.Popen(["env", "--default-signal=INT", sys.executable, TOP / "tools" / "workbench", *words],
+                                   stdout=subprocess.PIPE, stderr=subprocess.DEVNULL, text=True,
+                                   env={**os.environ, "TMPDIR": place})
         try:
             yield process.stdout.readline().strip()
         finally:
