@@ -12,7 +12,7 @@ import time
 BROWSERS = ["chromium", "chromium-browser", "google-chrome", "google-chrome-stable"]
 FLAGS = ["--headless", "--no-sandbox", "--disable-gpu", "--hide-scrollbars", "--no-first-run",
          "--remote-debugging-pipe"]
-KEY_CODES = {"Tab": 9, "Enter": 13, "End": 35, "Home": 36, "ArrowLeft": 37, "ArrowRight": 39, "F8": 119}
+KEY_CODES = {"Tab": 9, "Enter": 13, "End": 35, "Home": 36, "ArrowLeft": 37, "ArrowRight": 39, "Delete": 46, "F8": 119}
 TEXTS = {"Enter": "\r"}
 CONTROL, SHIFT = 2, 8
 PATIENCE = 60
@@ -98,10 +98,20 @@ class Browser:
         self.send("Input.dispatchKeyEvent", type="keyDown" if typed else "rawKeyDown", **values, **typed)
         self.send("Input.dispatchKeyEvent", type="keyUp", **values)
 
-    def click(self, x, y):
-        """Clicks with the mouse at that point of the window."""
-        for kind in ("mousePressed", "mouseReleased"):
-            self.send("Input.dispatchMouseEvent", type=kind, x=x, y=y, button="left", clickCount=1)
+    def click(self, x, y, times=1):
+        """Clicks so often with the mouse at that point of the window."""
+        for count in range(1, times + 1):
+            self.mouse("mousePressed", x, y, count)
+            self.mouse("mouseReleased", x, y, count)
+
+    def drag(self, start, end):
+        """Goes with the mouse from a point of the window to another, with its button held down."""
+        self.mouse("mousePressed", *start)
+        self.mouse("mouseMoved", *end)
+        self.mouse("mouseReleased", *end)
+
+    def mouse(self, kind, x, y, count=1):
+        self.send("Input.dispatchMouseEvent", type=kind, x=x, y=y, button="left", clickCount=count)
 
     def type(self, text):
         """Types the text where the cursor is."""

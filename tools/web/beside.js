@@ -5,15 +5,11 @@ import { add, part } from "./elements.js";
 import { Asker, Trouble, ask, linesOf } from "./ask.js";
 import { drawCores } from "./cores.js";
 import { History } from "./history.js";
-import { played, wayFor } from "./played.js";
+import { TOTALS, played, wayFor } from "./played.js";
 import { drawRounds, markRound } from "./rounds.js";
 import { layoutOf } from "./steps.js";
 
-const TOTALS = {
-  bad: "bad rounds", wasted: "idle cores in them", steals: "steals", fails: "failed steals", rounds: "rounds",
-  entries: "entries",
-};
-const WASTE = ["bad", "wasted"];
+const SIDES = ["before", "after"];
 
 export function nameOf(policy) {
   const found = /^\s*(?:#.*\n\s*)*(?:policy|levels)\s+(\w+)/.exec(policy);
@@ -75,7 +71,8 @@ export class Beside {
       return;
     }
     const { policy, trace } = this.values();
-    this.said.textContent = "…";
+    this.said.textContent = "playing ..";
+    this.panel.classList.add("old");
     try {
       const both = [];
       for (const one of [this.before, policy]) both.push(await this.side(one, trace, signal));
@@ -90,10 +87,11 @@ export class Beside {
     const judged = await ask("check", { policy }, signal);
     const word = judged && linesOf(judged.output).at(-1);
     const came = judged && await played(wayFor("play", word), { policy, trace }, signal);
-    return came && { ...came, word, name: nameOf(policy) };
+    return came && { ...came, word, policy, name: nameOf(policy) };
   }
 
   say(words) {
+    this.panel.classList.remove("old");
     this.said.textContent = words;
     this.body.replaceChildren();
     this.table.replaceChildren();
@@ -104,14 +102,16 @@ export class Beside {
     this.say("");
     const most = Math.max(0, ...both.flatMap(({ rounds }) => rounds.map(({ idle }) => idle)));
     this.slider.max = Math.max(1, ...both.map(({ rounds }) => rounds.length));
-    this.sides = both.map((side, at) => this.drawSide(side, ["before", "after"][at], most));
-    this.drawTable(both);
+    const mark = markOf(...both);
+    this.sides = both.map((side, at) => this.drawSide(side, SIDES[at], at === 1 ? mark : "", most));
+    this.drawTable(both, mark);
     this.turn(this.round);
   }
 
-  drawSide(side, title, most) {
+  drawSide(side, title, mark, most) {
     const box = add(this.body, "section", title);
     const head = add(box, "h3", "", `${title}: ${side.name} `);
+    if (mark) add(head, "small", "", `${mark} `);
     add(head, "span", `word ${side.word}`, side.word);
     const rounds = add(box, "div", "by-round");
     drawRounds(rounds, side.rounds, most, (round) => this.turn(round));
@@ -134,18 +134,24 @@ export class Beside {
     }
   }
 
-  drawTable(both) {
+  drawTable(both, mark) {
     const head = add(this.table, "tr");
     add(head, "th", "", "");
-    both.forEach(({ name }, at) => add(head, "th", "", `${["before", "after"][at]}: ${name}`));
+    const names = both.map(({ name }, at) => add(head, "th", "", `${SIDES[at]}: ${name} `));
+    if (mark) add(names[1], "small", "", mark);
     const row = add(this.table, "tr");
     add(row, "th", "", "verdict");
     both.forEach(({ word }) => add(row, "td", `word ${word}`, word));
-    for (const [name, words] of Object.entries(TOTALS)) {
+    for (const [name, { words, means, isWaste }] of Object.entries(TOTALS)) {
       const line = add(this.table, "tr");
-      add(line, "th", "", words);
-      const isWaste = WASTE.includes(name);
+      add(line, "th", "", words).title = means;
       both.forEach(({ totals }) => add(line, "td", isWaste && totals[name] ? "bad" : "", totals[name]));
     }
   }
+}
+
+// What tells two policies of one name apart, or nothing where their names do.
+function markOf(before, after) {
+  if (before.name !== after.name) return "";
+  return before.policy === after.policy ? "unchanged" : "changed";
 }

@@ -2,7 +2,7 @@
 
 import { add, part } from "./elements.js";
 import { Asker, Trouble } from "./ask.js";
-import { WAYS, historyOf, played, wayFor } from "./played.js";
+import { TOTALS, WAYS, historyOf, played, wayFor } from "./played.js";
 import { drawRounds, markRound } from "./rounds.js";
 import { Steps, drawLegend, layoutOf } from "./steps.js";
 
@@ -27,6 +27,7 @@ export class Happens {
     this.body = add(this.panel, "div", "steps");
     this.lines = add(this.panel, "details", "lines");
     add(this.lines, "summary", "", "The program's lines");
+    showsAll(this.lines);
     this.report = add(this.lines, "pre");
     this.panel.addEventListener("keydown", (event) => {
       if (this.steps && !/^(INPUT|SELECT|TEXTAREA)$/.test(event.target.tagName)) this.steps.press(event);
@@ -75,7 +76,8 @@ export class Happens {
   async play() {
     this.judge(this.word);
     await this.act(async (signal) => {
-      this.said.textContent = "…";
+      this.said.textContent = "playing ..";
+      this.panel.classList.add("old");
       const values = this.wayValues();
       const came = await played(this.way.value, values, signal);
       if (came) this.show({ ...values, ...came });
@@ -104,6 +106,7 @@ export class Happens {
   }
 
   showTrouble(words) {
+    this.panel.classList.remove("old");
     this.last = null;
     this.steps = null;
     this.said.textContent = words;
@@ -113,6 +116,7 @@ export class Happens {
   }
 
   show(came) {
+    this.panel.classList.remove("old");
     this.last = came;
     const words = typeof came.facts === "object" ? capital(came.facts.verdict) : came.facts;
     this.said.textContent = came.history.isStopped ? words + STOPPED : words;
@@ -122,6 +126,7 @@ export class Happens {
     const most = Math.max(0, ...came.rounds.map((round) => round.idle));
     drawRounds(this.rounds, came.rounds, most, (round) => {
       if (this.steps) this.steps.show(this.steps.history.rounds.indexOf(round));
+      this.panel.focus();
     });
     this.body.replaceChildren();
     this.steps = null;
@@ -145,6 +150,7 @@ export class Happens {
     const more = document.createElement("details");
     add(more, "summary", "", "What the marks mean, and all entries");
     more.append(parts.legend, parts.entries);
+    showsAll(more);
     this.body.append(parts.cores, time, more);
     drawLegend(parts.legend);
     const at = Number(this.panel.dataset.at || 0);
@@ -161,10 +167,17 @@ export class Happens {
 function drawTotals(parent, totals) {
   parent.replaceChildren();
   for (const [name, count] of Object.entries(totals)) {
-    const item = add(parent, "span", (name === "bad" || name === "wasted") && count ? "total bad" : "total");
+    const { means, isWaste } = TOTALS[name];
+    const item = add(parent, "span", isWaste && count ? "total bad" : "total");
+    item.title = means;
     add(item, "b", "", count);
     add(item, "span", "", ` ${name}`);
   }
+}
+
+// What opens is scrolled into view.
+function showsAll(details) {
+  details.addEventListener("toggle", () => details.open && details.scrollIntoView({ block: "nearest" }));
 }
 
 function capital(words) {

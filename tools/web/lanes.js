@@ -17,8 +17,7 @@ function rowHeight(cores, room) {
 
 export class Lanes {
   constructor(parent, names, entries, cores, room) {
-    this.entries = entries;
-    this.cores = cores;
+    Object.assign(this, { entries, cores, openings: [] });
     this.row = rowHeight(cores, room);
     const least = cores <= 8 ? 46 : 34;
     this.column = Math.max(least, Math.min(72, (parent.clientWidth - LABEL_ROOM) / Math.max(entries.length, 1)));
@@ -30,6 +29,7 @@ export class Lanes {
       .map((name) => shape(this.svg, "g", { class: name }));
     this.drawGrid(this.canvas(names, 92));
     entries.forEach((entry, position) => this.drawMark(entry, position));
+    parent.addEventListener("scroll", () => this.hideCut(parent));
   }
 
   canvas(parent, width) {
@@ -165,6 +165,16 @@ export class Lanes {
     const first = Math.min(...(this.entries[at].reads || []).map((read) => this.x(read.position)), this.middle(at));
     const wanted = Math.min(this.middle(at) - room * 0.6, first - SIDE);
     parent.scrollLeft = Math.max(0, wanted, this.middle(at) + LABEL_ROOM * 0.75 - room);
+    this.hideCut(parent);
+  }
+
+  // The name of a round is shown where all of it is in sight.
+  hideCut(parent) {
+    const [left, right] = [parent.scrollLeft, parent.scrollLeft + parent.clientWidth];
+    for (const { words, x } of this.openings) {
+      const half = words.getComputedTextLength() / 2;
+      words.setAttribute("visibility", x - half < left || x + half > right ? "hidden" : "visible");
+    }
   }
 }
 
@@ -182,7 +192,7 @@ function numberOf(threads) {
 
 function drawRound(lanes, group, x, entry) {
   shape(group, "line", { x1: x, x2: x, y1: HEAD - 20, y2: lanes.bottom });
-  shape(group, "text", { x, y: 16 }, `round ${entry.round}`);
+  lanes.openings.push({ x, words: shape(group, "text", { x, y: 16 }, `round ${entry.round}`) });
 }
 
 function drawComing(lanes, group, x, entry) {

@@ -26,6 +26,24 @@ OBLIGATIONS = """[...document.querySelectorAll("#obligations button")].map((one)
 IS_JUDGED = """!document.getElementById("policy").classList.contains("old")
     && document.getElementById("answer").textContent"""
 WRONG_LINE = """1 + [...document.querySelectorAll("#policy .line")].findIndex((one) => one.matches(".wrong"))"""
+# Where a letter of an editor is drawn: the point at its left edge, in the middle of its height. Behind the last letter
+# of a line it is the line's end.
+LETTER = """((part, at) => {
+  const before = document.querySelector(`#${part} .typed`).value.slice(0, at).split("\\n");
+  const row = document.querySelectorAll(`#${part} .line`)[before.length - 1];
+  row.scrollIntoView({ block: "nearest" });
+  const range = document.createRange();
+  let rest = before.at(-1).length;
+  const texts = document.createTreeWalker(row, NodeFilter.SHOW_TEXT);
+  for (let text = texts.nextNode(); text; text = texts.nextNode()) {
+    range.setStart(text, Math.min(rest, text.length));
+    range.setEnd(text, Math.min(rest + 1, text.length));
+    if (rest < text.length) break;
+    rest -= text.length;
+  }
+  const box = range.getBoundingClientRect();
+  return [box.left + 1, box.top + box.height / 2];
+})"""
 
 
 def require(wanted, seen, what):
@@ -118,6 +136,15 @@ class Page:
         self.browser.click(*self.value(f"""(() => {{
             const box = document.querySelector({json.dumps(selector)}).getBoundingClientRect();
             return [box.x + box.width / 2, box.y + box.height / 2]; }})()"""))
+
+    def letter(self, part, at):
+        """The point of the window where the letter with that number is drawn, in the text of an editor."""
+        return self.value(f"{LETTER}({json.dumps(part)}, {at})")
+
+    def selected(self, part):
+        """From where to where the text of an editor is selected, if the editor has the focus. A caret has both alike."""
+        return self.value(f"""(() => {{ const area = document.querySelector("#{part} .typed");
+            return document.activeElement === area && [area.selectionStart, area.selectionEnd]; }})()""")
 
     def view(self, name):
         self.click(f"#tab-{name}")

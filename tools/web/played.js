@@ -10,6 +10,15 @@ export const WAYS = {
   crew: { words: "crew: by so many workers", wantsAccepted: true },
   simulate: { words: "simulate: also if refused", wantsAccepted: false },
 };
+// The totals of a report: how they are called here, and what they mean.
+export const TOTALS = {
+  bad: { words: "bad rounds", means: "rounds that begin with a core idle beside an overloaded one", isWaste: true },
+  wasted: { words: "wasted", means: "the idle cores of all bad rounds, added up", isWaste: true },
+  steals: { words: "steals", means: "steals that moved a thread" },
+  fails: { words: "fails", means: "steals that failed" },
+  rounds: { words: "rounds", means: "rounds that were played" },
+  entries: { words: "entries", means: "lines of the history" },
+};
 const MOST_STEPS = 600;
 const WHOLE = 0;
 const STOPPED = 8;

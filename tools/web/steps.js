@@ -2,7 +2,7 @@
 // time.
 
 import { add, shape } from "./elements.js";
-import { History } from "./history.js";
+import { History, countOf } from "./history.js";
 import { drawCores } from "./cores.js";
 import { Lanes, MARKS } from "./lanes.js";
 
@@ -16,10 +16,12 @@ function entryWords(entry) {
   return entry.kind === "illegal" ? `Not legal here, says the judge: "${entry.words}"` : entry.words;
 }
 
-// What the report says of a round as it begins.
-function openingWords(round) {
+// What the report says of a round as it begins with these cores. It counts idle cores only beside an overloaded one.
+function openingWords(round, cores) {
   if (!round) return "";
-  return `, begun with spread ${round.spread} and idle ${round.idle}${round.idle ? ": a bad round" : ""}`;
+  const begun = `, begun with spread ${round.spread} and idle ${round.idle}`;
+  if (round.idle) return `${begun}: a bad round`;
+  return cores.some((core) => countOf(core) === 0) ? `${begun}: no core was overloaded` : begun;
 }
 
 // How the boxes of so many cores are laid out.
@@ -96,7 +98,8 @@ export class Steps {
 
   placeWords() {
     const round = this.history.rounds[this.at];
-    const where = round ? ` · round ${round}${openingWords(this.history.roundAt(this.at))}` : "";
+    const cores = this.history.stateAt(this.history.rounds.indexOf(round));
+    const where = round ? ` · round ${round}${openingWords(this.history.roundAt(this.at), cores)}` : "";
     return `Entry ${this.at} of 0 to ${this.entries.length - 1}${where}`;
   }
 

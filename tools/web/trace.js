@@ -2,6 +2,7 @@
 
 import { add, part } from "./elements.js";
 import { Asker, Trouble, ask, saidWords } from "./ask.js";
+import { nameOf } from "./beside.js";
 import { Editor } from "./editor.js";
 import { TraceForm } from "./trace_form.js";
 
@@ -10,18 +11,21 @@ const SHOWN = /^B\d$/;
 export class Trace {
   // `policy` gives the policy's text, and `changed` is told of each change of the trace.
   constructor(rules, policy, changed) {
-    Object.assign(this, { policy, asker: new Asker() });
+    Object.assign(this, { policy, asker: new Asker(), madeFor: null });
     this.panel = part("trace");
     const line = add(this.panel, "p", "controls");
-    this.button = add(line, "button", "main", "Make the smallest that shows it");
+    this.button = add(line, "button", "main", "Make the smallest trace that shows it");
     this.button.id = "witness";
     this.button.addEventListener("click", () => this.seek(this.fails[0]));
     this.said = add(this.panel, "p", "said");
     this.said.setAttribute("role", "status");
+    this.made = add(this.panel, "p", "made");
+    this.made.setAttribute("role", "status");
     const pair = add(this.panel, "div", "trace-pair");
     this.editor = new Editor(add(pair, "div", "trace-editor"), "Trace", rules, () => {
       this.form.read(this.editor.text);
       this.say("");
+      this.made.textContent = "";
       changed();
     });
     this.form = new TraceForm(pair, (text) => this.editor.set(text));
@@ -37,8 +41,10 @@ export class Trace {
     this.form.read(text);
   }
 
-  // The obligations on balance that fail: of these there may be a trace.
+  // The obligations on balance that fail: of these there may be a trace. What is said of one made before is of the
+  // policy that it was made for.
   judge(fails) {
+    if (this.madeFor !== null && this.madeFor !== this.policy()) this.say("");
     this.fails = fails.filter((name) => SHOWN.test(name));
     this.button.disabled = this.fails.length === 0;
     const [first] = this.fails;
@@ -54,23 +60,37 @@ export class Trace {
   }
 
   say(words, kind) {
+    this.madeFor = null;
     this.said.className = `said ${kind || ""}`;
     this.said.textContent = words;
   }
 
   // Looks for the smallest trace, and returns whether there is one.
   async seek(name) {
+    const policy = this.policy();
     this.say(`Looking for a trace that shows ${name} …`);
+    this.made.textContent = "";
     try {
-      const answer = await ask("witness", { policy: this.policy(), name }, this.asker.begin());
+      const answer = await ask("witness", { policy, name }, this.asker.begin());
       if (!answer) return false;
-      if (answer.status === 0 && answer.output) this.set(answer.output);
-      this.say(`${name}: ${saidWords(answer.said)}.`.replace(/^(B\d): the policy: /, "$1: "));
-      return answer.status === 0;
+      const isMade = answer.status === 0 && answer.output !== "";
+      if (isMade) this.put(answer.output, `${name} of ${nameOf(policy)}`);
+      const found = saidWords(answer.said).replace(/^the policy: /, "");
+      this.say(`${name} of ${nameOf(policy)}: ${found}.`);
+      this.madeFor = policy;
+      return isMade;
     } catch (error) {
       if (!(error instanceof Trouble)) throw error;
       this.say(error.message, "wrong");
       return false;
     }
+  }
+
+  // Puts a trace in that was made, and says so, also where it is the one that stands there.
+  put(text, shown) {
+    const isSame = text === this.text;
+    this.set(text);
+    const what = isSame ? "It is the one that stood here." : "It stands in the place of another.";
+    this.made.textContent = `Made at ${new Date().toLocaleTimeString("en-GB")} for ${shown}. ${what}`;
   }
 }

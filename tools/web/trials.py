@@ -4,12 +4,29 @@
 import json
 
 from browser import CONTROL, SHIFT, Wrong
+from web.mouse_trials import MOUSE_TRIALS
 from web.page import require
 from web.policy_trials import EXAMPLES, POLICY_TRIALS, asked, file_of
 
+SHOWS = "B1 of timid: core 0 stays idle beside core 1 with 2 threads, rounds 2 to 9."
 # What is played: a policy, a trace, and how.
 PLAYS = [("timid", "witnesses/timid", "simulate"), ("basic", "eight_threads", "play"), ("basic", "stale_read", "crew"),
          ("fair", "fair/block_and_wake", "play"), ("basic", "two_thieves", "run")]
+# Holds back all answers until the trial lets them go.
+HOLD_BACK = """(() => { const real = window.fetch; const wait = new Promise((go) => { window.go_on = go; });
+    window.fetch = async (...words) => {
+      const response = await real(...words);
+      if (words[0] !== "check" && words[0] !== "explain") await wait;
+      return response;
+    }; })()"""
+IS_FRESH = "!document.getElementById('{}').classList.contains('old')"
+# The names of rounds that are shown, and those of them that the edge cuts.
+SHOWN = """[...document.querySelectorAll("#happens #lanes .mark.round text")].filter((one) => {
+    const [box, room] = [one, document.querySelector("#happens #lanes")].map((part) => part.getBoundingClientRect());
+    return one.getAttribute("visibility") !== "hidden" && box.right > room.left && box.left < room.right && (%s);
+})"""
+CUT = SHOWN % "box.right > room.right + 1 || box.left < room.left - 1" + ".map((one) => one.textContent)"
+WHOLE = SHOWN % "true" + ".length"
 SCRIPT = "<script>document.title = 'run'</script>"
 
 
@@ -22,9 +39,17 @@ def try_witness(page):
     page.view("trace")
     page.click("#witness")
     page.until_typed("trace", (EXAMPLES / "witnesses" / "timid.trace").read_text(), "the smallest trace")
-    shows = "B1: core 0 stays idle beside core 1 with 2 threads, rounds 2 to 9."
-    page.until_text("#trace .said", shows, "what it shows")
+    page.until_text("#trace .said", SHOWS, "what it shows")
+    made = page.text("#trace .made")
+    require(True, made.endswith(" for B1 of timid. It stands in the place of another."), f"whether {made!r} says it")
     page.check_layout("of a trace")
+    page.value("document.querySelector('#trace .made').textContent = ''")
+    page.click("#witness")
+    page.until("document.querySelector('#trace .made').textContent.endsWith('It is the one that stood here.')",
+               "that it was made again")
+    page.type_policy(file_of("timid").read_text().replace(">= 3", ">= 2"))
+    require("accepted", page.judged(), "the verdict on another text")
+    require("", page.text("#trace .said"), "what stands there of the policy before")
 
 
 def try_form(page):
@@ -76,6 +101,42 @@ def try_play(page):
         page.check_layout(f"of steps on {cores} cores")
 
 
+def try_waits(page):
+    """While something is played, the answer before is grey, and the view says so."""
+    for view, said in (("happens", "Whole"), ("beside", "")):
+        page.choose_policy("timid", "witnesses/timid")
+        page.click("#keep")
+        page.view(view)
+        page.until_count(f"#{view} .core", 2 if view == "happens" else 4, "what stands there before")
+        page.until(IS_FRESH.format(view), "an answer that isn't grey")
+        page.value(HOLD_BACK)
+        try:
+            page.choose_policy("basic")
+            page.until_text(f"#{view} .said", "playing ..", "what stands there meanwhile")
+            require(False, page.value(IS_FRESH.format(view)), "whether the answer before isn't grey")
+        finally:
+            page.value("window.go_on()")
+        page.until(IS_FRESH.format(view), "an answer that isn't grey")
+        require(said, page.text(f"#{view} .said")[:5], "what stands there then")
+
+
+def try_rounds(page):
+    """The name of a round is shown where all of it is in sight. Idle cores are explained where none is overloaded."""
+    page.choose_policy("timid", "witnesses/timid")
+    page.view("happens")
+    page.until_text("#happens .said", "Simulated", "the steps")
+    page.focus("#happens")
+    page.browser.press("Home")
+    require("Entry 0 of 0 to 46 · round 1, begun with spread 0 and idle 0: no core was overloaded",
+            page.text("#happens #place"), "how round 1 begins")
+    for _ in range(13):
+        require([], page.value(CUT), "which names of rounds are cut")
+        require(True, page.value(WHOLE) > 0, "whether the name of a round is there")
+        page.browser.press("ArrowRight")
+    page.value("document.querySelector('#happens #lanes').scrollLeft += 30")
+    page.until(f"{CUT}.length === 0", "names of rounds that aren't cut, behind a scroll,")
+
+
 def crowded(cores):
     """A trace with many threads on the first cores, so that there is much to be drawn."""
     lines = [f"thread {thread} core {thread % 3} round 1 forever" for thread in range(1, 17)]
@@ -117,6 +178,20 @@ def try_beside(page):
         page.fill("#trace .typed", crowded(cores), "input")
         page.until_count("#beside .after .core", cores, f"{cores} cores")
         page.check_layout(f"of two policies on {cores} cores")
+
+
+def try_names(page):
+    """Two policies of one name are told apart: the second one is marked where its text is another."""
+    page.choose_policy("timid", "witnesses/timid")
+    page.click("#keep")
+    page.until_text("#beside .after h3", "after: timid unchanged refused", "the same policy")
+    page.type_policy(file_of("timid").read_text().replace(">= 3", ">= 2"))
+    page.until_text("#beside .after h3", "after: timid changed accepted", "the changed policy")
+    require("before: timid refused", page.text("#beside .before h3"), "the policy before")
+    require(["", "before: timid ", "after: timid changed"],
+            page.value("[...document.querySelectorAll('#beside tr:first-child th')].map((one) => one.textContent)"),
+            "the heads of the table")
+    page.check_layout("of two policies of one name")
 
 
 def try_more(page):
@@ -171,18 +246,6 @@ def try_scripts(page):
     require(0, page.count("main script, main img, .layer b"), "how many elements are made of texts")
 
 
-def try_mouse(page):
-    """By the mouse: behind a click on a view the arrow keys step in it, and a click on a bar goes to its round."""
-    page.choose_policy("timid", "witnesses/timid")
-    page.point_at("#tab-happens")
-    page.until_text("#happens .said", "Simulated", "the steps")
-    page.browser.press("Home")
-    page.browser.press("ArrowRight")
-    require("1", page.value("document.getElementById('happens').dataset.at"), "the entry behind a step")
-    page.point_at("#happens .bar[data-round='3'] .back")
-    require("Round 3 begins.", page.text("#sentence"), "the entry that a bar leads to")
-
-
 def try_keyboard(page):
     """By the keyboard alone: a policy is typed, and the verdict, the steps and the comparison are reached."""
     browser = page.browser
@@ -224,5 +287,5 @@ def try_ended(page):
 
 
 TRIALS = {trial.__name__.removeprefix("try_"): trial for trial in (
-    *POLICY_TRIALS, try_witness, try_form, try_play, try_beside, try_more, try_link, try_scripts, try_mouse,
-    try_keyboard)}
+    *POLICY_TRIALS, *MOUSE_TRIALS, try_witness, try_form, try_play, try_waits, try_rounds, try_beside, try_names,
+    try_more, try_link, try_scripts, try_keyboard)}
