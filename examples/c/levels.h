@@ -4,7 +4,7 @@
  *
  * The policy was accepted: it meets what policies owe. The laws of such
  * policies are proved of a model, and of no balancer. In the model it is so:
- * - There are at most 64 cores, and at most 1023 threads in all.
+ * - There are at most 1023 threads in all, on any number of cores.
  * - The load of a core is the sum of the weights of its threads, the
  *   running one counted. A core that has threads runs one of them.
  * - Weights and attributes lie in their ranges. Neither weights nor the

@@ -1,5 +1,5 @@
 -- A seed and a size have one bench.
-use Rattle.std.proofs.Common.{◌≡◌, ◌∙◌, ℕ, List, ap, ap₂, sym, subst}
+use Rattle.std.proofs.Common.{◌≡◌, ◌∙◌, ℕ, List, ap, ap₂, sym, subst, arith}
 use Rattle.round_model.specs.declared.entry.Entry.{Entry}
 use Rattle.round_model.specs.declared.plan.Plan.{Plan}
 use Rattle.round_model.specs.SerialRounds.{serial_history}
@@ -20,7 +20,7 @@ pub is_bench : (seed size : ℕ) (plan : Plan) (history : List Entry) (told : Be
     → told.totals ≡ totals_of history (round_rows fair_meaning plan history) → IsBench seed size told
 is_bench seed size plan history told planned ends threads totals =
     let played = subst (EndsWhole fair_meaning plan) ends.serial ends in
-    record { plan = plan; planned = planned; whole = played.whole; few = played.few; threads = threads; totals = totals ∙ ap (totals_in plan) ends.serial }
+    record { plan = plan; planned = planned; whole = played.whole; few = let within = played.few in let most = planned.limits.few_entries in omega arith; threads = threads; totals = totals ∙ ap (totals_in plan) ends.serial }
 
 one_plan : (seed size : ℕ) (one other : Plan) → IsMadePlan seed size one → IsMadePlan seed size other → one ≡ other
 one_plan seed size one other is also =

@@ -12,6 +12,7 @@ use Rattle.policy_tree.specs.declared.typed.Load.TheVariants as load
 use Rattle.policy_tree.specs.Meaning.{Meaning}
 use Rattle.round_model.specs.declared.plan.Plan.{Plan}
 use Rattle.round_model.specs.Fits.{Fits}
+use Rattle.round_model.specs.Limits.{IsWithinLimits}
 use Rattle.round_model.specs.Room.{HasRoomForRounds}
 use Rattle.round_model.specs.SerialEnds.{most_entries}
 use Rattle.job_trace.specs.declared.plan_fault.PlanFault.{PlanFault}
@@ -71,12 +72,13 @@ is_made seed size sized =
     let few : ltb MAX_THREADS size ≡ false = grind (arith, nat_tests, sized.few) in
     rw (some, few) refl
 
-pub is_made_plan : (seed size : ℕ) (plan : Plan) → IsSize size → SpellsPlan fair_meaning (made_trace seed size) plan → Fits fair_meaning plan → IsMadePlan seed size plan
-is_made_plan seed size plan sized spells fits = record {
+pub is_made_plan : (seed size : ℕ) (plan : Plan) → IsSize size → SpellsPlan fair_meaning (made_trace seed size) plan → Fits fair_meaning plan → IsWithinLimits plan → IsMadePlan seed size plan
+is_made_plan seed size plan sized spells fits limits = record {
   trace = made_trace seed size;
   made = is_made seed size sized;
   means = spells;
   fits = fits;
+  limits = limits;
   threads = ap (λ (q : Plan). length q.threads) spells.is ∙ threads_there seed size;
 }
 

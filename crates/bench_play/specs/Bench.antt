@@ -4,6 +4,7 @@ use Rattle.sched_base.specs.declared.limits.TheConstants.{MAX_ENTRIES, MAX_THREA
 use Rattle.round_model.specs.declared.plan.Plan.{Plan}
 use Rattle.round_model.specs.Fits.{Fits}
 use Rattle.round_model.specs.Legal.{Whole}
+use Rattle.round_model.specs.Limits.{IsWithinLimits}
 use Rattle.round_model.specs.SerialRounds.{serial_history}
 use Rattle.job_trace.specs.declared.trace.Numbered.{Numbered}
 use Rattle.job_trace.specs.Plans.{SpellsPlan}
@@ -24,6 +25,7 @@ pub record IsMadePlan (seed size : ℕ) (plan : Plan) : Type 0 where
   pub made : made seed size ≡ Ok trace
   pub means : SpellsPlan fair_meaning trace plan
   pub fits : Fits fair_meaning plan
+  pub limits : IsWithinLimits plan
   pub threads : length plan.threads ≡ size
 
 -- the totals are those of the plan's serial history, which is whole

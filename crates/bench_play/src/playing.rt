@@ -3,6 +3,7 @@
 ghost use Rattle.std.specs.Prelude.{◌≡◌, IfOk};
 ghost use Rattle.policy_tree.specs.Meaning.{meaning_of};
 ghost use Rattle.round_model.specs.Fits.{Fits};
+ghost use Rattle.round_model.specs.Limits.{IsWithinLimits};
 ghost use Rattle.round_model.specs.Room.{HasRoomForRounds};
 ghost use Rattle.round_model.specs.SerialEnds.{EndsWhole};
 ghost use Rattle.fair_policy.specs.Fair.{fair_meaning};
@@ -53,6 +54,7 @@ fn whole_history(
 ) -> Result<History, BenchMemory>
     requires policy { meaning_of policy.now ≡ fair_meaning }
     requires fits { Fits (meaning_of policy.now) plan.now }
+    requires limits { IsWithinLimits plan.now }
     requires room { HasRoomForRounds plan.now }
     ensures { IfOk result (EndsWhole (meaning_of policy.now) plan.now) }
 {

@@ -1,6 +1,6 @@
 -- What stands before and behind everything else, and what is proved of the policy.
 use Rattle.std.specs.Prelude.{ℕ, List, [], ◌∷◌, codes, decimal}
-use Rattle.sched_base.specs.declared.limits.TheConstants.{MAX_CORES, MAX_THREADS}
+use Rattle.sched_base.specs.declared.limits.TheConstants.{MAX_THREADS}
 use Rattle.policy_tree.specs.Meaning.{Meaning}
 
 -- what an attempt is in the model
@@ -21,8 +21,8 @@ abbrev pub owed_texts : List (List ℕ)
 owed_texts =
     codes " * The policy was accepted: it meets what policies owe. The laws of such\n"
     ∷ codes " * policies are proved of a model, and of no balancer. In the model it is so:\n"
-    ∷ codes " * - There are at most " ∷ decimal MAX_CORES ∷ codes " cores, and at most "
-    ∷ decimal MAX_THREADS ∷ codes " threads in all.\n"
+    ∷ codes " * - There are at most " ∷ decimal MAX_THREADS
+    ∷ codes " threads in all, on any number of cores.\n"
     ∷ codes " * - The load of a core is the sum of the weights of its threads, the\n"
     ∷ codes " *   running one counted. A core that has threads runs one of them.\n"
     ∷ codes " * - Weights and attributes lie in their ranges. Neither weights nor the\n"

@@ -7,7 +7,7 @@ ghost use Rattle.c_printer.specs.HeadTexts.{attempt_texts, comment_texts, foot_t
 
 use crate::printer::Printer;
 use policy_tree::Policy;
-use sched_base::{MAX_CORES, MAX_THREADS};
+use sched_base::MAX_THREADS;
 use std::alloc::AllocError;
 
 impl Printer {
@@ -31,10 +31,8 @@ impl Printer {
             " * policies are proved of a model, and of no balancer. In the model it is so:\n",
         )?;
         self.word(" * - There are at most ")?;
-        self.number(MAX_CORES as u64)?;
-        self.word(" cores, and at most ")?;
         self.number(MAX_THREADS as u64)?;
-        self.word(" threads in all.\n")?;
+        self.word(" threads in all, on any number of cores.\n")?;
         self.word(" * - The load of a core is the sum of the weights of its threads, the\n")?;
         self.word(" *   running one counted. A core that has threads runs one of them.\n")?;
         self.word(" * - Weights and attributes lie in their ranges. Neither weights nor the\n")?;

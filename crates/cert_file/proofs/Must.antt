@@ -7,7 +7,7 @@ use Rattle.obligations.specs.declared.names.ObName.{ObName}
 use Rattle.obligations.specs.Counts.{first_crowded}
 use Rattle.obligations.specs.Names.{ob_names}
 use Rattle.policy_checker.specs.Certified.{Certifies}
-use Rattle.cert_file.specs.Answers.{IsCauseOf, IsUncrowded, IsUnlessMemory, IsVerified, MustAnswer}
+use Rattle.cert_file.specs.Answers.{IsCauseOf, IsUncrowded, IsUnlessMemory, IsVerified, IsWritten, MustAnswer}
 use Rattle.cert_file.specs.BadLines.{IsFirstBadLine}
 use Rattle.cert_file.specs.Laws.{IsOkOrMemory}
 use Rattle.cert_file.specs.Wrong.{IsFirstWrongOf, IsWrongAt, Proves, count_systems}
@@ -83,9 +83,9 @@ module _ (p : Meaning) (text : List ℕ) where
     wrong = wrong_at result (ok, err);
   }
 
-  -- a file that proves the policy is verified
-  pub written_verified : (result : Result Verified VerifyFault) → IsUncrowded p → Proves p text → MustAnswer p text result → IsOkOrMemory result
-  written_verified result none proves must = by result (must.accepts verified (record { uncrowded = none; proves = proves; systems = refl }))
+  -- a file that was written for the policy is verified
+  pub written_verified : (result : Result Verified VerifyFault) → IsWritten p text → MustAnswer p text result → IsOkOrMemory result
+  written_verified result written must = by result (must.accepts verified (record { uncrowded = written.uncrowded; proves = written.proves; systems = refl }))
     where
       verified : Verified
       verified = record { systems = count_systems p ob_names }

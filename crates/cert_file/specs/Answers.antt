@@ -20,6 +20,11 @@ pub record IsVerified (p : Meaning) (text : List ℕ) (verified : Verified) : Ty
   pub proves : Proves p text
   pub systems : verified.systems ≡ count_systems p ob_names
 
+-- What is written of a policy that is accepted: the file proves it, and no obligation of it has too many cases.
+pub record IsWritten (p : Meaning) (text : List ℕ) : Type 0 where
+  pub uncrowded : IsUncrowded p
+  pub proves : Proves p text
+
 -- The cause of a refusal. An obligation with too many cases comes before a bad line, and that before what is wrong.
 abbrev pub IsCauseOf : Meaning → List ℕ → VerifyFault → Type 0
 IsCauseOf p text (fault.Cases name count) = first_crowded p ob_names ≡ Some (name, count)

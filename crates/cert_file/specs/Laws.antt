@@ -4,7 +4,7 @@ use Rattle.linear_cert.specs.Right.{CertTree}
 use Rattle.policy_tree.specs.Meaning.{Meaning}
 use Rattle.policy_eval.specs.Obligations.{MeetsObligations}
 use Rattle.policy_eval.specs.Resolved.{IsResolved}
-use Rattle.cert_file.specs.Answers.{IsUncrowded, MustAnswer}
+use Rattle.cert_file.specs.Answers.{IsWritten, MustAnswer}
 use Rattle.cert_file.specs.BadLines.{IsFirstBadLine}
 use Rattle.cert_file.specs.Text.{SpellsCertificateFile}
 use Rattle.cert_file.specs.Wrong.{Proves}
@@ -29,8 +29,7 @@ abbrev pub IsOkOrMemory : Result Verified VerifyFault → Type 0
 IsOkOrMemory (Ok verified) = Unit {0}
 IsOkOrMemory (Err fault) = fault ≡ Memory
 
--- Where a file proves a policy, of which no obligation has too many cases, what must be answered is Ok, or the want of
--- memory. `write_certs` writes such a file.
+-- Of a file that was written for a policy, as `write_certs` writes it, what must be answered is Ok, or the want of memory.
 abbrev pub WrittenIsVerified : Type 0
-WrittenIsVerified = (p : Meaning) (text : List ℕ) (result : Result Verified VerifyFault) → IsUncrowded p →
-    Proves p text → MustAnswer p text result → IsOkOrMemory result
+WrittenIsVerified = (p : Meaning) (text : List ℕ) (result : Result Verified VerifyFault) → IsWritten p text →
+    MustAnswer p text result → IsOkOrMemory result

@@ -13,8 +13,7 @@ pub fn law_proved()
     ensures { ProvedMeet }
 {}
 
-/// What `write_certs` wrote of a policy is verified for it, but for want of memory, where no obligation of the policy
-/// has too many cases.
+/// What `write_certs` wrote of a policy is verified for it, but for want of memory.
 pub fn law_written()
     ensures { WrittenIsVerified }
 {}

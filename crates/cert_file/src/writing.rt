@@ -5,14 +5,14 @@ ghost use Rattle.std.specs.List.{AllByRecursion, count_by};
 ghost use Rattle.linear_cert.specs.Right.{IsShallow, cert_tree};
 ghost use Rattle.policy_tree.specs.Meaning.{meaning_of};
 ghost use Rattle.cert_text.specs.Cuts.{is_byte};
+ghost use Rattle.cert_file.specs.Answers.{IsWritten};
 ghost use Rattle.cert_file.specs.Reading.{AreWritten};
 ghost use Rattle.cert_file.specs.Text.{AreWritable, IsWritable, obligation_text, system_text, systems_text};
-ghost use Rattle.cert_file.specs.Wrong.{Proves};
 
 use crate::answer::CertFileMemory;
 use cert_text::{CertText, put_number, write_cert};
 use linear_cert::Cert;
-use obligations::{ObName, ob_names};
+use obligations::ObName;
 use policy_checker::AcceptedPolicy;
 use std::alloc::{AllocError, Global};
 
@@ -20,11 +20,11 @@ use std::alloc::{AllocError, Global};
 ///
 /// It isn't promised to be short: a certificate has as many lines as it has leaves and splits.
 pub fn write_certs(alloc: Global, policy: &AcceptedPolicy) -> Result<Vec<u8>, CertFileMemory>
-    ensures { IfOk result (λ text. Proves (meaning_of policy.now) text.items) }
+    ensures { IfOk result (λ text. IsWritten (meaning_of policy.now) text.items) }
 {
     let mut text = Vec::new(alloc);
     text.extend_from_slice(b"certificates 1\n")?;
-    put_obligations(alloc, &mut text, policy, ob_names())?;
+    put_obligations(alloc, &mut text, policy, policy.obligations())?;
     Ok(text)
 }
 

@@ -50,6 +50,7 @@ module _ (a : ℕ) (v w : View) (g : Glimpsed a v w) (of_core : IsSeatOf v a) wh
       let t = subst (IsTrueRole (meaning_in v) v.plan h v.own) g.of_core.role ag.role in
       record {
         fits = ag.fits;
+        limits = ag.limits;
         handlers = ag.handlers;
         legal = ag.legal;
         reserve = ag.reserve;

@@ -67,7 +67,7 @@ module _ (v : View) (q : Meaning) (plan : Plan) (is_q : meaning_in v ≡ q) (is_
   runs = of_these (λ p pl. CanRun p pl y) (may_run (meaning_in v) v.plan known.1.fits known.1.handlers known.0 known.1.legal c y low core_now)
 
   pub round_few : (round : ℕ) → round ≡ v.round → round ≤ MAX_ROUNDS
-  round_few round is = let within = round_within (meaning_in v) v.plan known.1.fits known.0 known.1.legal in let dated = known.1.dated.round in omega arith
+  round_few round is = let within = round_within (meaning_in v) v.plan known.1.limits known.0 known.1.legal in let dated = known.1.dated.round in omega arith
 
   -- a thread that is due has left it, and may come back
   module _ (round thread : ℕ) (due : due_in round y.core ≡ Some thread) where

@@ -15,7 +15,7 @@ use Rattle.steal_phase.specs.declared.outcome.Outcome.{Outcome}
 use Rattle.steal_phase.specs.declared.outcome.Outcome.TheVariants as outcome
 use Rattle.steal_phase.specs.Attempts.{HasAdded, MayAttempt, MayLook, entry_of, own_entries_in, position_of}
 use Rattle.core_calls.specs.declared.turned.Turned.{Turned}
-use Rattle.core_calls.specs.Calls.{LooksAt, core_in}
+use Rattle.core_calls.specs.Calls.{LooksAt, MayTry, core_in}
 use Rattle.core_calls.specs.Code.Arrivals.{HasDrawn}
 use Rattle.core_calls.specs.Steps.{HasLetAllIn, Worked}
 use Rattle.core_calls.specs.Turns.{HasTurned, is_told}
@@ -66,7 +66,7 @@ module _ (a n : ℕ) (v w x : View) (s : HasDrawn a n v w) (did : Did) (work : W
   may_look = record { of_core = subst (IsSeatOf x) (sym (core_is x a work.adds.added.of_core)) work.adds.added.of_core; worked = has_run; first = none_tried; free = work.adds.added.free }
 
   -- and by its look it may make its attempt
-  pub may_attempt : (y : View) (look : Look) → LooksAt look x y → MayAttempt y look
+  may_attempt : (y : View) (look : Look) → LooksAt look x y → MayAttempt y look
   may_attempt y look l = record {
     ready = record {
       of_core = let own = work.adds.added.of_core in record {
@@ -78,8 +78,10 @@ module _ (a n : ℕ) (v w x : View) (s : HasDrawn a n v w) (did : Did) (work : W
       free = ap (λ (u : View). u.held) l.read.is ∙ work.adds.added.free;
     };
     looked = l.looked;
-    last = l.last;
   }
+
+  pub may_try : (y : View) (look : Look) → LooksAt look x y → MayTry y look
+  may_try y look l = record { may = may_attempt y look l; last = l.last }
 
   -- the look read, and the attempt was drawn
   module _ (start y z : View) (first : ℕ) (begun : HasDrawn a first start v) (entered : HasLetAllIn w a) (marked : w.role ≡ role.Core a true) (seen : HasMoreNotes x y) (look : Look) (by : look.by ≡ a) (o : Outcome)

@@ -51,7 +51,7 @@ pub own_few : (a at : ℕ) (e : Entry) (v w : View) → IsSeatOf v a → AddsNex
 own_few a at e v w of_core adds =
     let n = adds.next in let h : List Entry = n.history in let t = subst (IsTrueRole (meaning_in v) v.plan h v.own) of_core.role n.agrees.role in
     let own = ap length t.is_own in let short = log_short (acts a) (round_start h) (drop (round_start h) h) in let rest = length-drop (round_start h) h in
-    let position = n.position in let low = n.above.limit in let most = n.agrees.fits.few_entries in
+    let position = n.position in let low = n.above.limit in let most = n.agrees.limits.few_entries in
     omega arith
 
 pub none_drawn : (a : ℕ) (v : View) → IsFresh v a → HasDrawn a 0 v v

@@ -6,7 +6,7 @@ use Rattle.core_table.specs.declared.views.View.{View}
 use Rattle.select_phase.specs.declared.looks.Look.{Look}
 use Rattle.select_phase.specs.Seen.{AreLast, AreLate, HasMoreNotes, Looked}
 use Rattle.steal_phase.specs.declared.outcome.Outcome.{Outcome}
-use Rattle.steal_phase.specs.Attempts.{Attempted, HasAdded, entry_of, position_of}
+use Rattle.steal_phase.specs.Attempts.{Attempted, HasAdded, MayAttempt, entry_of, position_of}
 
 -- the core that knows this. What is no core's is of no account
 abbrev pub core_by : Role → ℕ
@@ -30,6 +30,11 @@ pub record LooksAt (look : Look) (before now : View) : Type 0 where
   pub read : HasMoreNotes before now
   pub last : AreLast now look.reads
   pub all : AreAtMost before now look.reads
+
+-- in its turn the core may make its attempt by this look: behind its reads the core has read nothing
+pub record MayTry (v : View) (look : Look) : Type 0 where
+  pub may : MayAttempt v look
+  pub last : AreLast v look.reads
 
 -- the core made its attempt by the look, and it came to this
 pub record Tries (look : Look) (outcome : Outcome) (before now : View) : Type 0 where

@@ -14,6 +14,7 @@ use core_table::{Seat, Table};
 use policy_tree::Policy;
 use round_model::{Did, Plan};
 use sched_base::{CoreId, Pos, ThreadId};
+use sched_io::Gate;
 use select_phase::{Look, look};
 use std::sync::Wait;
 use steal_phase::{Outcome, attempt};
@@ -68,7 +69,7 @@ impl CoreCalls for SeatCalls<'_> {
         self.actor.work(rt, &mut self.seat, round)
     }
 
-    fn look(&mut self) -> Look {
+    fn look<G: Gate>(&mut self, _gate: &G) -> Look {
         let Actor {
             table,
             policy,

@@ -3,12 +3,13 @@
 ghost use Rattle.std.specs.Prelude.{◌≡◌, MatchOption};
 ghost use Rattle.core_table.specs.declared.views.View.{View};
 ghost use Rattle.core_table.specs.Told.{IsKnown};
-ghost use Rattle.steal_phase.specs.Attempts.{MayAttempt, MayLook};
-ghost use Rattle.core_calls.specs.Calls.{LooksAt, Tries, core_in};
+ghost use Rattle.steal_phase.specs.Attempts.{MayLook};
+ghost use Rattle.core_calls.specs.Calls.{LooksAt, MayTry, Tries, core_in};
 ghost use Rattle.core_calls.specs.Steps.{Entered, HasNoneDue, MayEnter, MayWake, MayWork, Woken, Worked};
 
 use round_model::Did;
 use sched_base::{Pos, ThreadId};
+use sched_io::Gate;
 use select_phase::Look;
 use std::sync::Wait;
 use steal_phase::Outcome;
@@ -51,17 +52,19 @@ pub trait CoreCalls {
         ensures ready { ready self.new × follows self.old self.new }
         ensures worked { Worked (core_in (view self.old)) result (view self.old) (view self.new) };
 
-    /// Looks at all cores, its own too, once its unit is run. It waits for none of them.
-    fn look(&mut self) -> Look
+    /// Looks at all cores, its own too, once its unit is run and the gate is passed. It waits for none of them, and asks
+    /// nothing of the gate.
+    fn look<G: Gate>(&mut self, gate: &G) -> Look
         requires ready { ready self.old }
         requires may { MayLook (view self.old) (core_in (view self.old)) }
+        requires passed { G.passed gate.now (core_in (view self.old)) (view self.old).round }
         ensures ready { ready self.new × follows self.old self.new }
         ensures looked { LooksAt result (view self.old) (view self.new) };
 
-    /// Makes the attempt by that look.
+    /// Makes the attempt by that look, which is the last thing that the core read.
     fn attempt<R: Wait>(&mut self, rt: &R, look: Look) -> Outcome
         requires ready { ready self.old }
-        requires may { MayAttempt (view self.old) look }
+        requires may { MayTry (view self.old) look }
         ensures ready { ready self.new × follows self.old self.new }
         ensures tried { Tries look result (view self.old) (view self.new) };
 

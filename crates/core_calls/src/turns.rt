@@ -35,7 +35,7 @@ pub fn turn<R: Wait, C: CoreCalls, G: Gate>(
     let drawn = wake_all(rt, calls, round, entered);
     let did = calls.work(rt, round);
     gate.pass(rt, core, round);
-    let look = calls.look();
+    let look = calls.look(gate);
     calls.attempt(rt, look);
     Turned {
         entries: drawn + 2,

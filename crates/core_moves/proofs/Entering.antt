@@ -47,8 +47,8 @@ module _ (p : Meaning) (plan : Plan) (h : List Entry) (thread by at : ℕ) (read
     unfolding placed
     shows = came plan h (after p plan h) there may.are
 
-    pub entries_few : Fits p plan → last.entries < MAX_ENTRIES
-    entries_few fits = entries_fit p plan h placed last shows fits may.room
+    pub entries_few : last.entries < MAX_ENTRIES
+    entries_few = entries_fit p plan h placed last shows may.room
 
     pub can_note : All (CanLog last.entries) last.cores
     can_note = can_log p plan h placed last shows may.room

@@ -23,6 +23,7 @@ use Rattle.round_model.specs.Code.Updates.{updated}
 use Rattle.round_model.specs.Cores.{Cores, seen_of}
 use Rattle.round_model.specs.Fits.{Fits}
 use Rattle.round_model.specs.Legal.{Legal, LegalNext, rounds_begun}
+use Rattle.round_model.specs.Limits.{IsWithinLimits}
 use Rattle.round_model.specs.Reads.{values_of}
 use Rattle.round_model.specs.Rows.{Row}
 use Rattle.round_model.specs.Scenes.{entering_next, is_entering, own_entries, scene_of}
@@ -134,7 +135,7 @@ module _ (p : Meaning) (plan : Plan) where
   begun_on h (entry.Pass by reads) legal few = omega (arith, begun_more h (entry.Pass by reads))
 
   -- the open round is one of the plan
-  pub round_within : Fits p plan → (h : List Entry) → Legal p plan h → round_of h ≤ MAX_ROUNDS
-  round_within fits h legal =
+  pub round_within : IsWithinLimits plan → (h : List Entry) → Legal p plan h → round_of h ≤ MAX_ROUNDS
+  round_within limits h legal =
       let begun = legal_induction p plan (λ g. rounds_begun g ≤ plan.rounds) (omega arith) (λ g e so_far next few. begun_on g e next few) h legal in
-      omega (arith, open_round p plan h legal, fits.few_rounds)
+      omega (arith, open_round p plan h legal, limits.few_rounds)

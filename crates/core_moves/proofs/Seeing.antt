@@ -46,11 +46,11 @@ module _ (p : Meaning) (plan : Plan) (v : CoresView) where
     in_sight c there = omega (arith, count)
 
     -- the position behind a log's last entry is one
-    pub log_ends : Fits p plan → (c : ℕ) → c < plan.cores → HoldsAt v.cores c (λ y. after_last 0 y.log ≤ MAX_ENTRIES)
-    log_ends fits c there =
+    pub log_ends : (c : ℕ) → c < plan.cores → HoldsAt v.cores c (λ y. after_last 0 y.log ≤ MAX_ENTRIES)
+    log_ends c there =
         let h = reached.0 in
         holds_shown p plan h (after p plan h) v reached.1.are (λ y. after_last 0 y.log ≤ MAX_ENTRIES) c there
-        (let last = last_within (touches c) h in let within = reached.1.within in let few = fits.few_entries in omega arith)
+        (let last = last_within (touches c) h in let within = reached.1.within in let few = reached.1.are.limits.few_entries in omega arith)
 
     module _ (fits : Fits p plan) (handlers : MeetsHandlerObligations p) where
       pub all_countable : All IsCountable v.cores
@@ -65,4 +65,4 @@ module _ (p : Meaning) (plan : Plan) (v : CoresView) where
       -- and so do those of all cores
       pub seen_all_fit : (values : List CoreValues) → length values ≡ MAX_CORES → ((c : ℕ) → c < plan.cores → IsSeenAt plan v.cores c (values_in values c)) → All (CoreFits p) (take plan.cores values)
       seen_all_fit values len each =
-          values_All (CoreFits p) plan.cores values (λ c there. seen_core_fits c (values_in values c) there (each c there)) (omega (arith, fits.few_cores))
+          values_All (CoreFits p) plan.cores values (λ c there. seen_core_fits c (values_in values c) there (each c there)) (omega (arith, reached.1.are.limits.few_cores))

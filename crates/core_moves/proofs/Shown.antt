@@ -76,6 +76,7 @@ module _ (p : Meaning) (plan : Plan) (h : List Entry) (m : Cores) where
         entries = shows.entries;
         start = shows.start;
         rounds_room = shows.rounds_room;
+        limits = shows.limits;
       })
 
   -- the same cores by another name
@@ -87,6 +88,7 @@ module _ (p : Meaning) (plan : Plan) (h : List Entry) (m : Cores) where
     entries = shows.entries;
     start = shows.start;
     rounds_room = shows.rounds_room;
+    limits = shows.limits;
   }
 
   -- one core with the entry in its log, where the entry touches it
@@ -112,6 +114,7 @@ module _ (p : Meaning) (plan : Plan) (h : List Entry) (m : Cores) where
         entries = ap (λ n. n + 1) shows.entries ∙ sym (length_push h e);
         start = shows.start ∙ sym (start_stays h e kind);
         rounds_room = shows.rounds_room;
+        limits = shows.limits;
       })
 
   -- as a round begins
@@ -128,6 +131,7 @@ module _ (p : Meaning) (plan : Plan) (h : List Entry) (m : Cores) where
         entries = ap (λ n. n + 1) shows.entries ∙ sym (length_push h e);
         start = ap (λ n. n + 1) shows.entries ∙ sym (start_of_round h e refl);
         rounds_room = shows.rounds_room;
+        limits = shows.limits;
       })
 
 -- a log is no longer than the history
@@ -149,8 +153,8 @@ can_log p plan h m v shows room =
     })
 
 -- the next entry has a position
-pub entries_fit : (p : Meaning) (plan : Plan) (h : List Entry) (m : Cores) (v : CoresView) → Shows p plan h m v → Fits p plan → length h < plan.limit → v.entries < MAX_ENTRIES
-entries_fit p plan h m v shows fits room = let at = shows.entries in let few = fits.few_entries in omega arith
+pub entries_fit : (p : Meaning) (plan : Plan) (h : List Entry) (m : Cores) (v : CoresView) → Shows p plan h m v → length h < plan.limit → v.entries < MAX_ENTRIES
+entries_fit p plan h m v shows room = let at = shows.entries in let few = shows.limits.few_entries in omega arith
 
 -- the cores with the entry more are those of the history with it
 pub shown_after : (p : Meaning) (plan : Plan) (h : List Entry) (e : Entry) (m : Cores) (v : CoresView) → ((c : ℕ) → m c ≡ moved p plan (round_of h) e (after p plan h) c)

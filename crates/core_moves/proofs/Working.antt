@@ -26,8 +26,8 @@ module _ (p : Meaning) (plan : Plan) (h : List Entry) (core round : ℕ) (old : 
   pub runs : Fits p plan → MeetsHandlerObligations p → HoldsAt old.cores core (CanRun p plan)
   runs fits handlers = holds_shown p plan h (after p plan h) old may.are (CanRun p plan) core may.there (can_run p plan fits handlers h may.legal core may.there)
 
-  pub round_few : Fits p plan → round ≤ MAX_ROUNDS
-  round_few fits = let within = round_within p plan fits h may.legal in let now = may.now in omega arith
+  pub round_few : round ≤ MAX_ROUNDS
+  round_few = let within = round_within p plan may.are.limits h may.legal in let now = may.now in omega arith
 
   module _ (last : CoresView) (ran : Becomes p core (core_after_work p plan round) old last) where
     worked : Cores
@@ -37,8 +37,8 @@ module _ (p : Meaning) (plan : Plan) (h : List Entry) (core round : ℕ) (old : 
     unfolding worked
     shows = ran plan h (after p plan h) may.there may.are
 
-    pub entries_few : Fits p plan → last.entries < MAX_ENTRIES
-    entries_few fits = entries_fit p plan h worked last shows fits may.room
+    pub entries_few : last.entries < MAX_ENTRIES
+    entries_few = entries_fit p plan h worked last shows may.room
 
     pub can_note : All (CanLog last.entries) last.cores
     can_note = can_log p plan h worked last shows may.room

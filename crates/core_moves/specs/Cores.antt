@@ -6,6 +6,7 @@ use Rattle.round_model.specs.declared.plan.Plan.{Plan}
 use Rattle.round_model.specs.After.{after}
 use Rattle.round_model.specs.Cores.{Cores, core_numbers}
 use Rattle.round_model.specs.Legal.{Legal}
+use Rattle.round_model.specs.Limits.{IsWithinLimits}
 use Rattle.round_model.specs.Reads.{round_start}
 use Rattle.core_state.specs.declared.logged.Logged.{Logged}
 use Rattle.core_state.specs.Logs.{log_of, round_log}
@@ -32,13 +33,14 @@ shown p plan history m c = record {
   log_room = plan.limit;
 }
 
--- the cores are these of the model, with the logs of the history
+-- the cores are these of the model, with the logs of the history. The plan is within the limits
 pub record Shows (p : Meaning) (plan : Plan) (history : List Entry) (m : Cores) (v : CoresView) : Type 0 where
   pub cores : v.cores ≡ map (shown p plan history m) (core_numbers plan)
   pub rounds : v.rounds ≡ round_log history
   pub entries : v.entries ≡ length history
   pub start : v.start ≡ round_start history
   pub rounds_room : v.rounds_room ≡ plan.limit
+  pub limits : IsWithinLimits plan
 
 -- the whole core of that number after the history
 abbrev pub core_view : Meaning → Plan → List Entry → ℕ → CoreView

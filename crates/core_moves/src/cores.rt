@@ -8,6 +8,7 @@ ghost use Rattle.round_model.specs.declared.plan.Plan.{Plan};
 ghost use Rattle.round_model.specs.Cores.{core_numbers};
 ghost use Rattle.round_model.specs.Fits.{Fits};
 ghost use Rattle.round_model.specs.Legal.{Legal};
+ghost use Rattle.round_model.specs.Limits.{IsWithinLimits};
 ghost use Rattle.core_moves.specs.Cores.{AreCoresOf, core_view};
 
 use core_state::{Closed, CoreState, Logged, StateMemory};
@@ -53,7 +54,8 @@ impl Model for Cores {
 impl Cores {
     /// The cores before the first entry. Each has room for all threads, and each log for all entries.
     pub fn open(alloc: Global, policy: &Policy, plan: &Plan) -> Result<Cores, StateMemory>
-        requires { Fits (meaning_of policy.now) plan.now }
+        requires fits { Fits (meaning_of policy.now) plan.now }
+        requires limits { IsWithinLimits plan.now }
         ensures { IfOk result (AreCoresOf (meaning_of policy.now) plan.now []) }
     {
         Ok(Cores {
@@ -99,7 +101,8 @@ impl Cores {
 
 /// Each core of the plan before the first entry.
 fn open_all(alloc: Global, policy: &Policy, plan: &Plan) -> Result<Vec<CoreState>, StateMemory>
-    requires { Fits (meaning_of policy.now) plan.now }
+    requires fits { Fits (meaning_of policy.now) plan.now }
+    requires limits { IsWithinLimits plan.now }
     ensures cores { IfOk result (λ cores.
         cores.items ≡ map (core_view (meaning_of policy.now) plan.now []) (core_numbers plan.now)) }
     ensures few { IfOk result (λ cores. vec_len cores ≤ MAX_CORES) }

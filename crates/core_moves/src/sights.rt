@@ -8,6 +8,7 @@ ghost use Rattle.round_model.specs.After.{after};
 ghost use Rattle.round_model.specs.Choices.{choice_of, target_of, values_in};
 ghost use Rattle.round_model.specs.Cores.{seen_of};
 ghost use Rattle.round_model.specs.Fits.{Fits};
+ghost use Rattle.round_model.specs.Limits.{IsWithinLimits};
 ghost use Rattle.round_model.specs.Reads.{values_of as values_by};
 ghost use Rattle.round_model.specs.Scenes.{waking_next};
 ghost use Rattle.core_moves.specs.Code.Changes.{HoldsAt, IsCountable};
@@ -49,6 +50,7 @@ impl Cores {
     /// The choice of the core, by what it reads just now.
     pub fn choice(&self, policy: &Policy, plan: &Plan, core: CoreId) -> Option<CoreId>
         requires fits { Fits (meaning_of policy.now) plan.now }
+        requires limits { IsWithinLimits plan.now }
         requires handlers { MeetsHandlerObligations (meaning_of policy.now) }
         requires reached { AreReached (meaning_of policy.now) plan.now self.now }
         requires core { core < plan.now.cores }
@@ -64,6 +66,7 @@ impl Cores {
     /// The core on which the core places a thread, by what it reads just now.
     pub fn target(&self, policy: &Policy, plan: &Plan, core: CoreId) -> CoreId
         requires fits { Fits (meaning_of policy.now) plan.now }
+        requires limits { IsWithinLimits plan.now }
         requires handlers { MeetsHandlerObligations (meaning_of policy.now) }
         requires reached { AreReached (meaning_of policy.now) plan.now self.now }
         requires core { core < plan.now.cores }

@@ -178,6 +178,7 @@ module _ (s : Now) (me : SeatNow) (r : AllHold (meaning_in me.0) me.0.plan s) (i
           let owned : (c : ℕ) → c ≤ plan.cores → stands_in plan.cores c (entry.Round number) ≡ true → (r.keeps c).owner ≡ some id = (λ c low is. ap (λ z. (r.keeps z).owner) (stands_alone c is ∙ sym alone.core)
           ∙ ap (λ (z : Keep). z.owner) (it.held 0 alone.of (ap (λ (l : List HeldCore). get_elem? l 0) alone.held)).1) in record {
             fits = r.fits;
+            limits = r.limits;
             handlers = r.handlers;
             history = h';
             keeps = has;
@@ -212,7 +213,7 @@ pub begins_on : (slots id : ℕ) (me : SeatNow) (number : ℕ) → HasAllBack me
     → Allows (TableHolds (meaning_in me.0) me.0.plan) slots id me 0 (λ w. (w + 1) % 2 ^ 64) (λ n new. begins number me n new)
 begins_on slots id me number back alone may s holds deep at small =
     let p : Meaning = meaning_in me.0 in let plan : Plan = me.0.plan in let r : AllHold p plan s = parted p plan s holds in let h : List Entry = r.history in let w : ℕ = get_or s.words 0 0 in let count : w ≡ length h = r.next in
-    let ag = agrees s id me.0 r at (live s me r id back at) in let room = (may h ag).room in let few = r.fits.few_entries in
+    let ag = agrees s id me.0 r at (live s me r id back at) in let room = (may h ag).room in let few = r.limits.few_entries in
     let one_more : (w + 1) % 18446744073709551616 ≡ w + 1 = omega arith in let v : View = beginning number w (after p plan h) (h ++ entry.Round number ∷ []) me.0 in (
       v,
       keeps,

@@ -197,6 +197,7 @@ module _ (s : Now) (me : SeatNow) (r : AllHold (meaning_in me.0) me.0.plan s) (i
       let t = touched_stands p plan r.fits h e a acting c is low in let x = touched c t.0 t.1 in ap (λ z. (r.keeps z).owner) (sym x.core) ∙ ap (λ (z : Keep). z.owner) (seat.held x.place x.of x.there).1) in
       let inner = stands_touched p plan r.fits h e a acting next in record {
         fits = r.fits;
+        limits = r.limits;
         handlers = r.handlers;
         history = h';
         keeps = keeps';
@@ -236,7 +237,7 @@ pub draws_on : (slots id : ℕ) (me : SeatNow) (e : Entry) → IsActors me.0 e �
 draws_on slots id me e actors touched local s holds deep at small =
     let p : Meaning = meaning_in me.0 in let plan : Plan = me.0.plan in let r : AllHold p plan s = parted p plan s holds in let h : List Entry = r.history in let w : ℕ = get_or s.words 0 0 in let count : w ≡ length h = r.next in
     let is_next = next s me r id e actors touched local at in let there = acts_there p plan h e actors.actor actors.acting is_next in
-    let owes = reserve_kept p plan h e actors.actor r.fits r.handlers r.legal is_next actors.acting there in let room = r.room in let few = r.fits.few_entries in
+    let owes = reserve_kept p plan h e actors.actor r.fits r.handlers r.legal is_next actors.acting there in let room = r.room in let few = r.limits.few_entries in
     let one_more : (w + 1) % 18446744073709551616 ≡ w + 1 = omega arith in let v : View = drawing w e (after p plan h) me.0 in (
       v,
       keeps,

@@ -107,6 +107,7 @@ pub recast : (p : Meaning) (plan : Plan) (s : Now) (r : AllHold p plan s) (views
     → ((j : ℕ) (v : View) → get_elem? views' j ≡ some v → SeatHolds p plan r.history r.keeps away' r.lead j v) → AllHold p plan record { words = s.words; homes = s.homes; views = views' }
 recast p plan s r views' away' hands there leads each_seat = record {
   fits = r.fits;
+  limits = r.limits;
   handlers = r.handlers;
   history = r.history;
   keeps = r.keeps;
@@ -173,6 +174,7 @@ module _ (p : Meaning) (plan : Plan) (s : Now) (r : AllHold p plan s) (id : ℕ)
       → AllHold p plan record { words = set s.words (c + 1) x; homes = homes'; views = set s.views id w }
   one_core c k x homes' deep apart free later got keeps role here mine = record {
     fits = r.fits;
+    limits = r.limits;
     handlers = r.handlers;
     history = r.history;
     keeps = put r.keeps c k;

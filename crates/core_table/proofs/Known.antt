@@ -48,7 +48,7 @@ has_now v h c y ag has = subst (λ (z : ℕ × CoreView). IsCoreNow (meaning_in 
 pub held_small : (v : View) (h : List Entry) (c : ℕ) (y : CoreView) → c < v.plan.cores → Agrees v h → HasCore v c y
     → (after_last 0 y.log ≤ MAX_ENTRIES) × ((seen_of y.core).nr ≤ MAX_THREADS) × ((seen_of y.core).load ≤ MAX_LOAD)
 held_small v h c y low ag has =
-    let now = has_now v h c y ag has in let last = ap (after_last 0) now.log in let within = last_within (stands_in v.plan.cores c) h in let r = ag.reserve in let few = ag.fits.few_entries in
+    let now = has_now v h c y ag has in let last = ap (after_last 0) now.log in let within = last_within (stands_in v.plan.cores c) h in let r = ag.reserve in let few = ag.limits.few_entries in
     let all : take (length h) h ≡ h = take_all (length h) h (omega arith) in
     let loads = loads_fit (meaning_in v) v.plan h c (length h) ag.fits ag.handlers ag.legal low in
     let fit = subst (λ (m : ModelCore). ((seen_of m).nr ≤ MAX_THREADS) × ((seen_of m).load ≤ MAX_LOAD)) (ap (λ g. after (meaning_in v) v.plan g c) all ∙ sym now.core) loads in
@@ -124,6 +124,7 @@ leaving_known v c opening k = let ag = k.1 in (
   k.0,
   record {
     fits = ag.fits;
+    limits = ag.limits;
     handlers = ag.handlers;
     legal = ag.legal;
     reserve = ag.reserve;
@@ -141,6 +142,7 @@ seat_known v c idle begun k =
       k.0,
       record {
         fits = ag.fits;
+        limits = ag.limits;
         handlers = ag.handlers;
         legal = ag.legal;
         reserve = ag.reserve;

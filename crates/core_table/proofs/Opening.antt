@@ -16,6 +16,7 @@ use Rattle.round_model.specs.declared.plan.Plan.{Plan}
 use Rattle.round_model.specs.After.{after_from}
 use Rattle.round_model.specs.Cores.{core_numbers, opening_state}
 use Rattle.round_model.specs.Fits.{Fits}
+use Rattle.round_model.specs.Limits.{IsWithinLimits}
 use Rattle.round_model.specs.Owed.{owed, owed_total}
 use Rattle.round_model.specs.Reads.{value_read}
 use Rattle.core_table.specs.declared.slots.Slot.{Slot}
@@ -93,10 +94,11 @@ first_knows policy plan = record {
   held = λ i x a. absurd (some-ne-none x (sym a));
 }
 
-pub starts : (policy : Policy) (plan : Plan) (slots : List Slot) (words : List ℕ) → Fits (meaning_of policy) plan → MeetsHandlerObligations (meaning_of policy) → AllLaid (meaning_of policy) plan slots → words ≡ replicate (plan.cores + 2) 0
+pub starts : (policy : Policy) (plan : Plan) (slots : List Slot) (words : List ℕ) → Fits (meaning_of policy) plan → IsWithinLimits plan → MeetsHandlerObligations (meaning_of policy) → AllLaid (meaning_of policy) plan slots → words ≡ replicate (plan.cores + 2) 0
     → TableHolds (meaning_of policy) plan (opening words slots (first_view policy plan))
-starts policy plan slots words fits handlers laid blank = let p : Meaning = meaning_of policy in let owes = none_owed p plan in whole p plan _ record {
+starts policy plan slots words fits limits handlers laid blank = let p : Meaning = meaning_of policy in let owes = none_owed p plan in whole p plan _ record {
   fits = fits;
+  limits = limits;
   handlers = handlers;
   history = [];
   keeps = kept_first p plan;
@@ -117,9 +119,10 @@ starts policy plan slots words fits handlers laid blank = let p : Meaning = mean
 }
 
 -- the empty history agrees with the first view
-pub first_agrees : (policy : Policy) (plan : Plan) → Fits (meaning_of policy) plan → MeetsHandlerObligations (meaning_of policy) → Agrees (first_view policy plan) []
-first_agrees policy plan fits handlers = let owes = none_owed (meaning_of policy) plan in record {
+pub first_agrees : (policy : Policy) (plan : Plan) → Fits (meaning_of policy) plan → IsWithinLimits plan → MeetsHandlerObligations (meaning_of policy) → Agrees (first_view policy plan) []
+first_agrees policy plan fits limits handlers = let owes = none_owed (meaning_of policy) plan in record {
   fits = fits;
+  limits = limits;
   handlers = handlers;
   legal = λ k e is. absurd (some-ne-none e (sym is));
   reserve = omega arith;
@@ -134,10 +137,10 @@ unfolding is_live
 first_live policy plan = refl
 
 -- the same of the opening that a table is told
-pub opens : (policy : Policy) (plan : Plan) (key : Opening) (slots : List Slot) (words : List ℕ) → Fits (meaning_of policy) plan → MeetsHandlerObligations (meaning_of policy) → AllLaid (meaning_of policy) plan slots
+pub opens : (policy : Policy) (plan : Plan) (key : Opening) (slots : List Slot) (words : List ℕ) → Fits (meaning_of policy) plan → IsWithinLimits plan → MeetsHandlerObligations (meaning_of policy) → AllLaid (meaning_of policy) plan slots
     → words ≡ replicate (plan.cores + 2) 0 → key.policy.value ≡ policy → key.plan.value ≡ plan → holds_of key (opening words slots (first_view_of key))
-opens policy plan key slots words fits handlers laid blank policy_is plan_is =
-    subst (λ (q : Policy × Plan). TableHolds (meaning_of q.0) q.1 (opening words slots (first_view q.0 q.1))) (λ i. (sym policy_is i, sym plan_is i)) (starts policy plan slots words fits handlers laid blank)
+opens policy plan key slots words fits limits handlers laid blank policy_is plan_is =
+    subst (λ (q : Policy × Plan). TableHolds (meaning_of q.0) q.1 (opening words slots (first_view q.0 q.1))) (λ i. (sym policy_is i, sym plan_is i)) (starts policy plan slots words fits limits handlers laid blank)
 
 -- and the first seat sits at that table
 pub sits_first : (made key : Opening) (z y : TableId) (v : View) → key ≡ made → y ≡ z → v ≡ first_view_of made → z.words ≡ made.plan.value.cores + 2 → z.slots ≡ made.plan.value.cores + 1 → Sits z key y v

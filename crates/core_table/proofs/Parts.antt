@@ -11,6 +11,7 @@ use Rattle.round_model.specs.declared.plan.Plan.{Plan}
 use Rattle.round_model.specs.Entries.{touches}
 use Rattle.round_model.specs.Fits.{Fits}
 use Rattle.round_model.specs.Legal.{Legal}
+use Rattle.round_model.specs.Limits.{IsWithinLimits}
 use Rattle.round_model.specs.Owed.{owed_total}
 use Rattle.round_model.specs.Reads.{round_start, value_read}
 use Rattle.core_state.specs.Views.{CoreView}
@@ -68,6 +69,7 @@ IsLed lead views = (v : View) × (get_elem? views lead ≡ some v) × IsOpening 
 -- the whole rule
 pub record AllHold (p : Meaning) (plan : Plan) (s : Now) : Type 0 where
   pub fits : Fits p plan
+  pub limits : IsWithinLimits plan
   pub handlers : MeetsHandlerObligations p
   pub history : List Entry
   pub keeps : ℕ → Keep
@@ -87,6 +89,7 @@ pub record AllHold (p : Meaning) (plan : Plan) (s : Now) : Type 0 where
 unfoldable pub parted : (p : Meaning) (plan : Plan) (s : Now) → TableHolds p plan s → AllHold p plan s
 parted p plan s t = record {
   fits = t.fits;
+  limits = t.limits;
   handlers = t.handlers;
   history = t.ledger.history;
   keeps = t.ledger.keeps;
@@ -124,6 +127,7 @@ parted p plan s t = record {
 unfoldable pub whole : (p : Meaning) (plan : Plan) (s : Now) → AllHold p plan s → TableHolds p plan s
 whole p plan s a = record {
   fits = a.fits;
+  limits = a.limits;
   handlers = a.handlers;
   wide = a.wide;
   deep = a.deep;
@@ -162,6 +166,7 @@ whole p plan s a = record {
 pub agrees : (s : Now) (j : ℕ) (v : View) (a : AllHold (meaning_in v) v.plan s) → get_elem? s.views j ≡ some v → is_live v.role ≡ true → Agrees v a.history
 agrees s j v a at live = let seat = a.each_seat j v at in record {
   fits = a.fits;
+  limits = a.limits;
   handlers = a.handlers;
   legal = a.legal;
   reserve = a.room;

@@ -23,6 +23,7 @@ use Rattle.core_table.proofs.Known.{held_room}
 agrees_less : (v : View) (y : CoreView) (h : List Entry) → v.held ≡ [] → Agrees (holding v.plan.cores y v) h → Agrees v h
 agrees_less v y h free ag = record {
   fits = ag.fits;
+  limits = ag.limits;
   handlers = ag.handlers;
   legal = ag.legal;
   reserve = ag.reserve;
@@ -83,6 +84,7 @@ module _ (v : View) (y : CoreView) (number n : ℕ) (v2 : View) (free : v.held �
     view = v_is;
     now = subst (λ (w : View). Agrees w (d.history ++ entry.Round number ∷ [])) (sym v_is) (let ag = subst (λ (w : View). Agrees w (d.history ++ entry.Round number ∷ [])) d.view d.now in record {
       fits = ag.fits;
+      limits = ag.limits;
       handlers = ag.handlers;
       legal = ag.legal;
       reserve = ag.reserve;

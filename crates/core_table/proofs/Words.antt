@@ -106,7 +106,7 @@ none_seen p plan h c = (omega arith, omega arith)
 -- The rule keeps each word small.
 module _ (p : Meaning) (plan : Plan) (s : Now) (r : AllHold p plan s) where
   pub history_low : length r.history ≤ MAX_ENTRIES
-  history_low = let a = r.room in let b = r.fits.few_entries in omega arith
+  history_low = let a = r.room in let b = r.limits.few_entries in omega arith
 
   module _ (c : ℕ) (inside : c ≤ plan.cores) where
     pub version_low : (r.keeps c).version ≤ length r.history

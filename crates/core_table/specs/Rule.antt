@@ -10,6 +10,7 @@ use Rattle.round_model.specs.declared.plan.Plan.{Plan}
 use Rattle.round_model.specs.Entries.{touches}
 use Rattle.round_model.specs.Fits.{Fits}
 use Rattle.round_model.specs.Legal.{Legal}
+use Rattle.round_model.specs.Limits.{IsWithinLimits}
 use Rattle.round_model.specs.Owed.{owed_total}
 use Rattle.round_model.specs.Reads.{round_start, value_read}
 use Rattle.core_state.specs.Views.{CoreView}
@@ -116,10 +117,11 @@ module _ (p : Meaning) (plan : Plan) (s : State Slot View) (l : Ledger) where
         (v : View) × (get_elem? s.views seat ≡ some v) × IsSeatOf v c
     pub lead : (v : View) × (get_elem? s.views l.lead ≡ some v) × IsOpening v
 
--- all seven parts, over a plan that fits and a policy whose handlers meet their obligations. There are as many words
--- and slots as the plan's cores ask
+-- all seven parts, over a plan that fits, within the limits, and a policy whose handlers meet their obligations. There
+-- are as many words and slots as the plan's cores ask
 pub record TableHolds (p : Meaning) (plan : Plan) (s : State Slot View) : Type 0 where
   pub fits : Fits p plan
+  pub limits : IsWithinLimits plan
   pub handlers : MeetsHandlerObligations p
   pub wide : length s.words ≡ plan.cores + 2
   pub deep : length s.homes ≡ plan.cores + 1

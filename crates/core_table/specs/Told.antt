@@ -10,6 +10,7 @@ use Rattle.round_model.specs.After.{after, round_of}
 use Rattle.round_model.specs.Entries.{touches}
 use Rattle.round_model.specs.Fits.{Fits}
 use Rattle.round_model.specs.Legal.{Legal, LegalRound, rounds_begun}
+use Rattle.round_model.specs.Limits.{IsWithinLimits}
 use Rattle.round_model.specs.Owed.{owed_total}
 use Rattle.round_model.specs.Reads.{round_start, value_read}
 use Rattle.round_model.specs.Rows.{Row}
@@ -85,6 +86,7 @@ pub record IsDated (history : List Entry) (v : View) : Type 0 where
 -- by all that the view has, this may be the history of all entries
 pub record Agrees (v : View) (history : List Entry) : Type 0 where
   pub fits : Fits (meaning_in v) v.plan
+  pub limits : IsWithinLimits v.plan
   pub handlers : MeetsHandlerObligations (meaning_in v)
   pub legal : Legal (meaning_in v) v.plan history
   pub reserve : length history + owed_total (meaning_in v) v.plan history ≤ v.plan.limit

@@ -4,6 +4,7 @@ ghost use Rattle.std.specs.Prelude.{◌≡◌, ◌+◌, ◌≤◌, [], IfOk, len
 ghost use Rattle.policy_tree.specs.Meaning.{meaning_of};
 ghost use Rattle.policy_eval.specs.Obligations.{MeetsHandlerObligations};
 ghost use Rattle.round_model.specs.Fits.{Fits};
+ghost use Rattle.round_model.specs.Limits.{IsWithinLimits};
 ghost use Rattle.core_table.specs.Ends.{AllLaid, CoresLaid, IsClosed};
 ghost use Rattle.core_table.specs.Opened.{Sits};
 ghost use Rattle.core_table.specs.Told.{HasAllBack, IsKnown};
@@ -67,6 +68,7 @@ pub(crate) fn open(
     plan: &Plan,
 ) -> Result<(Inner, Place), TableFault>
     requires fits { Fits (meaning_of policy.now) plan.now }
+    requires limits { IsWithinLimits plan.now }
     requires handlers { MeetsHandlerObligations (meaning_of policy.now) }
     ensures sits { IfOk result (λ t. Sits t.0.shared.table_id t.0.shared.key t.1.table_id t.1.me.0) }
     ensures key { IfOk result (λ t. (t.0.shared.key.policy.value ≡ policy.now)

@@ -4,6 +4,7 @@ ghost use Rattle.std.specs.Prelude.{◌≡◌, ◌<◌, ◌≤◌, [], IfOk, Lis
 ghost use Rattle.policy_tree.specs.Meaning.{meaning_of};
 ghost use Rattle.policy_eval.specs.Obligations.{MeetsHandlerObligations};
 ghost use Rattle.round_model.specs.Fits.{Fits};
+ghost use Rattle.round_model.specs.Limits.{IsWithinLimits};
 ghost use Rattle.core_table.specs.declared.views.HeldCore.{HeldCore};
 ghost use Rattle.core_table.specs.Above.{IsAbove};
 ghost use Rattle.core_table.specs.Ends.{IsClosed};
@@ -37,6 +38,7 @@ impl Table {
     /// `TableFault::Memory` where there isn't so much.
     pub fn open(alloc: Global, policy: &Policy, plan: &Plan) -> Result<(Table, Seat), TableFault>
         requires fits { Fits (meaning_of policy.now) plan.now }
+        requires limits { IsWithinLimits plan.now }
         requires handlers { MeetsHandlerObligations (meaning_of policy.now) }
         ensures opening { IfOk result (λ t. (policy_of t.0 ≡ policy.now) × (plan_of t.0 ≡ plan.now)) }
         ensures seat { IfOk result (λ t. Becomes t.0 t.1 (first_view policy.now plan.now)) }

@@ -101,7 +101,7 @@ module _ (p : Meaning) (plan : Plan) (fits : Fits p plan) (handlers : MeetsHandl
         round = notes.round ∙ (m.at.round ∙ sym rounds);
         turns = λ c inside.
             let turn = m.at.turns c inside in
-            let few = fits.few_cores in
+            let few = m.at.cores.limits.few_cores in
             let more = turn_more h e c inner in
             record {
               worked = notes.worked c (omega arith) ∙ (ap (λ b. b || (acts c e && is_work e)) turn.worked ∙ sym (ap (λ (t : Turn). t.worked) more));

@@ -1,6 +1,5 @@
 -- The rounds of serial play over running cores.
 use Rattle.std.proofs.Common.{◌∙◌, ◌≡◌, ◌<◌, ◌≤◌, ℕ, ◌+◌, [], length, false, None, refl, sym, subst, arith}
-use Rattle.sched_base.specs.declared.limits.TheConstants.{MAX_ENTRIES}
 use Rattle.policy_tree.specs.Meaning.{Meaning}
 use Rattle.policy_eval.specs.Obligations.{MeetsHandlerObligations, MeetsObligations}
 use Rattle.policy_eval.proofs.Statements.{handler_obligations}
@@ -33,9 +32,6 @@ module _ (p : Meaning) (plan : Plan) (fits : Fits p plan) (meets : MeetsObligati
   abbrev handlers : MeetsHandlerObligations p
   handlers = handler_obligations p meets
 
-  few : length played.state.history ≤ MAX_ENTRIES
-  few = let within = played.at.within in let limit = fits.few_entries in omega arith
-
   pub count_is : run.cores.entries ≡ length played.state.history
   count_is = played.at.cores.entries
 
@@ -63,7 +59,7 @@ module _ (p : Meaning) (plan : Plan) (fits : Fits p plan) (meets : MeetsObligati
     history = played.state.history;
     cores = same ∙ played.at.cores.cores;
     logs = logs;
-    ends = ended_whole p plan fits handlers k played.state.history within played.serial none few played.fitted;
+    ends = ended_whole p plan fits handlers k played.state.history within played.serial none played.fitted;
     keeps = main_theorem p meets plan played.state.history fits played.at.legal;
   }
 
@@ -77,6 +73,6 @@ module _ (p : Meaning) (plan : Plan) (fits : Fits p plan) (meets : MeetsObligati
     history = played.state.history;
     cores = same ∙ played.at.cores.cores;
     logs = logs;
-    stops = stopped_full p plan fits handlers k played.state.history played.serial due (λ room. full (subst (RoundFits plan) (sym count_is) room)) few played.fitted;
+    stops = stopped_full p plan fits handlers k played.state.history played.serial due (λ room. full (subst (RoundFits plan) (sym count_is) room)) played.fitted;
     keeps = main_theorem p meets plan played.state.history fits played.at.legal;
   }

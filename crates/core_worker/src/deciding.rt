@@ -7,6 +7,7 @@ ghost use Rattle.round_model.specs.Choices.{target_of};
 ghost use Rattle.round_model.specs.Code.Outcomes.{values_at};
 ghost use Rattle.round_model.specs.Code.Turns.{placement_by};
 ghost use Rattle.round_model.specs.Fits.{Fits};
+ghost use Rattle.round_model.specs.Limits.{IsWithinLimits};
 ghost use Rattle.round_model.specs.Serial.{SerialState};
 ghost use Rattle.core_moves.specs.Sights.{reads_now};
 ghost use Rattle.core_worker.specs.Runs.{IsAt, IsMoment};
@@ -20,6 +21,7 @@ impl Run {
     /// Where the core places a thread just now, and what it reads for that.
     pub(crate) fn placement(&self, policy: &Policy, plan: &Plan, core: CoreId) -> (CoreId, Reads)
         requires fits { Fits (meaning_of policy.now) plan.now }
+        requires limits { IsWithinLimits plan.now }
         requires handlers { MeetsHandlerObligations (meaning_of policy.now) }
         requires at { IsAt (meaning_of policy.now) plan.now (λ s. Unit {0}) self.now }
         requires core { core < plan.now.cores }

@@ -4,6 +4,7 @@ ghost use Rattle.std.specs.Prelude.{◌≡◌, IfErr, IfOk};
 ghost use Rattle.policy_tree.specs.Meaning.{meaning_of};
 ghost use Rattle.policy_eval.specs.Obligations.{MeetsHandlerObligations, MeetsObligations};
 ghost use Rattle.round_model.specs.Fits.{Fits};
+ghost use Rattle.round_model.specs.Limits.{IsWithinLimits};
 ghost use Rattle.round_model.specs.SerialRounds.{with_round};
 ghost use Rattle.round_model.specs.Serial.{SerialState};
 ghost use Rattle.core_worker.specs.Played.{IsFaultOf, PlaysWhole};
@@ -22,7 +23,8 @@ use std::alloc::Global;
 /// Before each round all entries that it may have must fit the limit: its beginning, two for each core, and one for
 /// each thread.
 pub fn play_rounds(alloc: Global, policy: &AcceptedPolicy, plan: &Plan) -> Result<Closed, PlayFault>
-    requires { Fits (meaning_of policy.now) plan.now }
+    requires fits { Fits (meaning_of policy.now) plan.now }
+    requires limits { IsWithinLimits plan.now }
     ensures whole { IfOk result (PlaysWhole (meaning_of policy.now) plan.now) }
     ensures fault { IfErr result (IsFaultOf (meaning_of policy.now) plan.now) }
 {
@@ -32,6 +34,7 @@ pub fn play_rounds(alloc: Global, policy: &AcceptedPolicy, plan: &Plan) -> Resul
 /// The same under a policy that meets its obligations.
 fn play_under(alloc: Global, policy: &Policy, plan: &Plan) -> Result<Closed, PlayFault>
     requires fits { Fits (meaning_of policy.now) plan.now }
+    requires limits { IsWithinLimits plan.now }
     requires meets { MeetsObligations (meaning_of policy.now) }
     ensures whole { IfOk result (PlaysWhole (meaning_of policy.now) plan.now) }
     ensures fault { IfErr result (IsFaultOf (meaning_of policy.now) plan.now) }
@@ -53,6 +56,7 @@ impl Run {
     /// Plays the round of that number.
     fn play_round(&mut self, policy: &Policy, plan: &Plan, number: u32)
         requires fits { Fits (meaning_of policy.now) plan.now }
+        requires limits { IsWithinLimits plan.now }
         requires handlers { MeetsHandlerObligations (meaning_of policy.now) }
         requires may { (s : SerialState) × MayBegin (meaning_of policy.now) plan.now number self.old s }
         ensures { (s : SerialState) → MayBegin (meaning_of policy.now) plan.now number self.old s →

@@ -7,6 +7,7 @@ ghost use Rattle.round_model.specs.declared.plan.Planned.{Planned};
 ghost use Rattle.round_model.specs.Code.Past.{arrival_of};
 ghost use Rattle.round_model.specs.Fits.{Fits};
 ghost use Rattle.round_model.specs.Legal.{is_due as is_due_after};
+ghost use Rattle.round_model.specs.Limits.{IsWithinLimits};
 ghost use Rattle.round_model.specs.Serial.{SerialState};
 ghost use Rattle.core_worker.specs.Runs.{IsMoment, IsRunOf, MayBegin, opened};
 
@@ -35,7 +36,8 @@ pub(crate) struct Run {
 impl Run {
     /// The run before the first entry.
     pub(crate) fn open(alloc: Global, policy: &Policy, plan: &Plan) -> Result<Run, StateMemory>
-        requires { Fits (meaning_of policy.now) plan.now }
+        requires fits { Fits (meaning_of policy.now) plan.now }
+        requires limits { IsWithinLimits plan.now }
         ensures { IfOk result (λ run.
             IsRunOf (meaning_of policy.now) plan.now run (record { history = []; looks = λ c. None })) }
     {

@@ -8,6 +8,7 @@ ghost use Rattle.round_model.specs.Code.Additions.{ended_by};
 ghost use Rattle.round_model.specs.Code.Past.{arrives_at};
 ghost use Rattle.round_model.specs.Code.Updates.{IsFirstPlace};
 ghost use Rattle.round_model.specs.Fits.{Fits};
+ghost use Rattle.round_model.specs.Limits.{IsWithinLimits};
 ghost use Rattle.round_model.specs.Moves.{without_first};
 ghost use Rattle.round_model.specs.Serial.{SerialState, step_of};
 ghost use Rattle.core_worker.specs.Runs.{Enters, HasLooked, IsAt, IsLate, IsMoment, OwesLook, OwesUnit, Steps, Wakes};
@@ -23,6 +24,7 @@ impl Run {
     /// Takes the core's next step, if its turn isn't over. Whether it took one.
     pub(crate) fn advance(&mut self, policy: &Policy, plan: &Plan, core: CoreId) -> bool
         requires fits { Fits (meaning_of policy.now) plan.now }
+        requires limits { IsWithinLimits plan.now }
         requires handlers { MeetsHandlerObligations (meaning_of policy.now) }
         requires at { IsAt (meaning_of policy.now) plan.now (λ s. Unit {0}) self.old }
         requires core { core < plan.now.cores }
@@ -44,6 +46,7 @@ impl Run {
     /// The same of a core that has no thread left to let in or to wake.
     fn late_step(&mut self, policy: &Policy, plan: &Plan, core: CoreId) -> bool
         requires fits { Fits (meaning_of policy.now) plan.now }
+        requires limits { IsWithinLimits plan.now }
         requires handlers { MeetsHandlerObligations (meaning_of policy.now) }
         requires at { IsAt (meaning_of policy.now) plan.now (IsLate (meaning_of policy.now) plan.now core) self.old }
         requires core { core < plan.now.cores }
@@ -69,6 +72,7 @@ impl Run {
     /// The thread enters by the core.
     fn let_in(&mut self, policy: &Policy, plan: &Plan, core: CoreId, thread: ThreadId)
         requires fits { Fits (meaning_of policy.now) plan.now }
+        requires limits { IsWithinLimits plan.now }
         requires handlers { MeetsHandlerObligations (meaning_of policy.now) }
         requires at { IsAt (meaning_of policy.now) plan.now
             (Enters (meaning_of policy.now) plan.now core thread) self.old }
@@ -84,6 +88,7 @@ impl Run {
     /// The blocked thread of the core wakes.
     fn wake(&mut self, policy: &Policy, plan: &Plan, core: CoreId, thread: ThreadId)
         requires fits { Fits (meaning_of policy.now) plan.now }
+        requires limits { IsWithinLimits plan.now }
         requires handlers { MeetsHandlerObligations (meaning_of policy.now) }
         requires at { IsAt (meaning_of policy.now) plan.now
             (Wakes (meaning_of policy.now) plan.now core thread) self.old }
@@ -98,6 +103,7 @@ impl Run {
     /// The core runs its unit.
     fn work(&mut self, policy: &Policy, plan: &Plan, core: CoreId)
         requires fits { Fits (meaning_of policy.now) plan.now }
+        requires limits { IsWithinLimits plan.now }
         requires handlers { MeetsHandlerObligations (meaning_of policy.now) }
         requires at { IsAt (meaning_of policy.now) plan.now (OwesUnit (meaning_of policy.now) plan.now core) self.old }
         requires core { core < plan.now.cores }
@@ -112,6 +118,7 @@ impl Run {
     /// The core looks at all cores.
     fn look(&mut self, policy: &Policy, plan: &Plan, core: CoreId)
         requires fits { Fits (meaning_of policy.now) plan.now }
+        requires limits { IsWithinLimits plan.now }
         requires handlers { MeetsHandlerObligations (meaning_of policy.now) }
         requires at { IsAt (meaning_of policy.now) plan.now (OwesLook (meaning_of policy.now) plan.now core) self.old }
         requires core { core < plan.now.cores }
@@ -128,6 +135,7 @@ impl Run {
     /// The core makes its attempt by this look.
     fn attempt(&mut self, policy: &Policy, plan: &Plan, core: CoreId, look: Look)
         requires fits { Fits (meaning_of policy.now) plan.now }
+        requires limits { IsWithinLimits plan.now }
         requires handlers { MeetsHandlerObligations (meaning_of policy.now) }
         requires at { IsAt (meaning_of policy.now) plan.now
             (HasLooked (meaning_of policy.now) plan.now core look) self.old }

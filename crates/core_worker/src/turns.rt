@@ -4,6 +4,7 @@ ghost use Rattle.std.specs.Prelude.{◌<◌, All, replicate};
 ghost use Rattle.policy_tree.specs.Meaning.{meaning_of};
 ghost use Rattle.policy_eval.specs.Obligations.{MeetsHandlerObligations};
 ghost use Rattle.round_model.specs.Fits.{Fits};
+ghost use Rattle.round_model.specs.Limits.{IsWithinLimits};
 ghost use Rattle.round_model.specs.SerialRounds.{most_steps as most_steps_of, order_of, remaining_turns};
 ghost use Rattle.core_worker.specs.Runs.{IsAt, Moves};
 
@@ -16,6 +17,7 @@ impl Run {
     /// A step of each core in the order that the plan has for the round of that number.
     pub(crate) fn take_ordered(&mut self, policy: &Policy, plan: &Plan, number: u32)
         requires fits { Fits (meaning_of policy.now) plan.now }
+        requires limits { IsWithinLimits plan.now }
         requires handlers { MeetsHandlerObligations (meaning_of policy.now) }
         requires at { IsAt (meaning_of policy.now) plan.now (λ s. Unit {0}) self.old }
         ensures { Moves (meaning_of policy.now) plan.now (order_of plan.now number) self.old self.new }
@@ -26,6 +28,7 @@ impl Run {
     /// A step of each of these cores, one after the other.
     fn take_steps(&mut self, policy: &Policy, plan: &Plan, cores: &[CoreId])
         requires fits { Fits (meaning_of policy.now) plan.now }
+        requires limits { IsWithinLimits plan.now }
         requires handlers { MeetsHandlerObligations (meaning_of policy.now) }
         requires at { IsAt (meaning_of policy.now) plan.now (λ s. Unit {0}) self.old }
         requires cores { All (λ c. c < plan.now.cores) cores.now }
@@ -39,6 +42,7 @@ impl Run {
     /// All steps that the cores have left in their turns, core by core.
     pub(crate) fn end_turns(&mut self, policy: &Policy, plan: &Plan)
         requires fits { Fits (meaning_of policy.now) plan.now }
+        requires limits { IsWithinLimits plan.now }
         requires handlers { MeetsHandlerObligations (meaning_of policy.now) }
         requires at { IsAt (meaning_of policy.now) plan.now (λ s. Unit {0}) self.old }
         ensures { Moves (meaning_of policy.now) plan.now (remaining_turns plan.now) self.old self.new }
@@ -51,6 +55,7 @@ impl Run {
     /// All steps that the core has left in its turn.
     fn end_turn(&mut self, policy: &Policy, plan: &Plan, core: CoreId)
         requires fits { Fits (meaning_of policy.now) plan.now }
+        requires limits { IsWithinLimits plan.now }
         requires handlers { MeetsHandlerObligations (meaning_of policy.now) }
         requires at { IsAt (meaning_of policy.now) plan.now (λ s. Unit {0}) self.old }
         requires core { core < plan.now.cores }

@@ -1,5 +1,5 @@
 -- A view whose own entries are those that were told, once one more was drawn and told.
-use Rattle.std.proofs.Common.{◌≡◌, ℕ, ◌==◌, ◌||◌, Bool, true, false, cond, List, [], ◌∷◌, ◌++◌, filter, map, take, Option, Some, refl, sym, ap, ap₂, ◌∙◌, subst}
+use Rattle.std.proofs.Common.{◌≡◌, ℕ, ◌==◌, ◌||◌, Bool, true, false, cond, List, [], ◌∷◌, ◌++◌, filter, map, take, Option, Some, refl, sym, ap, ap₂, ◌∙◌, subst, arith, length, length-append}
 use Rattle.std.specs.List.{list_any}
 use Rattle.std.proofs.lemmas.List.{map-append}
 use Rattle.std.proofs.lemmas.List.Elements.{filter-append}
@@ -19,7 +19,7 @@ use Rattle.turn_steps.specs.Answers.{drawn, has_entry, told_so_far, with_told}
 use Rattle.turn_steps.specs.Reaches.{IsBehindThreads, with_attempt}
 use Rattle.turn_steps.specs.States.{IsTurnOf, TurnState, entering_by}
 use Rattle.turn_steps.specs.Views.{own_in, told_of}
-use Rattle.crew_play.specs.Steps.{HasLook, IsPlaying, IsSameTurn}
+use Rattle.crew_play.specs.Steps.{HasLook, IsPlaying, IsSameTurn, IsToldMore}
 
 pub or_false : (b : Bool) → (b || false) ≡ b
 or_false true = refl
@@ -101,3 +101,7 @@ same_turn told.Acted t u is = record { core = ap (λ (x : TurnState). x.core) is
 -- what it was told stands behind what it was told before
 pub told_behind_all : (answer : Told) (t u : TurnState) → u ≡ with_told answer t → told_so_far u ≡ told_so_far t ++ answer ∷ [] → told_so_far (with_told answer t) ≡ told_so_far t ++ answer ∷ []
 told_behind_all answer t u is more = sym (ap told_so_far is) ∙ more
+
+-- so it was told more
+pub told_more : (answer : Told) (t u : TurnState) → told_so_far u ≡ told_so_far t ++ answer ∷ [] → IsToldMore t u
+told_more answer t u more = let count = ap length more in let one = length-append (told_so_far t) (answer ∷ []) in omega arith

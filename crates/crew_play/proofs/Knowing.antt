@@ -31,13 +31,18 @@ own_small : (v : View) (t : TurnState) → IsAsTold t v → IsKnown v → length
 own_small v t said (h, ag) =
     let core = subst (IsTrueRole (meaning_in v) v.plan h v.own) said.of_core.role ag.role in let own = ap length core.is_own in
     let short = log_short (acts t.core) (round_start h) (drop (round_start h) h) in let rest = length-drop (round_start h) h in
-    let room = ag.reserve in let most = ag.fits.few_entries in
+    let room = ag.reserve in let most = ag.limits.few_entries in
     omega arith
 
--- fewer answers were told than a turn may be told
-pub told_few : (t : TurnState) (v : View) → IsAsTold t v → ∥ IsKnown v ∥₁ → length (told_so_far t) < 2 * MAX_ENTRIES
-told_few t v said known =
-    let own = le_by (length v.own) MAX_ENTRIES known (own_small v t said) in
+own_within : (v : View) (t : TurnState) → IsAsTold t v → IsKnown v → length v.own ≤ v.plan.limit
+own_within v t said (h, ag) =
+    let core = subst (IsTrueRole (meaning_in v) v.plan h v.own) said.of_core.role ag.role in let own = ap length core.is_own in
+    let short = log_short (acts t.core) (round_start h) (drop (round_start h) h) in let rest = length-drop (round_start h) h in
+    let room = ag.reserve in omega arith
+
+-- beside the entries two things are told
+told_own : (t : TurnState) (v : View) → IsAsTold t v → length (told_so_far t) ≤ length v.own + 2
+told_own t v said =
     let entries = length-map v.own (λ (l : Logged). l.entry) in let tells = length-map (own_in v) told_of in let same = ap length said.own in
     let whole : length (map Some (drawn t)) ≡ length (drawn t) = length-map (drawn t) Some in let count = drawn_count t in
     let all = length-append (replicate t.arrived told.Arrived) (replicate t.woke told.Woke ++ told_behind t.reached) in
@@ -51,3 +56,13 @@ told_few t v said known =
     two_more (reached.Worked did) = omega arith
     two_more (reached.Looked did look) = omega arith
     two_more (reached.Acted did look) = omega arith
+
+-- fewer answers were told than a turn may be told
+pub told_few : (t : TurnState) (v : View) → IsAsTold t v → ∥ IsKnown v ∥₁ → length (told_so_far t) < 2 * MAX_ENTRIES
+told_few t v said known =
+    let own = le_by (length v.own) MAX_ENTRIES known (own_small v t said) in let all = told_own t v said in omega arith
+
+-- and no more than the plan's limit and two
+pub told_within : (t : TurnState) (v : View) → IsAsTold t v → ∥ IsKnown v ∥₁ → length (told_so_far t) ≤ v.plan.limit + 2
+told_within t v said known =
+    let own = le_by (length v.own) v.plan.limit known (own_within v t said) in let all = told_own t v said in omega arith

@@ -6,5 +6,6 @@ pub mod Trying
 pub mod Ending
 pub mod Places
 pub mod Handing
+pub mod Passing
 pub mod Shares
 pub mod Crossing

@@ -18,7 +18,7 @@ use Rattle.select_phase.specs.Seen.{AreLast, Looked}
 use Rattle.steal_phase.specs.declared.outcome.Outcome.{Outcome}
 use Rattle.steal_phase.specs.declared.outcome.Outcome.TheVariants as outcome
 use Rattle.steal_phase.specs.Attempts.{HasAdded, MayAttempt, MayLook, entry_of, own_entries_in, position_of}
-use Rattle.core_calls.specs.Calls.{LooksAt, Tries, core_in}
+use Rattle.core_calls.specs.Calls.{LooksAt, MayTry, Tries, core_in}
 use Rattle.core_calls.proofs.Turning.{core_is}
 use Rattle.turn_steps.specs.declared.asking.Ask.{Ask}
 use Rattle.turn_steps.specs.declared.asking.Ask.TheVariants as ask
@@ -138,8 +138,10 @@ module _ (t : TurnState) (v : View) (p : IsPlaying t v) where
         free = p.free;
       };
       looked = kept.1;
-      last = kept.2;
     }
+
+    pub may_try : MayTry v look
+    may_try = record { may = may_attempt; last = kept.2 }
 
     module _ (o : Outcome) (now : View) (tried : Tries look o v now) where
       added : HasAdded t.core (position_of o) (entry_of look o) v now

@@ -197,6 +197,7 @@ module _ (t : TurnState) (v : View) (p : IsPlaying t v) where
         let ag = subst (λ (u : View). Agrees u h) none.rest agreed in let core = subst (IsTrueRole (meaning_in v) v.plan h v.own) none.marked ag.role in
         record {
           fits = ag.fits;
+          limits = ag.limits;
           handlers = ag.handlers;
           legal = ag.legal;
           reserve = ag.reserve;

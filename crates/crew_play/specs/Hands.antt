@@ -10,7 +10,7 @@ use Rattle.core_table.specs.Views.{leaving}
 use Rattle.turn_steps.specs.Reaches.{IsOver}
 use Rattle.turn_steps.specs.States.{TurnState, state_of}
 use Rattle.crew_play.specs.declared.hands.Hand.{Hand}
-use Rattle.crew_play.specs.Steps.{HasLooked, IsPlaying}
+use Rattle.crew_play.specs.Steps.{HasLooked, IsPlaying, IsToldMore}
 
 -- the turn of the hand
 abbrev pub turn_in : Hand → TurnState
@@ -39,6 +39,15 @@ IsCrew table Passed round first hands = (k : ℕ) (d : Hand) → k < length hand
 -- all turns are over
 abbrev pub AllOver : List Hand → Type 0
 AllOver hands = (k : ℕ) (d : Hand) → k < length hands → IsOver (turn_in (slice_index_or hands k d)).reached
+
+-- a step of a hand. Where its turn was over, the turn is as it was, and else it was told more than before
+pub record IsStep (before now : Hand) : Type 0 where
+  pub rests : IsOver (turn_in before).reached → turn_in now ≡ turn_in before
+  pub goes : ¬ IsOver (turn_in before).reached → IsToldMore (turn_in before) (turn_in now)
+
+-- one step of each hand
+abbrev pub AreSteps : (before now : List Hand) → Type 0
+AreSteps before now = (k : ℕ) (d : Hand) → k < length before → IsStep (slice_index_or before k d) (slice_index_or now k d)
 
 -- nobody has passed, and whoever
 abbrev pub Nobody : ℕ → ℕ → Type 0

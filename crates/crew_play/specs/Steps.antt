@@ -1,5 +1,5 @@
 -- A core's turn that is played step by step: what its turning knows, and what a step adds.
-use Rattle.std.specs.Prelude.{◌≡◌, ℕ, ◌⊎◌, Bool, true, false, List, [], Some}
+use Rattle.std.specs.Prelude.{◌≡◌, ℕ, ◌<◌, ◌⊎◌, Bool, true, false, List, [], length, Some}
 use Rattle.round_model.specs.declared.entry.Did.{Did}
 use Rattle.round_model.specs.declared.entry.Entry.{Entry}
 use Rattle.round_model.specs.declared.entry.Entry.TheVariants as entry
@@ -16,7 +16,7 @@ use Rattle.turn_steps.specs.declared.asking.Told.{Told}
 use Rattle.turn_steps.specs.declared.asking.Told.TheVariants as said
 use Rattle.turn_steps.specs.declared.reached.Reached.{Reached}
 use Rattle.turn_steps.specs.declared.reached.Reached.TheVariants as reached
-use Rattle.turn_steps.specs.Answers.{with_told}
+use Rattle.turn_steps.specs.Answers.{told_so_far, with_told}
 use Rattle.turn_steps.specs.Asks.{step_after}
 use Rattle.turn_steps.specs.Reaches.{IsBehindThreads, IsOver}
 use Rattle.turn_steps.specs.States.{IsTurnOf, TurnState}
@@ -50,6 +50,10 @@ pub record IsPlaying (t : TurnState) (v : View) : Type 0 where
 pub record IsSameTurn (before now : TurnState) : Type 0 where
   pub core : now.core ≡ before.core
   pub round : now.round ≡ before.round
+
+-- it was told more than before
+abbrev pub IsToldMore : (before now : TurnState) → Type 0
+IsToldMore before now = length (told_so_far before) < length (told_so_far now)
 
 -- the core's entry is that for which the model asks by this step
 abbrev pub IsEntryFor : (core : ℕ) → TurnStep → Entry → Type 0

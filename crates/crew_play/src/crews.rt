@@ -33,7 +33,8 @@ macro_rules! stage_of {
     };
 }
 
-/// The worker's share: its first core, the opening seat without the seats of its cores, and its hands.
+/// The worker's share: its first core, the opening seat without the seats of its cores, and its hands. It has a hand at
+/// least where there are no more workers than cores.
 fn deal_share<G: Gate>(
     stage: &Stage<'_>,
     gate: &G,
@@ -54,6 +55,7 @@ fn deal_share<G: Gate>(
     ensures crew { IsCrew (table_in stage.now) (G.passed gate.now) stage.now.round result.0 result.2.items }
     ensures len { result.0 + length result.2.items
         ≡ first_of (plan_of (table_in stage.now)).cores workers (worker + 1) }
+    ensures some { workers ≤ (plan_of (table_in stage.now)).cores → 0 < length result.2.items }
     ensures capacity { vec_capacity result.2 ≡ vec_capacity hands }
 {
     let cores = stage.table.cores();

@@ -3,7 +3,7 @@
 ghost use Rattle.std.specs.Prelude.{◌≡◌, ℕ, true, false, length, vec_capacity, IsTrue};
 ghost use Rattle.parallel_play.specs.Stages.{table_in};
 ghost use Rattle.turn_steps.specs.Reaches.{IsOver};
-ghost use Rattle.crew_play.specs.Hands.{AllOver, IsCrew, IsHandOf, turn_in};
+ghost use Rattle.crew_play.specs.Hands.{AllOver, AreSteps, IsCrew, IsHandOf, IsStep, turn_in};
 
 use crate::hands::Hand;
 use crate::stepping::crew_step;
@@ -18,6 +18,7 @@ fn step_hand<R: Wait, G: Gate>(rt: &R, stage: &Stage<'_>, gate: &G, hand: &mut H
     requires gate { (c : ℕ) → IsTrue (G.admits gate.now c stage.now.round) }
     ensures hand { IsHandOf (table_in stage.now) (G.passed gate.now) (turn_in hand.old).core stage.now.round hand.new }
     ensures over { result ≡ false → IsOver (turn_in hand.new).reached }
+    ensures step { IsStep hand.old hand.new }
 {
     let Some(seat) = hand.seat.take() else {
         unreachable!()
@@ -41,6 +42,7 @@ fn step_all<R: Wait, G: Gate>(
     requires gate { (c : ℕ) → IsTrue (G.admits gate.now c stage.now.round) }
     ensures crew { IsCrew (table_in stage.now) (G.passed gate.now) stage.now.round first hands.new.items }
     ensures over { result ≡ true → AllOver hands.new.items }
+    ensures steps { AreSteps hands.old.items hands.new.items }
     ensures len { length hands.new.items ≡ length hands.old.items }
     ensures capacity { vec_capacity hands.new ≡ vec_capacity hands.old }
 {
@@ -53,7 +55,8 @@ fn step_all<R: Wait, G: Gate>(
     over
 }
 
-/// The worker's part: its hands come back with their turns over.
+/// The worker's part: its hands come back with their turns over. Each pass tells each turn more that isn't over. A turn
+/// is told of no more entries than the plan's limit, and of two things besides: that nothing is due, and the look.
 pub(crate) fn play_hands<R: Wait, G: Gate>(
     rt: &R,
     stage: &Stage<'_>,
@@ -68,10 +71,11 @@ pub(crate) fn play_hands<R: Wait, G: Gate>(
     ensures len { length result.items ≡ length hands.items }
     ensures capacity { vec_capacity result ≡ vec_capacity hands }
 {
-    for _ in rt.forever() {
+    let passes = u64::from(stage.plan.limit) + 3;
+    for _ in 0..passes {
         if step_all(rt, stage, gate, first, &mut hands) {
             return hands;
         }
     }
-    unreachable!()
+    hands
 }

@@ -5,6 +5,7 @@ ghost use Rattle.sched_base.specs.declared.limits.TheConstants.{MAX_WORKERS};
 ghost use Rattle.policy_tree.specs.Meaning.{meaning_of};
 ghost use Rattle.policy_eval.specs.Obligations.{MeetsObligations};
 ghost use Rattle.round_model.specs.Fits.{Fits};
+ghost use Rattle.round_model.specs.Limits.{IsWithinLimits};
 ghost use Rattle.core_table.specs.Public.{Becomes, plan_of, policy_of};
 ghost use Rattle.core_table.specs.Views.{first_view};
 ghost use Rattle.parallel_play.specs.Runs.{RunsFull, RunsWhole};
@@ -45,6 +46,7 @@ pub fn run_crew<R: Threads + Wait + Sync, G: Gate + Sync>(
     gate: &G,
 ) -> Result<Closed, CrewFault>
     requires fits { Fits (meaning_of policy.now) plan.now }
+    requires limits { IsWithinLimits plan.now }
     requires opened { (policy.now ≡ policy_of table) × (plan.now ≡ plan_of table)
         × Becomes table seat (first_view policy.now plan.now) }
     requires workers { (1 ≤ workers) × (workers ≤ MAX_WORKERS) }
@@ -75,6 +77,7 @@ fn run_under<R: Threads + Wait + Sync, G: Gate + Sync>(
     gate: &G,
 ) -> Result<Closed, Closed>
     requires fits { Fits (meaning_of policy.now) plan.now }
+    requires limits { IsWithinLimits plan.now }
     requires meets { MeetsObligations (meaning_of policy.now) }
     requires opened { (policy.now ≡ policy_of table) × (plan.now ≡ plan_of table) }
     requires seat { Becomes table seat (first_view policy.now plan.now) }

@@ -3,7 +3,7 @@
 ghost use Rattle.std.specs.Prelude.{◌≡◌, ◌↔◌, false, IsTrue};
 ghost use Rattle.turn_steps.specs.Reaches.{IsOver};
 ghost use Rattle.turn_steps.specs.States.{state_of};
-ghost use Rattle.crew_play.specs.Steps.{HasLooked, IsPlaying, IsSameTurn, Steps};
+ghost use Rattle.crew_play.specs.Steps.{HasLooked, IsPlaying, IsSameTurn, IsToldMore, Steps};
 
 use crate::steps::{enter, look_behind_gate, try_by, wake_or_work, work};
 use core_calls::CoreCalls;
@@ -15,7 +15,8 @@ use turn_steps::{Ask, Turning};
 /// Carries out what the turn asks next, and tells it what came of that. Where no thread is due it goes on to the unit,
 /// and it passes the gate before it looks. False where the turn is over.
 ///
-/// Once a look is told, the gate was passed: that is a clause. That it is passed before the look, and once, is none.
+/// Before the core looks, the gate is passed: the call of a look asks for that. That it is passed behind the unit, and
+/// once, is no clause.
 pub fn crew_step<R: Wait, C: CoreCalls, G: Gate>(
     rt: &R,
     calls: &mut C,
@@ -34,6 +35,7 @@ pub fn crew_step<R: Wait, C: CoreCalls, G: Gate>(
     ensures steps { Steps result (state_of turning.old) (state_of turning.new)
         (C.view calls.old) (C.view calls.new) }
     ensures over { (result ≡ false) ↔ IsOver (state_of turning.old).reached }
+    ensures more { IsTrue result → IsToldMore (state_of turning.old) (state_of turning.new) }
     ensures passed { HasLooked (state_of turning.new).reached →
         G.passed gate.now (state_of turning.old).core (state_of turning.old).round }
 {

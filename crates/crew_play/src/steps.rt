@@ -8,7 +8,8 @@ ghost use Rattle.turn_steps.specs.declared.reached.Reached.TheVariants as reache
 ghost use Rattle.turn_steps.specs.Answers.{Awaits};
 ghost use Rattle.turn_steps.specs.Asks.{AsksAsModel};
 ghost use Rattle.turn_steps.specs.States.{state_of};
-ghost use Rattle.crew_play.specs.Steps.{AddsAsked, HasLooked, IsPlaying, IsSameTurn, LooksAsked};
+ghost use Rattle.crew_play.specs.Steps.{AddsAsked, HasLooked, IsPlaying, IsSameTurn, IsToldMore};
+ghost use Rattle.crew_play.specs.Steps.{LooksAsked};
 
 use core_calls::CoreCalls;
 use sched_base::ThreadId;
@@ -34,6 +35,7 @@ pub(crate) fn enter<R: Wait, C: CoreCalls>(
     ensures added { AddsAsked (state_of turning.old) (state_of turning.new)
         (C.view calls.old) (C.view calls.new) }
     ensures looked { HasLooked (state_of turning.new).reached → HasLooked (state_of turning.old).reached }
+    ensures more { IsToldMore (state_of turning.old) (state_of turning.new) }
 {
     calls.enter(rt, thread);
     turning.told(Told::Arrived);
@@ -51,6 +53,7 @@ pub(crate) fn wake_or_work<R: Wait, C: CoreCalls>(rt: &R, calls: &mut C, turning
     ensures added { AddsAsked (state_of turning.old) (state_of turning.new)
         (C.view calls.old) (C.view calls.new) }
     ensures looked { HasLooked (state_of turning.new).reached → HasLooked (state_of turning.old).reached }
+    ensures more { IsToldMore (state_of turning.old) (state_of turning.new) }
 {
     if calls.wake_next(rt, turning.round()).is_some() {
         turning.told(Told::Woke);
@@ -72,6 +75,7 @@ pub(crate) fn work<R: Wait, C: CoreCalls>(rt: &R, calls: &mut C, turning: &mut T
     ensures added { AddsAsked (state_of turning.old) (state_of turning.new)
         (C.view calls.old) (C.view calls.new) }
     ensures looked { HasLooked (state_of turning.new).reached → HasLooked (state_of turning.old).reached }
+    ensures more { IsToldMore (state_of turning.old) (state_of turning.new) }
 {
     let did = calls.work(rt, turning.round());
     turning.told(Told::Worked(did));
@@ -95,9 +99,10 @@ pub(crate) fn look_behind_gate<R: Wait, C: CoreCalls, G: Gate>(
     ensures looked { LooksAsked (state_of turning.old) (state_of turning.new)
         (C.view calls.old) (C.view calls.new) }
     ensures passed { G.passed gate.now (state_of turning.old).core (state_of turning.old).round }
+    ensures more { IsToldMore (state_of turning.old) (state_of turning.new) }
 {
     gate.pass(rt, turning.core(), turning.round());
-    let look = calls.look();
+    let look = calls.look(gate);
     turning.told(Told::Looked(look));
 }
 
@@ -118,6 +123,7 @@ pub(crate) fn try_by<R: Wait, C: CoreCalls>(
     ensures added { AddsAsked (state_of turning.old) (state_of turning.new)
         (C.view calls.old) (C.view calls.new) }
     ensures looked { HasLooked (state_of turning.new).reached → HasLooked (state_of turning.old).reached }
+    ensures more { IsToldMore (state_of turning.old) (state_of turning.new) }
 {
     calls.attempt(rt, look);
     turning.told(Told::Acted);

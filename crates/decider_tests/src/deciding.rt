@@ -42,7 +42,8 @@ pub(crate) fn decision(alloc: Global, text: &str) -> Result<String, AllocError> 
 }
 
 fn decided(alloc: Global, system: &System, budget: u64) -> Result<String, AllocError> {
-    match decide(alloc, system, budget) {
+    let mut looks = 0;
+    match decide(alloc, system, budget, &mut looks) {
         Ok(Answer::Holds(cert)) => String::from_str(alloc, certified(system, &cert)),
         Ok(Answer::Fails(point)) => String::from_str(alloc, solved(system, &point)),
         Ok(Answer::Undecided(points)) => undecided(alloc, points),

@@ -1,10 +1,12 @@
 //! Judges histories, entry by entry.
 
-ghost use Rattle.std.specs.Prelude.{◌≤◌, IfErr, IfOk, length};
+ghost use Rattle.std.specs.Prelude.{◌≤◌, IfErr, IfOk, OnOk, length};
 ghost use Rattle.policy_tree.specs.Meaning.{meaning_of};
-ghost use Rattle.policy_eval.specs.Obligations.{MeetsHandlerObligations};
+ghost use Rattle.policy_eval.specs.Obligations.{MeetsHandlerObligations, MeetsObligations};
 ghost use Rattle.round_model.specs.Fits.{Fits};
+ghost use Rattle.round_model.specs.Limits.{IsWithinLimits};
 ghost use Rattle.round_model.specs.Code.Past.{StandsFor};
+ghost use Rattle.round_laws.specs.MainTheorem.{KeepsLaws};
 ghost use Rattle.history_judge.specs.Judgement.{IsJudgement, MustBeWhole, StopsLegal};
 
 use crate::judgement::{ReplayFault, Replayed};
@@ -21,11 +23,15 @@ pub fn replay(
     history: &History,
 ) -> Result<Replayed, ReplayFault>
     requires fits { Fits (meaning_of policy.now) plan.now }
+    requires limits { IsWithinLimits plan.now }
     requires handlers { MeetsHandlerObligations (meaning_of policy.now) }
     requires few { length history.now ≤ MAX_ENTRIES }
     ensures judgement { IsJudgement (meaning_of policy.now) plan.now history.now result }
     // A whole history is found to be such, unless memory is wanting.
     ensures whole { MustBeWhole (meaning_of policy.now) plan.now history.now result }
+    // And where the policy meets its obligations, a whole history keeps the laws, whoever made it.
+    ensures laws { MeetsObligations (meaning_of policy.now) →
+        OnOk result (KeepsLaws (meaning_of policy.now) plan.now history.now) }
 {
     let past = legal_past(alloc, policy, plan, history.as_slice())?;
     if past.is_complete() && !round_due(plan, &past) {
@@ -46,6 +52,7 @@ fn legal_past(
     entries: &[Entry],
 ) -> Result<Past, ReplayFault>
     requires fits { Fits (meaning_of policy.now) plan.now }
+    requires limits { IsWithinLimits plan.now }
     requires handlers { MeetsHandlerObligations (meaning_of policy.now) }
     requires few { length entries.now ≤ MAX_ENTRIES }
     ensures stands { IfOk result (λ past. StandsFor (meaning_of policy.now) plan.now past entries.now) }

@@ -1,12 +1,13 @@
 -- The one list that closed logs come to: at each position the entry that some log has there.
-use Rattle.std.specs.Prelude.{ℕ, zero, suc, ◌==◌, cond, max, List, [], ◌∷◌, length, None, Option, Some}
+use Rattle.std.specs.Prelude.{◌<◌, ◌^◌, ℕ, zero, suc, ◌==◌, cond, max, All, List, [], ◌∷◌, length, None, Option, Some}
 use Rattle.std.specs.Option.{option_or}
 use Rattle.round_model.specs.declared.entry.Entry.{Entry}
 use Rattle.core_state.specs.declared.logged.Logged.{Logged}
-use Rattle.core_state.specs.Logs.{AreLogsOfOne, after_last}
+use Rattle.core_state.specs.Logs.{LogsOf, after_last}
 use Rattle.core_state.specs.Views.{ClosedView, CoreView}
-use Rattle.sched_history.specs.Ranges.{CanBePrinted}
-use Rattle.sched_history.specs.Spelling.{lines_of_history}
+use Rattle.sched_history.specs.Lines.{entry_lines}
+use Rattle.sched_history.specs.Ranges.{IsCoreCount, IsPrintableLine}
+use Rattle.sched_history.specs.Spelling.{lines_of_history, second_form}
 
 -- the entry that the log has at that position
 abbrev pub entry_in : ℕ → List Logged → Option Entry
@@ -45,10 +46,15 @@ merged_from closed at (suc count) = before (entry_of closed at) (merged_from clo
 unfoldable pub merged : ClosedView → List Entry
 merged closed = merged_from closed 0 (count_of closed)
 
--- the logs are those of one history, which can be printed for as many cores as there are
+-- the logs are those of one history, which has fewer than 2^32 entries
+abbrev pub AreLogsOfFew : ClosedView → Type 0
+AreLogsOfFew closed = (history : List Entry) × LogsOf history closed × (length history < 2 ^ 32)
+
+-- and each of its entries can be printed for as many cores as there are
 pub record CanBeWritten (closed : ClosedView) : Type 0 where
-  pub logs : AreLogsOfOne closed
-  pub printable : CanBePrinted (length closed.cores) (merged closed)
+  pub logs : AreLogsOfFew closed
+  pub count : IsCoreCount (length closed.cores)
+  pub lines : All IsPrintableLine (entry_lines 0 (second_form (length closed.cores)) (merged closed))
 
 -- the lines of that history's text
 abbrev pub text_lines : ClosedView → List (List ℕ)

@@ -3,6 +3,7 @@
 ghost use Rattle.std.specs.Prelude.{◌≡◌, IfOk, List, length};
 ghost use Rattle.round_model.specs.declared.entry.Entry.{Entry as ModelEntry};
 ghost use Rattle.core_state.specs.Logs.{AreLogsOfOne, LogsOf, after_last};
+ghost use Rattle.history_merge.specs.Merged.{AreLogsOfFew};
 
 use crate::cursors::Cursors;
 use crate::memory::HistoryMemory;
@@ -10,14 +11,12 @@ use core_state::{Closed, Logged};
 use round_model::History;
 use std::alloc::Global;
 
-/// The one history of which these are the logs. Its memory is taken at once; for `2^32` entries or more there is none.
+/// The one history of which these are the logs, of fewer than `2^32` entries. Its memory is taken at once.
 pub fn merge(alloc: Global, closed: &Closed) -> Result<History, HistoryMemory>
-    requires { AreLogsOfOne closed.now }
+    requires { AreLogsOfFew closed.now }
     ensures { IfOk result (λ history. LogsOf history closed.now) }
 {
-    let Ok(count) = u32::try_from(entry_count(closed)) else {
-        return Err(HistoryMemory::Memory);
-    };
+    let count = entry_count(closed) as u32;
     let mut entries = Vec::with_capacity(alloc, count as usize)?;
     let mut cursors = Cursors::start();
     for at in 0..count {

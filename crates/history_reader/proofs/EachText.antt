@@ -1,5 +1,6 @@
 -- Each text spells a history or has a first bad line.
-use Rattle.std.proofs.Common.{◌≡◌, ◌⊎◌, inl, inr, ℕ, zero, suc, ◌+◌, ◌<◌, ◌≤◌, List, [], ◌∷◌, ◌++◌, codes, get_or, length, ap, ◌∙◌, refl, arith}
+use Rattle.std.proofs.Common.{◌≡◌, ◌⊎◌, inl, inr, ℕ, zero, suc, ◌+◌, ◌<◌, ◌≤◌, List, [], ◌∷◌, ◌++◌, codes, get_or, length, ap, sym, ◌∙◌, refl, arith}
+use Rattle.std.specs.List.{flat_map}
 use Rattle.std.proofs.lemmas.Bool.{cases_lt}
 use Rattle.std.proofs.lemmas.List.{append-nil}
 use Rattle.std.proofs.lemmas.List.Elements.{All-nil}
@@ -9,9 +10,9 @@ use Rattle.round_model.specs.declared.entry.Entry.{Entry}
 use Rattle.round_model.specs.declared.entry.Entry.TheVariants as entry
 use Rattle.sched_history.specs.declared.forms.LineForm.{LineForm}
 use Rattle.sched_history.specs.declared.forms.LineForm.TheVariants as form
-use Rattle.sched_history.specs.Lines.{form_after}
+use Rattle.sched_history.specs.Lines.{entry_lines, form_after}
 use Rattle.sched_history.specs.Ranges.{ArePrintable, CanBePrinted, IsCoreCount, IsPrintableLine}
-use Rattle.sched_history.specs.Spelling.{header, line_in, second_form, text_in, text_of_history}
+use Rattle.sched_history.specs.Spelling.{header, line_in, line_of, second_form, spaced_number, text_in, text_of_history}
 use Rattle.history_reader.specs.Laws.{BadHeaderLaw, OneReading}
 use Rattle.history_reader.specs.Reading.{BeginsWith, BeginsWithNone, HasHeader, HasNoHeader, IsFirstBadLine, IsFirstBadOf, SpellsHistory, SpellsLines, bad_first, bad_second, in_first, in_second}
 use Rattle.history_reader.proofs.Decision.{Begins, Decided, begins, first_line, is_core_count}
@@ -67,6 +68,28 @@ has_header cores text = by (is_core_count cores) (begins (header cores) text)
     by (inl count) (inr none) = inr (λ lines has. none (lines, has.text_is))
     by (inl count) (inl (lines, is)) = inl (lines, record { count = count; text_is = is })
 
+abbrev front_byte : List ℕ → ℕ
+front_byte xs = get_or xs 0 0
+
+-- no entry's line begins as a header does
+no_header : (f : LineForm) (behind : List ℕ) (e : Entry) (tail : List ℕ) → codes "history" ++ behind ≡ line_in f e ++ tail → ⊥
+no_header f behind (entry.Round number) tail same = omega (arith, ap front_byte same)
+no_header f behind (entry.Enter thread by at reads) tail same = omega (arith, ap front_byte same)
+no_header f behind (entry.Wake thread by at reads) tail same = omega (arith, ap front_byte same)
+no_header f behind (entry.Work by did.Nothing) tail same = omega (arith, ap front_byte same)
+no_header f behind (entry.Work by (did.Kept thread)) tail same = omega (arith, ap front_byte same)
+no_header f behind (entry.Work by (did.Queued thread)) tail same = omega (arith, ap front_byte same)
+no_header f behind (entry.Work by (did.Blocked thread)) tail same = omega (arith, ap front_byte same)
+no_header f behind (entry.Work by (did.Ended thread)) tail same = omega (arith, ap front_byte same)
+no_header f behind (entry.Steal by from threads reads) tail same = omega (arith, ap front_byte same)
+no_header f behind (entry.Fail by from reads) tail same = omega (arith, ap front_byte same)
+no_header f behind (entry.Pass by reads) tail same = omega (arith, ap front_byte same)
+
+-- so a text of the first format has no header
+first_has_none : (cores : ℕ) (history : List Entry) → HasNoHeader cores (text_in form.First history)
+first_has_none cores [] lines has = let same = has.text_is in cc same
+first_has_none cores (e ∷ es) lines has = no_header form.First ((codes " 2 cores" ++ (spaced_number cores ++ codes "\n")) ++ lines) e (flat_map line_of (entry_lines 1 form.First es)) (sym has.text_is)
+
 module _ (cores : ℕ) where
   some : (text : List ℕ) → ((history : List Entry) × SpellsHistory cores text history) ⊎ ((line : ℕ) × IsFirstBadLine cores text line)
   some text = by (has_header cores text)
@@ -99,27 +122,12 @@ module _ (cores : ℕ) where
     not_both = not_both cores;
     a_text = a_text;
     one_text = λ text lines history has is. has.text_is ∙ ap (λ xs. header cores ++ xs) is.text_is;
+    a_first_text = λ history can. in_first (first_has_none cores history) (record { text_is = refl; printable = can });
+    one_first_text = λ text history none is. is.text_is;
   }
 
--- no entry's line begins as a header does
 no_header_line : (f : LineForm) (behind : List ℕ) → BeginsWithNone f (codes "history" ++ behind)
-no_header_line f behind e tail is = differs e is.1
-  where
-    first : List ℕ → ℕ
-    first xs = get_or xs 0 0
-
-    differs : (e : Entry) → codes "history" ++ behind ≡ line_in f e ++ tail → ⊥
-    differs (entry.Round number) same = omega (arith, ap first same)
-    differs (entry.Enter thread by at reads) same = omega (arith, ap first same)
-    differs (entry.Wake thread by at reads) same = omega (arith, ap first same)
-    differs (entry.Work by did.Nothing) same = omega (arith, ap first same)
-    differs (entry.Work by (did.Kept thread)) same = omega (arith, ap first same)
-    differs (entry.Work by (did.Queued thread)) same = omega (arith, ap first same)
-    differs (entry.Work by (did.Blocked thread)) same = omega (arith, ap first same)
-    differs (entry.Work by (did.Ended thread)) same = omega (arith, ap first same)
-    differs (entry.Steal by from threads reads) same = omega (arith, ap first same)
-    differs (entry.Fail by from reads) same = omega (arith, ap first same)
-    differs (entry.Pass by reads) same = omega (arith, ap first same)
+no_header_line f behind e tail is = no_header f behind e tail is.1
 
 pub bad_header : BadHeaderLaw
 bad_header cores behind none = bad_first none (record {

@@ -15,5 +15,5 @@ few_spelled cores text history (in_second lines has is) = is.printable.few
 
 pub can_be_printed : (p : Meaning) (trace text : List ℕ) (judged : Judged) → IsJudged p trace text judged → CanBePrinted judged.plan.cores judged.history
 can_be_printed p trace text judged is =
-    legal_is_printable p judged.plan judged.history is.gives.means.fits is.whole.legal
+    legal_is_printable p judged.plan judged.history is.gives.means.fits is.gives.means.limits is.whole.legal
     (few_spelled judged.plan.cores text judged.history is.gives.spells)

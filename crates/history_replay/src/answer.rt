@@ -10,6 +10,7 @@ ghost use Rattle.sched_history.specs.Spelling.{lines_of_history};
 ghost use Rattle.sched_io.specs.Puts.{Puts};
 ghost use Rattle.round_model.specs.Fits.{Fits};
 ghost use Rattle.round_model.specs.Legal.{Whole};
+ghost use Rattle.round_model.specs.Limits.{IsWithinLimits};
 ghost use Rattle.history_replay.specs.Judges.{IsMigrationOf, IsReplayOf, IsReportOf, TellsOf};
 ghost use Rattle.history_replay.specs.Lines.{IsShown, lines_of, whole_line};
 
@@ -129,6 +130,7 @@ pub fn migrate_texts(
 /// What is told of a whole history.
 fn reported(alloc: Global, policy: &Policy, judged: &Judged) -> Result<HistoryAnswer, PlayMemory>
     requires fits { Fits (meaning_of policy.now) judged.now.plan }
+    requires limits { IsWithinLimits judged.now.plan }
     requires meets { MeetsObligations (meaning_of policy.now) }
     requires whole { Whole (meaning_of policy.now) judged.now.plan judged.now.history }
     requires few { length judged.now.history ≤ MAX_ENTRIES }

@@ -1,15 +1,16 @@
 //! From the arguments of the process to its exit status.
 
-ghost use Rattle.std.specs.Prelude.{◌≡◌, ◌⊎◌, [], ◌∷◌, IfOk, OnErr, OnOk};
+ghost use Rattle.std.specs.Prelude.{◌≡◌, ◌⊎◌, [], ◌∷◌, IfOk};
 ghost use Rattle.std.specs.Process.{exit_status};
 ghost use Rattle.std.specs.Vec.Iter.{into_iter_items};
 ghost use Rattle.sched_io.specs.Faults.{Rose};
 ghost use Rattle.sched_io.specs.Loads.{AreRequested};
-ghost use Rattle.ipanema.specs.Arguments.{words_given};
+ghost use Rattle.ipanema.specs.Arguments.{Anyone, words_given};
 ghost use Rattle.command_words.specs.Command.{asked_by, words_of};
-ghost use Rattle.ipanema_cli.specs.Causes.{OneOf};
+ghost use Rattle.ipanema_cli.specs.Causes.{HasCause, OneOf};
 ghost use Rattle.ipanema_cli.specs.Ends.{Ends};
 ghost use Rattle.ipanema_cli.specs.Loads.{FirstAreLoaded, files_of};
+ghost use Rattle.ipanema_cli.specs.Truths.{IsTruthful};
 
 use ipanema_cli::{Status, ipanema};
 use sched_io::{Files, OpenGate, Sink};
@@ -33,6 +34,10 @@ pub fn exit_code<R: Threads + Wait + Sync, F: Files, S: Sink>(
 ) -> ExitCode
     ensures ends { Ends (asked_by (words_given args)) (F.told files.old)
         (Rose (F.faults files.old) (F.faults files.new)) (S.shown out.old) (S.shown out.new) (exit_status result) }
+    ensures causes { HasCause (asked_by (words_given args)) (F.told files.old)
+        (Rose (F.faults files.old) (F.faults files.new)) (S.shown out.old) (S.shown out.new) (exit_status result) }
+    ensures truthful { IsTruthful Anyone (asked_by (words_given args)) (F.told files.old)
+        (S.shown out.old).written (S.shown out.new).written (exit_status result) }
     ensures loads { FirstAreLoaded (asked_by (words_given args)) (F.told files.old)
         (F.requested files.old) (F.requested files.new) }
     ensures loaded { OneOf (0 ∷ 1 ∷ 2 ∷ 3 ∷ 7 ∷ 8 ∷ 9 ∷ 11 ∷ []) (exit_status result) →
@@ -43,18 +48,6 @@ pub fn exit_code<R: Threads + Wait + Sync, F: Files, S: Sink>(
     match words_of_arguments(alloc, args) {
         Ok(words) => ExitCode::from(ipanema(rt, alloc, &words, files, out, &OpenGate)),
         Err(_unstored) => ExitCode::from(Status::Memory.code()),
-    }
-}
-
-/// The status of the process whose output was flushed in that way: the call's own, and that of output which wasn't
-/// written whole where its last bytes weren't.
-pub fn status_after(code: ExitCode, flushed: io::Result<()>) -> ExitCode
-    ensures written { OnOk flushed (result ≡ code) }
-    ensures lost { OnErr flushed (exit_status result ≡ 5) }
-{
-    match flushed {
-        Ok(()) => code,
-        Err(_lost) => ExitCode::from(Status::WriteFault.code()),
     }
 }
 

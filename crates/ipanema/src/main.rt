@@ -3,20 +3,21 @@
 #![tactic(auto)]
 
 mod arguments;
+mod process;
 
-use arguments::{exit_code, status_after};
-use ipanema_cli::Status;
-use sched_io::{DiskFiles, StdoutSink};
-use std::io::{BufWriter, Write};
+use process::{Ended, carry_out};
+use sched_io::DiskFiles;
 use std::process::ExitCode;
 use std::{env, io};
 
 fn main(rt: HostRuntime) -> ExitCode {
     let mut files = DiskFiles::new(&rt);
-    let Ok(mut buffer) = BufWriter::new(rt.alloc(), io::writer(&rt)) else {
-        return ExitCode::from(Status::Memory.code());
-    };
-    let mut out = StdoutSink::new(&mut buffer);
-    let code = exit_code(&rt, rt.alloc(), env::args(&rt), &mut files, &mut out);
-    status_after(code, buffer.flush())
+    let Ended { code, writer: _ } = carry_out(
+        &rt,
+        rt.alloc(),
+        env::args(&rt),
+        &mut files,
+        io::writer(&rt),
+    );
+    code
 }

@@ -41,7 +41,7 @@ played_whole : (policy trace : Told) (text jobs : List ℕ) (p : Meaning) (histo
     → (made : plays.PlaysText p jobs (played.Whole history)) → code ≡ 0 → Adds (text_of_history made.plan.cores history) before after → PlaysTruly policy trace before after code
 played_whole policy trace text jobs p history before after code read made own added = record {
   whole = λ h.
-      let may = may_play policy trace text jobs p made.trace made.plan read made.spells made.means made.fits in
+      let may = may_play policy trace text jobs p made.trace made.plan read made.spells made.means made.fits made.limits in
       (p, made.plan, history, may, made.played, main_theorem p may.meets made.plan history made.fits made.played.whole.legal, added);
   full = λ h. absurd (omega arith);
   must = record {
@@ -62,7 +62,7 @@ played_full : (policy trace : Told) (text jobs : List ℕ) (p : Meaning) (histor
 played_full policy trace text jobs p history before after code read made own added = record {
   whole = λ h. absurd (omega arith);
   full = λ h.
-      let may = may_play policy trace text jobs p made.trace made.plan read made.spells made.means made.fits in
+      let may = may_play policy trace text jobs p made.trace made.plan read made.spells made.means made.fits made.limits in
       (p, made.plan, history, may, made.played, main_theorem p may.meets made.plan history made.fits made.played.legal, added);
   must = record {
     reaches_end = λ other plan held none.

@@ -57,7 +57,7 @@ module _ (Passed : ℕ → ℕ → Type 0) where
       → (made : RunsText p jobs (played.Whole history)) → AllPassed Passed made.plan (rounds_begun history) → code ≡ 0 → Adds (text_of_history made.plan.cores history) before after → RunsTruly Passed policy trace before after code
   ran_whole policy trace text jobs p history before after code read made past own added = record {
     whole = λ h.
-        let may = may_play policy trace text jobs p made.trace made.plan read made.spells made.means made.fits in
+        let may = may_play policy trace text jobs p made.trace made.plan read made.spells made.means made.fits made.limits in
         (p, made.plan, history, may, (made.ran, past), main_theorem p may.meets made.plan history made.fits made.ran.whole.legal, added);
     full = λ h. absurd (omega arith);
     must = record {
@@ -81,7 +81,7 @@ module _ (Passed : ℕ → ℕ → Type 0) where
   ran_full : (policy trace : Told) (text jobs : List ℕ) (p : Meaning) (history : List Entry) (before after : Option (List ℕ)) (code : ℕ) → Read policy trace text jobs p
       → (made : RunsText p jobs (played.Full history)) → AllPassed Passed made.plan (rounds_begun history) → code ≡ 8 → Adds (text_of_history made.plan.cores history) before after → RunsTruly Passed policy trace before after code
   ran_full policy trace text jobs p history before after code read made past own added =
-      let may = may_play policy trace text jobs p made.trace made.plan read made.spells made.means made.fits in
+      let may = may_play policy trace text jobs p made.trace made.plan read made.spells made.means made.fits made.limits in
       record {
         whole = λ h. absurd (omega arith);
         full = λ h. (p, made.plan, history, may, (made.ran, past), main_theorem p may.meets made.plan history made.fits made.ran.legal, added);

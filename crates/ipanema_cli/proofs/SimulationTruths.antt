@@ -1,12 +1,12 @@
 -- From how a command that simulates a trace ends to the truth of what it says.
 use Rattle.std.specs.Prelude.{IsFalse}
-use Rattle.std.proofs.Common.{◌≡◌, ◌≢◌, ℕ, inl, inr, List, [], ◌∷◌, ◌++◌, Option, append-nil, ap, refl, sym, ◌∙◌, arith, subst}
+use Rattle.std.proofs.Common.{◌≡◌, ◌≢◌, ℕ, ◌≤◌, inl, inr, List, [], ◌∷◌, ◌++◌, length, take, Option, append-nil, ap, refl, sym, ◌∙◌, arith, subst}
 use Rattle.std.proofs.lemmas.List.Folds.{flat_map-map}
 use Rattle.sched_io.specs.Puts.{joined}
 use Rattle.sched_io.specs.Shown.{Shown}
 use Rattle.sched_io.specs.Told.{Told}
 use Rattle.sched_io.specs.Written.{Adds}
-use Rattle.policy_eval.specs.Obligations.{MeetsHandlerObligations}
+use Rattle.policy_eval.specs.Obligations.{MeetsHandlerObligations, MeetsObligations}
 use Rattle.policy_tree.specs.Meaning.{Meaning, meaning_of}
 use Rattle.policy_checker.specs.Laws.{HasUncertainHandler}
 use Rattle.policy_checker.specs.Playable.{is_playable}
@@ -22,8 +22,13 @@ use Rattle.round_model.specs.declared.entry.Entry.{Entry}
 use Rattle.round_model.specs.declared.plan.Plan.{Plan}
 use Rattle.round_model.specs.declared.serial.Played.{Played}
 use Rattle.round_model.specs.declared.serial.Played.TheVariants as played
+use Rattle.round_model.specs.Legal.{Legal}
+use Rattle.round_model.specs.OnePlace.{OnePlace}
 use Rattle.round_model.specs.SerialEnds.{EndsWhole, IsFull, IsPlayed, StopsFull}
 use Rattle.round_model.specs.SerialRounds.{serial_rounds}
+use Rattle.round_laws.specs.MainTheorem.{KeepsLaws}
+use Rattle.round_laws.proofs.MainTheorem.{main_theorem}
+use Rattle.round_laws.proofs.OnePlace.{one_place_law}
 use Rattle.job_trace.specs.Plans.{SpellsPlan}
 use Rattle.job_trace.specs.TraceText.{SpellsTrace}
 use Rattle.sched_history.specs.Lines.{entry_lines}
@@ -138,6 +143,14 @@ module _ (policy trace : Told) (p : Meaning) (jobs : List ℕ) (may : MayHoldPla
   held_full other made plan k same is_plan full =
       subst (λ (q : Meaning). IsFull plan (serial_rounds q plan k)) same (subst (λ (x : Plan). IsFull x (serial_rounds p x k)) is_plan full)
 
+  -- each legal history of a plan that the trace means keeps the law of one place, and where the policy meets its
+  -- obligations, the others
+  stands : (plan : Plan) (history : List Entry) → plays.MeansPlan p jobs plan → Legal p plan history → (k : ℕ) → k ≤ length history → OnePlace p plan (take k history)
+  stands plan history means legal = one_place_law p plan history means.fits may.handlers legal
+
+  keeps : (plan : Plan) (history : List Entry) → plays.MeansPlan p jobs plan → Legal p plan history → MeetsObligations p → KeepsLaws p plan history
+  keeps plan history means legal meets = main_theorem p meets plan history means.fits legal
+
   held_plan : (made plan : Plan) (other : Meaning) → plays.MeansPlan p jobs made → DoSimulate policy trace other plan → made ≡ plan
   held_plan made plan other means held =
       let s = held_simulation other plan held in
@@ -163,7 +176,7 @@ module _ (policy trace : Told) (p : Meaning) (jobs : List ℕ) (may : MayHoldPla
         never : (other : Meaning) (plan : Plan) → DoSimulate policy trace other plan → ⊥
         never other plan held = let s = held_simulation other plan held in never_faulty p jobs held.lines plan fault s.spells s.means has
     came_truly bytes before after code (ended history made says own) added = record {
-      whole = λ h. record { p = p; jobs = jobs; may = may; plan = made.plan; means = made.means; history = history; ends = made.ends; bytes = bytes; says = says; written = added };
+      whole = λ h. record { p = p; jobs = jobs; may = may; plan = made.plan; means = made.means; history = history; ends = made.ends; one_place = stands made.plan history made.means made.ends.whole.legal; keeps = keeps made.plan history made.means made.ends.whole.legal; bytes = bytes; says = says; written = added };
       full = λ h. absurd (omega arith);
       must = record {
         reaches_end = λ other plan held none. rw own refl;
@@ -178,7 +191,7 @@ module _ (policy trace : Told) (p : Meaning) (jobs : List ℕ) (may : MayHoldPla
     }
     came_truly bytes before after code (filled history made says own) added = record {
       whole = λ h. absurd (omega arith);
-      full = λ h. record { p = p; jobs = jobs; may = may; plan = made.plan; means = made.means; history = history; ends = made.ends; bytes = bytes; says = says; written = added };
+      full = λ h. record { p = p; jobs = jobs; may = may; plan = made.plan; means = made.means; history = history; ends = made.ends; one_place = stands made.plan history made.means made.ends.legal; keeps = keeps made.plan history made.means made.ends.legal; bytes = bytes; says = says; written = added };
       must = record {
         reaches_end = λ other plan held none.
             let k : ℕ = made.ends.rounds in

@@ -24,6 +24,7 @@ use Rattle.policy_check.specs.declared.reading.Refusal.TheVariants as refusal
 use Rattle.round_model.specs.declared.entry.Entry.{Entry}
 use Rattle.round_model.specs.declared.plan.Plan.{Plan}
 use Rattle.round_model.specs.Fits.{Fits}
+use Rattle.round_model.specs.Limits.{IsWithinLimits}
 use Rattle.job_trace.specs.declared.trace.Numbered.{Numbered}
 use Rattle.job_trace.specs.Plans.{SpellsPlan}
 use Rattle.job_trace.specs.TraceText.{SpellsTrace}
@@ -157,8 +158,8 @@ still_meets policy trace text jobs p other read held =
     subst MeetsObligations (same_policy policy text p other read.policy_read read.accepted.spells held)
     (meets p (resolved policy text p read.policy_read read.accepted.spells) read.accepted.certified)
 
-pub may_play : (policy trace : Told) (text jobs : List ℕ) (p : Meaning) (lines : List Numbered) (plan : Plan) → Read policy trace text jobs p → SpellsTrace jobs lines → SpellsPlan p lines plan → Fits p plan → MayPlay policy trace p plan
-may_play policy trace text jobs p lines plan read spells means fits = record {
+pub may_play : (policy trace : Told) (text jobs : List ℕ) (p : Meaning) (lines : List Numbered) (plan : Plan) → Read policy trace text jobs p → SpellsTrace jobs lines → SpellsPlan p lines plan → Fits p plan → IsWithinLimits plan → MayPlay policy trace p plan
+may_play policy trace text jobs p lines plan read spells means fits limits = record {
   text = text;
   jobs = jobs;
   policy_read = read.policy_read;
@@ -169,6 +170,7 @@ may_play policy trace text jobs p lines plan read spells means fits = record {
   spells = spells;
   means = means;
   fits = fits;
+  limits = limits;
 }
 
 -- what was played has no other fault, and its policy is none that is refused

@@ -34,7 +34,7 @@ use Rattle.ipanema_cli.specs.VerifyTruths.{MayVerify, VerifiesTruly}
 use Rattle.ipanema_cli.specs.declared.answers.Answer.{Answer}
 use Rattle.ipanema_cli.specs.declared.answers.Answer.TheVariants as answer
 use Rattle.ipanema_cli.specs.declared.texts.TextKind.TheVariants as kind
-use Rattle.ipanema_cli.proofs.CheckTruths.{Stopped, at_4, at_5, at_6, not_long, refusal_not_0, stopped_not, stopped_refuses, tells_fault}
+use Rattle.ipanema_cli.proofs.CheckTruths.{Stopped, at_4, at_5, at_6, not_long, pays_if_equal, refusal_not_0, stopped_not, stopped_refuses, tells_fault}
 use Rattle.ipanema_cli.proofs.PolicyFacts.{judged_refuses, refused_refuses, refused_text, resolved, same_policy, text_read}
 use Rattle.ipanema_cli.proofs.WritesLemmas.{code_among, no_stop, one_line, whole}
 
@@ -156,7 +156,7 @@ module _ (policy certs : Told) (text file : List ℕ) (read : MayRead kind.Polic
           ends = rw own refl;
           verified = λ h. record {
             p = p;
-            verified = record { file = file; may = may; proves = is.proves; meets = met; wastes_no_core = main_theorem p met };
+            verified = record { file = file; may = may; proves = is.proves; meets = met; wastes_no_core = main_theorem p met; pays = pays_if_equal p met };
             written = subst (λ (systems : ℕ). Adds (verified_line systems) before after) is.systems added;
           };
           wrong = λ h. absurd (omega arith);

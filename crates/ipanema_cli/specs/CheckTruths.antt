@@ -21,6 +21,7 @@ use Rattle.policy_checker.specs.Certified.{IsCertified}
 use Rattle.policy_checker.specs.Outcomes.{HasOpen, IsTold, outcome_of}
 use Rattle.policy_checker.specs.Verdicts.{IsVerdict, policy_of}
 use Rattle.policy_checker.specs.declared.answer.Answered.{Answered}
+use Rattle.policy_checker.specs.declared.answer.ObAnswer.{ObAnswer}
 use Rattle.policy_checker.specs.declared.verdict.Verdict.{Verdict}
 use Rattle.policy_checker.specs.declared.verdict.Verdict.TheVariants as verdict
 use Rattle.policy_check.specs.Lines.{verdict_lines}
@@ -56,11 +57,14 @@ pub record Spells (policy : Told) (p : Meaning) : Type 0 where
 abbrev pub SomeIsOpen : Meaning → Type 0
 SomeIsOpen p = (name : ObName) × HasOpen (systems_of p (statement_of name))
 
--- What is told of an obligation has its reason, and is true.
-pub record IsToldTruly (p : Meaning) (answered : Answered) : Type 0 where
+-- What is told of the obligation of that name has its reason, and is true.
+pub record IsTrueOfOne (p : Meaning) (name : ObName) (answer : ObAnswer) : Type 0 where
   -- behind `holds` is a certificate that is right for each of its systems, behind `fails` a point that solves one
-  pub reason : obligation.IsAnswer CHECK_BUDGET (systems_of p (statement_of answered.name)) answered.answer
-  pub word : IsTold p answered.name (outcome_of answered.answer)
+  pub reason : obligation.IsAnswer CHECK_BUDGET (systems_of p (statement_of name)) answer
+  pub word : IsTold p name (outcome_of answer)
+
+abbrev pub IsToldTruly : Meaning → Answered → Type 0
+IsToldTruly p answered = IsTrueOfOne p answered.name answered.answer
 
 -- What a verdict says of each obligation is true.
 abbrev pub AllToldTruly : Meaning → Verdict → Type 0

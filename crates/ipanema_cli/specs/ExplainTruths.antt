@@ -14,7 +14,7 @@ use Rattle.policy_checker.specs.declared.answer.ObAnswer.TheVariants as answer
 use Rattle.policy_check.specs.Points.{explain_line}
 use Rattle.ipanema_cli.specs.Causes.{OneOf}
 use Rattle.ipanema_cli.specs.Status.{code_of, outcome_status}
-use Rattle.ipanema_cli.specs.CheckTruths.{IsToldTruly, MaySpell, Refuses, Spells, TellsFault}
+use Rattle.ipanema_cli.specs.CheckTruths.{IsTrueOfOne, MaySpell, Refuses, Spells, TellsFault}
 
 -- Where the answer is that the obligation fails, it fails at the answer's point.
 abbrev pub ShowsFailure : Meaning → ObName → ObAnswer → Type 0
@@ -27,7 +27,7 @@ pub record ExplainsFor (policy : Told) (name : ObName) (before after : Option (L
   pub p : Meaning
   pub answer : ObAnswer
   pub spelled : MaySpell policy p
-  pub told : IsToldTruly p (record { name = name; answer = answer })
+  pub told : IsTrueOfOne p name answer
   pub shows : ShowsFailure p name answer
   -- the variables of a point stand there by their names, in their order, each with its value
   pub written : Adds (explain_line p name answer) before after

@@ -1,15 +1,17 @@
 -- What `simulate` and `waste` say is true. Of waste it says nothing but what it tells: the policy may waste cores.
-use Rattle.std.specs.Prelude.{◌≡◌, ◌⊎◌, ℕ, List, [], ◌∷◌, Option}
+use Rattle.std.specs.Prelude.{◌≡◌, ◌⊎◌, ℕ, ◌≤◌, List, [], ◌∷◌, length, take, Option}
 use Rattle.sched_io.specs.Puts.{joined}
 use Rattle.sched_io.specs.Told.{Told}
 use Rattle.sched_io.specs.Written.{Adds}
-use Rattle.policy_eval.specs.Obligations.{MeetsHandlerObligations}
+use Rattle.policy_eval.specs.Obligations.{MeetsHandlerObligations, MeetsObligations}
 use Rattle.policy_tree.specs.Meaning.{Meaning}
 use Rattle.policy_checker.specs.Laws.{HasUncertainHandler}
 use Rattle.round_model.specs.declared.entry.Entry.{Entry}
 use Rattle.round_model.specs.declared.plan.Plan.{Plan}
+use Rattle.round_model.specs.OnePlace.{OnePlace}
 use Rattle.round_model.specs.SerialEnds.{EndsWhole, IsFull, StopsFull}
 use Rattle.round_model.specs.SerialRounds.{serial_rounds}
+use Rattle.round_laws.specs.MainTheorem.{KeepsLaws}
 use Rattle.job_trace.specs.declared.trace.Numbered.{Numbered}
 use Rattle.job_trace.specs.Plans.{SpellsPlan}
 use Rattle.job_trace.specs.TraceText.{SpellsTrace}
@@ -63,6 +65,10 @@ pub record WritesSimulated (Ends : Meaning → Plan → List Entry → Type 0)
   pub means : plays.MeansPlan p jobs plan
   pub history : List Entry
   pub ends : Ends p plan history
+  -- after each of its entries every thread stands where the history says
+  pub one_place : (k : ℕ) → k ≤ length history → OnePlace p plan (take k history)
+  -- and where the policy meets its obligations, the history keeps the other laws too
+  pub keeps : MeetsObligations p → KeepsLaws p plan history
   pub bytes : List ℕ
   pub says : Says p plan history bytes
   pub written : Adds bytes before after

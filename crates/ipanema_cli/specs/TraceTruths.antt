@@ -8,6 +8,7 @@ use Rattle.round_model.specs.declared.entry.Entry.{Entry}
 use Rattle.round_model.specs.declared.plan.Plan.{Plan}
 use Rattle.round_model.specs.Fits.{Fits}
 use Rattle.round_model.specs.Legal.{Whole}
+use Rattle.round_model.specs.Limits.{IsWithinLimits}
 use Rattle.round_model.specs.SerialRounds.{serial_rounds}
 use Rattle.round_laws.specs.MainTheorem.{KeepsLaws}
 use Rattle.job_trace.specs.declared.trace.Numbered.{Numbered}
@@ -27,7 +28,7 @@ use Rattle.ipanema_cli.specs.Texts.{MayRead}
 use Rattle.ipanema_cli.specs.declared.texts.TextKind.TheVariants as kind
 use Rattle.ipanema_cli.specs.CheckTruths.{AnswersFor, Holds, Refuses, SomeIsOpen, Spells, TellsFault}
 
--- The files may hold an accepted policy and a trace that means this plan under it.
+-- The files may hold an accepted policy and a trace that means this plan under it, which is within the limits.
 pub record MayPlay (policy trace : Told) (p : Meaning) (plan : Plan) : Type 0 where
   pub text : List ℕ
   pub jobs : List ℕ
@@ -39,6 +40,7 @@ pub record MayPlay (policy trace : Told) (p : Meaning) (plan : Plan) : Type 0 wh
   pub spells : SpellsTrace jobs lines
   pub means : SpellsPlan p lines plan
   pub fits : Fits p plan
+  pub limits : IsWithinLimits plan
 
 -- The files hold a policy that meets its obligations, none with too many cases, and a trace.
 pub record DoHold (policy trace : Told) (p : Meaning) (jobs : List ℕ) : Type 0 where

@@ -3,6 +3,7 @@ use Rattle.std.specs.Prelude.{◌≡◌, ◌⊎◌, ℕ, List, [], ◌∷◌, Op
 use Rattle.sched_io.specs.Told.{Told}
 use Rattle.sched_io.specs.Written.{Adds}
 use Rattle.policy_eval.specs.Obligations.{MeetsObligations}
+use Rattle.policy_eval.specs.Ranges.{greatest_weight, least_weight}
 use Rattle.policy_tree.specs.Meaning.{Meaning}
 use Rattle.obligations.specs.declared.names.ObName.{ObName}
 use Rattle.obligations.specs.Names.{ob_names}
@@ -13,7 +14,7 @@ use Rattle.policy_check.specs.declared.verifying.VerifyAnswer.TheVariants.{BadLi
 use Rattle.policy_check.specs.Verifying.{verified_line, verify_line}
 use Rattle.round_laws.specs.MainTheorem.{WastesNoCore}
 use Rattle.ipanema_cli.specs.Causes.{OneOf}
-use Rattle.ipanema_cli.specs.CheckTruths.{Holds, MaySpell, Refuses, Spells, TellsFault}
+use Rattle.ipanema_cli.specs.CheckTruths.{Holds, MaySpell, PaysForWaste, Refuses, Spells, TellsFault}
 use Rattle.ipanema_cli.specs.Texts.{MayRead}
 use Rattle.ipanema_cli.specs.declared.texts.TextKind.TheVariants as kind
 
@@ -34,6 +35,8 @@ pub record VerifiedPolicy (policy certs : Told) (p : Meaning) : Type 0 where
   -- and so, in every legal history of every plan that fits it, each thread stands in one place, each failed steal is
   -- explained, and still rounds conserve work
   pub wastes_no_core : WastesNoCore p
+  -- and where all threads weigh the same, wasted rounds fill idle cores
+  pub pays : least_weight p.load ≡ greatest_weight p.load → PaysForWaste p
 
 -- The policy is verified, and the number of its systems is written.
 pub record WritesVerified (policy certs : Told) (before after : Option (List ℕ)) : Type 0 where

@@ -14,6 +14,7 @@ use Rattle.round_model.specs.declared.plan.OrderLine.{OrderLine}
 use Rattle.round_model.specs.declared.plan.Plan.{Plan}
 use Rattle.round_model.specs.declared.plan.Planned.{Planned}
 use Rattle.round_model.specs.Fits.{Fits, OrderFits, ThreadFits}
+use Rattle.round_model.specs.Limits.{IsWithinLimits}
 use Rattle.job_trace.specs.declared.trace.TraceLine.{TraceLine}
 use Rattle.job_trace.specs.declared.trace.TraceLine.TheVariants.{Cores, Rounds, Entries, Core, Thread, Order}
 use Rattle.job_trace.specs.declared.trace.Numbered.{Numbered}
@@ -170,9 +171,6 @@ plan_of-fits p n m rest resolved (spelt, may, all) allowed =
     record {
       policy = resolved;
       some_cores = first.some;
-      few_cores = first.few;
-      few_rounds = second-rounds n m rest all.1;
-      few_entries = limit-fits [] trace (spelt, may, all);
       consts_each = length-consts p.core_attrs trace cores;
       consts = All-from_recursion (AreIn (attribute_ranges p.core_attrs)) (consts_of p.core_attrs trace cores) (consts-fit p.load p.core_attrs trace cores resolved.core_attrs allowed);
       few_threads = subst (λ ts. length ts ≤ MAX_THREADS) same (few-threads p cores (threads_of p.load (m ∷ rest)) fit apart);
@@ -187,3 +185,16 @@ plan-fits p [] plan resolved keeps spells = absurd (omega (arith, keeps.whole))
 plan-fits p (n ∷ []) plan resolved keeps spells = absurd (omega (arith, keeps.whole))
 plan-fits p (n ∷ m ∷ rest) plan resolved keeps spells =
     subst (λ q. Fits p q) (sym spells.is) (plan_of-fits p n m rest resolved keeps.each spells.fits)
+
+-- a trace keeps within the limits, whatever the policy
+plan_of-within : (p : Meaning) (n m : Numbered) (rest : List Numbered) → MayAllFollow [] (n ∷ m ∷ rest) → IsWithinLimits (plan_of p (n ∷ m ∷ rest))
+plan_of-within p n m rest (spelt, may, all) = record {
+  few_cores = (begins p n (m ∷ rest) may).few;
+  few_rounds = second-rounds n m rest all.1;
+  few_entries = limit-fits [] (n ∷ m ∷ rest) (spelt, may, all);
+}
+
+pub plan-within : (p : Meaning) (trace : List Numbered) (plan : Plan) → KeepsRules trace → SpellsPlan p trace plan → IsWithinLimits plan
+plan-within p [] plan keeps spells = absurd (omega (arith, keeps.whole))
+plan-within p (n ∷ []) plan keeps spells = absurd (omega (arith, keeps.whole))
+plan-within p (n ∷ m ∷ rest) plan keeps spells = subst IsWithinLimits (sym spells.is) (plan_of-within p n m rest keeps.each)

@@ -4,6 +4,7 @@ ghost use Rattle.std.specs.Prelude.{◌≡◌, ◌+◌, ◌<◌, ◌≤◌, ◌+
 ghost use Rattle.std.specs.Option.{option_to_list};
 ghost use Rattle.round_model.specs.declared.plan.Plan.{Plan};
 ghost use Rattle.round_model.specs.Fits.{Fits};
+ghost use Rattle.round_model.specs.Limits.{IsWithinLimits};
 ghost use Rattle.policy_eval.specs.Resolved.{IsResolved};
 ghost use Rattle.policy_tree.specs.Meaning.{meaning_of};
 ghost use Rattle.job_trace.specs.declared.plan_fault.PlanFault.{PlanFault};
@@ -25,6 +26,7 @@ use std::alloc::{AllocError, Global};
 pub fn plan(alloc: Global, trace: &Trace, policy: &Policy) -> Result<Plan, PlanFault>
     ensures plan { IfOk result (SpellsPlan (meaning_of policy.now) trace.now) }
     ensures fits { IsResolved (meaning_of policy.now) → IfOk result (Fits (meaning_of policy.now)) }
+    ensures limits { IfOk result IsWithinLimits }
     ensures fault { IfErr result (IsPlanFault (meaning_of policy.now) trace.now) }
 
     // A trace that means a plan isn't refused, and one that doesn't fit is refused for its first line that doesn't.

@@ -15,3 +15,4 @@ pub mod Joining
 pub mod Whole
 pub mod SumRows
 pub mod Inner
+pub mod HalvedPoints

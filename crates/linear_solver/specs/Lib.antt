@@ -11,4 +11,5 @@ pub mod Probes
 pub mod Insides
 pub mod Laws
 pub mod LocalSearch
+pub mod Looks
 pub mod Sizes

@@ -1,11 +1,13 @@
 //! The decider of linear systems.
 
-ghost use Rattle.std.specs.Prelude.{◌≡◌, ◌≤◌, ◌^◌, ◌<◌, false, IfOk, IsSomeAnd, IsTrue, ◌↔◌};
+ghost use Rattle.std.specs.Prelude.{◌≡◌, ◌+◌, ◌*◌, ◌≤◌, ◌^◌, ◌<◌, false, true, IfOk, IsSomeAnd, IsTrue, OnOk, ◌↔◌};
 ghost use Rattle.linear_form.specs.Points.{points_of};
 ghost use Rattle.sched_base.specs.declared.limits.TheConstants.{MAX_SPLITS};
 ghost use Rattle.linear_solver.specs.Decides.{Decides, DecidesUnlessOpen, HoldsIfRefuted, HoldsShallowly};
 ghost use Rattle.linear_solver.specs.Decides.{IsNumberOfPoints, IsUndecided};
 ghost use Rattle.linear_solver.specs.Found.{IsDecided, IsFound};
+ghost use Rattle.linear_solver.specs.Looks.{most_looks};
+ghost use Rattle.linear_solver.specs.declared.decider.TheConstants.{MAX_TERMS};
 
 use crate::answer::Answer;
 use crate::elimination::eliminate;
@@ -32,19 +34,26 @@ const NO_BUDGET: u64 = 0;
 /// nothing is tried.
 ///
 /// The search cuts ranges in halves and tests each row over what is left. It eliminates variables over the
-/// boxes that no row cuts, as Fourier and Motzkin do. Elimination of the whole system comes last.
-pub fn decide(alloc: Global, system: &System, budget: u64) -> Result<Answer, SolveMemory>
+/// boxes that no row cuts, as Fourier and Motzkin do. Elimination of the whole system comes last. The number of boxes that
+/// were looked at is added to `looks`, which stops at its greatest value.
+pub fn decide(
+    alloc: Global,
+    system: &System,
+    budget: u64,
+    looks: &mut u64,
+) -> Result<Answer, SolveMemory>
     ensures decides { IfOk result (Decides system.now.bounds system.now.rows) }
     ensures shallow { IfOk result HoldsShallowly }
     ensures open { IfOk result (DecidesUnlessOpen system.now.bounds system.now.rows budget) }
     ensures idle { budget ≡ 0 → IfOk result IsUndecided }
+    ensures looks { OnOk result (looks.new ≤ looks.old + most_looks budget) }
 {
     let points = system.points();
     if budget == NO_BUDGET {
         return Ok(Answer::Undecided(points));
     }
     let is_small = is_within(points, budget);
-    match searched(alloc, system, !is_small)? {
+    match searched(alloc, system, !is_small, looks)? {
         Found::Refuted(cert) => Ok(Answer::Holds(cert)),
         Found::Solved(point) => Ok(Answer::Fails(point)),
         Found::Stopped => tried(alloc, system, points),
@@ -87,16 +96,26 @@ fn is_within(points: Option<u128>, budget: u64) -> bool
 }
 
 // What a search of the whole system finds. Where it isn't limited it finds one or the other.
-fn searched(alloc: Global, system: &System, limited: bool) -> Result<Found, SolveMemory>
+fn searched(
+    alloc: Global,
+    system: &System,
+    limited: bool,
+    looks: &mut u64,
+) -> Result<Found, SolveMemory>
     ensures found { IfOk result (IsFound MAX_SPLITS system.now.bounds system.now.rows) }
     ensures decides { limited ≡ false → points_of system.now.bounds < 2 ^ 64
         → IfOk result IsDecided }
+    ensures few { OnOk result (looks.new ≤ looks.old + 2 * points_of system.now.bounds) }
+    ensures limited { limited ≡ true → OnOk result (looks.new ≤ looks.old + MAX_TERMS) }
 {
     let mut effort = Effort {
         limited,
         terms: MAX_TERMS,
         sums: MAX_SUMS,
+        looks: 0,
     };
     let part = Part::Open(system.bounds().to_vec(alloc)?);
-    search(alloc, system.rows(), part, MAX_SPLITS, &mut effort)
+    let found = search(alloc, system.rows(), part, MAX_SPLITS, &mut effort)?;
+    *looks = looks.saturating_add(effort.looks);
+    Ok(found)
 }

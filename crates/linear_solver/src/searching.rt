@@ -1,12 +1,14 @@
 //! The search for a solution or a certificate, over boxes that are cut ever smaller.
 
-ghost use Rattle.std.specs.Prelude.{◌≡◌, ◌≤◌, List, false, IfOk, IsTrue};
+ghost use Rattle.std.specs.Prelude.{◌≡◌, ◌+◌, ◌*◌, ◌<◌, ◌≤◌, List, false, IfOk, IsTrue, OnOk};
 ghost use Rattle.linear_form.specs.declared.form.Bound.{Bound};
+ghost use Rattle.linear_form.specs.Points.{points_of};
 ghost use Rattle.linear_form.specs.System.{IsSystem};
 ghost use Rattle.linear_cert.specs.Right.{cert_tree, split};
 ghost use Rattle.linear_solver.specs.Boxes.{height};
 ghost use Rattle.linear_solver.specs.Found.{GoesOn, IsDecided, IsFound, IsStep, height_of};
 ghost use Rattle.linear_solver.specs.Insides.{IsProbe};
+ghost use Rattle.linear_solver.specs.Looks.{IsSpent};
 ghost use Rattle.linear_solver.specs.Steps.{IsOpenRow, IsPart, IsSystemPart};
 
 use crate::choice::{Choice, Look, look_over, widest_in};
@@ -45,6 +47,8 @@ pub struct Effort {
     pub terms: u64,
     /// The number of sums that its probes may make.
     pub sums: u32,
+    /// The number of boxes that were looked at, which stops at its greatest value.
+    pub looks: u64,
 }
 
 /// What one look at a box gives.
@@ -57,7 +61,8 @@ pub enum Step {
 }
 
 /// Looks for a solution in a part of a box, or for a certificate that there is none. At most `room`
-/// splits stand one within another.
+/// splits stand one within another. Fewer boxes are looked at than twice the points of the part; and where the search is
+/// limited, no more than terms are taken.
 pub fn search(
     alloc: Global,
     rows: &[Row],
@@ -70,6 +75,9 @@ pub fn search(
         → IfOk result (IsFound room ranges rows.now) }
     ensures decides { effort.old.limited ≡ false → height_of part ≤ room → IfOk result IsDecided }
     ensures limited { effort.new.limited ≡ effort.old.limited }
+    ensures looks { (whole ranges : List Bound) → IsPart whole rows.now ranges part
+        → OnOk result (effort.new.looks < effort.old.looks + 2 * points_of ranges) }
+    ensures spent { OnOk result (IsSpent effort.old effort.new) }
 {
     let bounds = match part {
         Part::Closed(leaf) => return Ok(Found::Refuted(Cert::Leaf(leaf))),
@@ -120,6 +128,8 @@ fn look_at(
     ensures step { IfOk result (IsStep room bounds.now rows.now) }
     ensures decides { effort.old.limited ≡ false → height bounds.now ≤ room → IfOk result GoesOn }
     ensures limited { effort.new.limited ≡ effort.old.limited }
+    ensures looks { OnOk result (effort.new.looks ≤ effort.old.looks + 1) }
+    ensures spent { OnOk result (IsSpent effort.old effort.new) }
 {
     if !spends(effort, bounds, rows) {
         return Ok(Step::Done(Found::Stopped));
@@ -149,6 +159,8 @@ fn open_step(
     ensures step { IfOk result (IsStep room bounds.now rows.now) }
     ensures decides { height bounds.now ≤ room → IfOk result GoesOn }
     ensures limited { effort.new.limited ≡ effort.old.limited }
+    ensures looks { effort.new.looks ≡ effort.old.looks }
+    ensures terms { effort.new.terms ≡ effort.old.terms }
 {
     match probed(alloc, bounds, rows, room, effort, choice.cut.is_some())? {
         Probe::Leaf(leaf) => Ok(Step::Done(Found::Refuted(Cert::Leaf(leaf)))),
@@ -168,6 +180,8 @@ fn probed(
     requires { IsSystem (record { bounds = bounds.now; rows = rows.now }) }
     ensures probe { IfOk result (IsProbe bounds.now rows.now) }
     ensures limited { effort.new.limited ≡ effort.old.limited }
+    ensures looks { effort.new.looks ≡ effort.old.looks }
+    ensures terms { effort.new.terms ≡ effort.old.terms }
 {
     let is_whole = room == MAX_SPLITS;
     if effort.sums == 0 || (can_be_cut && !is_whole) {
@@ -226,19 +240,21 @@ fn cut_in_halves(
 fn spends(effort: &mut Effort, bounds: &[Bound], rows: &[Row]) -> bool
     ensures decides { effort.old.limited ≡ false → IsTrue result }
     ensures limited { effort.new.limited ≡ effort.old.limited }
+    ensures looks { effort.new.looks ≤ effort.old.looks + 1 }
+    ensures spent { IsSpent effort.old effort.new }
 {
-    if !effort.limited {
-        return true;
+    if effort.limited {
+        let terms = cost_of(bounds, rows).max(1);
+        if effort.terms < terms {
+            return false;
+        }
+        effort.terms -= terms;
     }
-    let terms = cost_of(bounds, rows);
-    if effort.terms < terms {
-        return false;
-    }
-    effort.terms -= terms;
+    effort.looks = effort.looks.saturating_add(1);
     true
 }
 
-// How many terms a look at a box looks at.
+// How many terms a look at a box looks at. One that has none counts as one.
 fn cost_of(bounds: &[Bound], rows: &[Row]) -> u64 {
     let mut cost = bounds.len() as u64;
     for row in rows {

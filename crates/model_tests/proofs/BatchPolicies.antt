@@ -15,6 +15,7 @@ use Rattle.policy_eval.specs.Sites.{choosing, electing, stealing}
 use Rattle.policy_eval.proofs.Statements.{all_obligations}
 use Rattle.round_model.specs.declared.plan.Planned.{Planned}
 use Rattle.round_model.specs.Fits.{Fits, ThreadFits}
+use Rattle.round_model.specs.Limits.{IsWithinLimits}
 use Rattle.fair_policy.proofs.ResolvedForms.{by_one_key, difference_linear, no_keys, number_linear, plain_case}
 use Rattle.model_tests.specs.Plans.{endless, seven_threads, six_threads, six_weights, three_weights, weighing}
 use Rattle.model_tests.specs.Policies.{in_batches, weighted}
@@ -210,9 +211,6 @@ six_threads_fit : (limit : ℕ) → 1 ≤ limit → limit ≤ 8 → Fits (in_bat
 six_threads_fit limit some few = record {
   policy = batched_resolved limit some few;
   some_cores = omega arith;
-  few_cores = omega arith;
-  few_rounds = omega arith;
-  few_entries = omega arith;
   consts_each = refl;
   consts = All-from_recursion (AreIn (attribute_ranges [])) six_threads.consts (zeros_fit, (zeros_fit, tt));
   few_threads = omega arith;
@@ -232,9 +230,6 @@ seven_threads_fit : (limit : ℕ) → 1 ≤ limit → limit ≤ 8 → Fits (in_b
 seven_threads_fit limit some few = record {
   policy = batched_resolved limit some few;
   some_cores = omega arith;
-  few_cores = omega arith;
-  few_rounds = omega arith;
-  few_entries = omega arith;
   consts_each = refl;
   consts = All-from_recursion (AreIn (attribute_ranges [])) seven_threads.consts (zeros_fit, (zeros_fit, tt));
   few_threads = omega arith;
@@ -264,9 +259,6 @@ six_weights_fit : (limit : ℕ) → 1 ≤ limit → limit ≤ 8 → Fits (weight
 six_weights_fit limit some few = record {
   policy = weighted_resolved limit some few;
   some_cores = omega arith;
-  few_cores = omega arith;
-  few_rounds = omega arith;
-  few_entries = omega arith;
   consts_each = refl;
   consts = All-from_recursion (AreIn (attribute_ranges [])) six_weights.consts (zeros_fit, (zeros_fit, tt));
   few_threads = omega arith;
@@ -295,9 +287,6 @@ three_weights_fit : (limit : ℕ) → 1 ≤ limit → limit ≤ 8 → Fits (weig
 three_weights_fit limit some few = record {
   policy = weighted_resolved limit some few;
   some_cores = omega arith;
-  few_cores = omega arith;
-  few_rounds = omega arith;
-  few_entries = omega arith;
   consts_each = refl;
   consts = All-from_recursion (AreIn (attribute_ranges [])) three_weights.consts (zeros_fit, (zeros_fit, tt));
   few_threads = omega arith;
@@ -324,6 +313,12 @@ batch_fits row.SixThreads limit some few = six_threads_fit limit some few
 batch_fits row.SevenThreads limit some few = seven_threads_fit limit some few
 batch_fits row.SixWeights limit some few = six_weights_fit limit some few
 batch_fits row.ThreeWeights limit some few = three_weights_fit limit some few
+
+pub batch_within : (row : BatchRow) → IsWithinLimits (plan_in row)
+batch_within row.SixThreads = record { few_cores = omega arith; few_rounds = omega arith; few_entries = omega arith }
+batch_within row.SevenThreads = record { few_cores = omega arith; few_rounds = omega arith; few_entries = omega arith }
+batch_within row.SixWeights = record { few_cores = omega arith; few_rounds = omega arith; few_entries = omega arith }
+batch_within row.ThreeWeights = record { few_cores = omega arith; few_rounds = omega arith; few_entries = omega arith }
 
 pub batched_policies_fit : BatchedPoliciesFit
 batched_policies_fit = record {

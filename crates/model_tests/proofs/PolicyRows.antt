@@ -18,6 +18,7 @@ use Rattle.policy_eval.specs.Sights.{pair_values, no_attributes}
 use Rattle.policy_eval.proofs.Statements.{all_obligations}
 use Rattle.round_model.specs.declared.plan.Planned.{Planned}
 use Rattle.round_model.specs.Fits.{Fits, OrderFits, ThreadFits}
+use Rattle.round_model.specs.Limits.{IsWithinLimits}
 use Rattle.model_tests.specs.Plans.{block_and_wake, eight_threads, endless, two_cores}
 use Rattle.fair_policy.specs.Fair.{fair_meaning as fair}
 use Rattle.model_tests.specs.Policies.{basic}
@@ -95,9 +96,6 @@ pub two_cores_fit : Fits basic two_cores
 two_cores_fit = record {
   policy = basic_resolved;
   some_cores = omega arith;
-  few_cores = omega arith;
-  few_rounds = omega arith;
-  few_entries = omega arith;
   consts_each = refl;
   consts = All-from_recursion (AreIn (attribute_ranges [])) two_cores.consts (zeros_fit, (zeros_fit, tt));
   few_threads = omega arith;
@@ -110,13 +108,13 @@ two_cores_fit = record {
     fit : (id : ℕ) → 1 ≤ id → id ≤ 8 → ThreadFits basic 2 (endless id)
     fit id positive small = endless_fits 2 id positive small (omega arith)
 
+pub two_cores_within : IsWithinLimits two_cores
+two_cores_within = record { few_cores = omega arith; few_rounds = omega arith; few_entries = omega arith }
+
 pub eight_threads_fit : Fits basic eight_threads
 eight_threads_fit = record {
   policy = basic_resolved;
   some_cores = omega arith;
-  few_cores = omega arith;
-  few_rounds = omega arith;
-  few_entries = omega arith;
   consts_each = refl;
   consts = All-from_recursion (AreIn (attribute_ranges [])) eight_threads.consts (zeros_fit, (zeros_fit, (zeros_fit, (zeros_fit, tt))));
   few_threads = omega arith;
@@ -179,9 +177,6 @@ pub block_and_wake_fits : Fits fair block_and_wake
 block_and_wake_fits = record {
   policy = fair_resolved;
   some_cores = omega arith;
-  few_cores = omega arith;
-  few_rounds = omega arith;
-  few_entries = omega arith;
   consts_each = refl;
   consts = All-from_recursion (AreIn (attribute_ranges [])) block_and_wake.consts (zeros_fit, (zeros_fit, tt));
   few_threads = omega arith;

@@ -4,6 +4,7 @@ ghost use Rattle.std.specs.Prelude.{◌≡◌, ◌≤◌, IfOk, length};
 ghost use Rattle.policy_tree.specs.Meaning.{meaning_of};
 ghost use Rattle.policy_eval.specs.Obligations.{MeetsHandlerObligations};
 ghost use Rattle.round_model.specs.Fits.{Fits};
+ghost use Rattle.round_model.specs.Limits.{IsWithinLimits};
 ghost use Rattle.model_tests.specs.Plans.{two_cores};
 ghost use Rattle.model_tests.specs.Policies.{basic};
 ghost use Rattle.model_tests.specs.Steps.{IsLegalLength};
@@ -21,6 +22,7 @@ pub fn legal_length(
     entries: &[Entry],
 ) -> Result<u32, ModelMemory>
     requires fits { Fits (meaning_of policy.now) plan.now }
+    requires limits { IsWithinLimits plan.now }
     requires handlers { MeetsHandlerObligations (meaning_of policy.now) }
     requires few { length entries.now ≤ MAX_ENTRIES }
     ensures { IfOk result (IsLegalLength (meaning_of policy.now) plan.now entries.now) }

@@ -115,7 +115,7 @@ ids_few p plan fits k d low = (fits.threads k d low).id_small
 module _ (begun : ℕ) (t : Tally) (v : View) (between : IsBetween begun t v) where
   pub entries_few : t.entries ≤ MAX_ENTRIES
   entries_few =
-      let h = between.known.0 in let ag = between.known.1 in let count = (between.counted h ag).entries in let room = ag.reserve in let most = ag.fits.few_entries in omega arith
+      let h = between.known.0 in let ag = between.known.1 in let count = (between.counted h ag).entries in let room = ag.reserve in let most = ag.limits.few_entries in omega arith
 
   -- the next round may begin
   pub may_begin : due_by v.plan begun t ≡ true → RoundFits v.plan t.entries → MayBeginRound v (begun + 1)
@@ -187,7 +187,7 @@ module _ (begun : ℕ) (t : Tally) (v : View) (between : IsBetween begun t v) wh
         rounds = sym (open_round (meaning_in w) w.plan g ag.legal) ∙ (sym ag.dated.round ∙ (ap (λ (u : View). u.round) b.played.rest ∙ ap (λ (u : View). u.round) b.begins.view));
         complete = ap (λ x. (rounds_begun g == 0) || x) (all_numbers (λ c. has_attempted (own_entries g c)) 0 w.plan.cores (λ c low. tried c (omega arith))) ∙ or_true (rounds_begun g == 0);
         entries =
-            let count = long in let room = ag.reserve in let most = ag.fits.few_entries in let more = b.more in let sum = b.played.entries in
+            let count = long in let room = ag.reserve in let most = ag.limits.few_entries in let more = b.more in let sum = b.played.entries in
             omega arith;
         ended = λ q low.
             has_ended_split (meaning_in w) w.plan g q ag.legal

@@ -4,6 +4,7 @@ ghost use Rattle.std.specs.Prelude.{◌≡◌, ℕ, IfErr, IfOk, IsTrue};
 ghost use Rattle.policy_tree.specs.Meaning.{meaning_of};
 ghost use Rattle.policy_eval.specs.Obligations.{MeetsObligations};
 ghost use Rattle.round_model.specs.Fits.{Fits};
+ghost use Rattle.round_model.specs.Limits.{IsWithinLimits};
 ghost use Rattle.core_table.specs.Public.{Becomes, plan_of, policy_of};
 ghost use Rattle.core_table.specs.Views.{first_view};
 ghost use Rattle.parallel_play.specs.Runs.{IsFaultOf, RunsWhole};
@@ -37,6 +38,7 @@ pub fn run_rounds<R: Threads + Wait + Sync, G: Gate + Sync>(
     gate: &G,
 ) -> Result<Closed, RunFault>
     requires fits { Fits (meaning_of policy.now) plan.now }
+    requires limits { IsWithinLimits plan.now }
     requires opened { (policy.now ≡ policy_of table) × (plan.now ≡ plan_of table) }
     requires seat { Becomes table seat (first_view policy.now plan.now) }
     requires gate { (c r : ℕ) → IsTrue (G.admits gate.now c r) }
@@ -56,6 +58,7 @@ fn run_under<R: Threads + Wait + Sync, G: Gate + Sync>(
     gate: &G,
 ) -> Result<Closed, RunFault>
     requires fits { Fits (meaning_of policy.now) plan.now }
+    requires limits { IsWithinLimits plan.now }
     requires meets { MeetsObligations (meaning_of policy.now) }
     requires opened { (policy.now ≡ policy_of table) × (plan.now ≡ plan_of table) }
     requires seat { Becomes table seat (first_view policy.now plan.now) }

@@ -33,8 +33,3 @@ values_more p vars vals at inside same =
 -- all of them
 pub values_whole : (p : Meaning) (vars : List ℕ) (vals : List ℤ) → flat_map (value_text p) (take (length vars) (zip vars vals)) ≡ values_text p vars vals
 values_whole p vars vals = ap (flat_map (value_text p)) (take_all (length vars) (zip vars vals) (let long = length-zip vars vals in omega arith))
-
--- what isn't some is none
-pub no_crowd : {X : Type 0} (found : Option X) → ((x : X) → found ≡ Some x → ⊥) → found ≡ None
-no_crowd None never = refl
-no_crowd (Some x) never = absurd (never x refl)

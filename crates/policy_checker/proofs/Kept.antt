@@ -1,5 +1,5 @@
 -- Answers of which none fails and none is left open keep a certificate for each system.
-use Rattle.std.proofs.Common.{◌≡◌, ℕ, Bool, true, false, ◌||◌, List, [], ◌∷◌, map, refl, subst}
+use Rattle.std.proofs.Common.{◌≡◌, ℕ, Bool, true, false, ◌||◌, List, [], ◌∷◌, Option, Some, None, map, refl, subst}
 use Rattle.std.specs.List.{AllByRecursion, AllZip}
 use Rattle.linear_form.specs.System.{LinearSystem}
 use Rattle.linear_cert.specs.declared.cert.Cert.{Cert}
@@ -15,6 +15,11 @@ use Rattle.policy_checker.specs.Verdicts.{Answers, AreAnswers, IsCertifiedUnder,
 use Rattle.policy_checker.specs.declared.answer.Answered.{Answered}
 use Rattle.policy_checker.specs.declared.answer.ObAnswer.{ObAnswer}
 use Rattle.policy_checker.specs.declared.answer.ObAnswer.TheVariants as answer
+
+-- what isn't some is none
+pub no_crowd : {X : Type 0} (found : Option X) → ((x : X) → found ≡ Some x → ⊥) → found ≡ None
+no_crowd None never = refl
+no_crowd (Some x) never = absurd (never x refl)
 
 pub certificates : (budget : ℕ) (systems : List LinearSystem) (certs : List Cert) → AllRefuted budget systems certs
     → AllZip (λ (system : LinearSystem) (cert : Cert). Refutes system (cert_tree cert)) systems certs

@@ -1,5 +1,5 @@
 -- What the answer to an obligation is worth. The systems are those of the obligation, in their order.
-use Rattle.std.specs.Prelude.{◌≡◌, ◌⊎◌, ◌+◌, ◌^◌, ◌<◌, ℕ, ℤ, List, [], ◌∷◌, Option, length}
+use Rattle.std.specs.Prelude.{◌≡◌, ◌⊎◌, ◌+◌, ◌*◌, ◌^◌, ◌<◌, ◌≤◌, ℕ, ℤ, List, [], ◌∷◌, Option, length}
 use Rattle.std.specs.List.{AllByRecursion, AllZip}
 use Rattle.linear_form.specs.Difference.{IsDifference}
 use Rattle.linear_form.specs.Solution.{Solves}
@@ -7,6 +7,7 @@ use Rattle.linear_form.specs.System.{LinearSystem}
 use Rattle.linear_cert.specs.declared.cert.Cert.{Cert}
 use Rattle.linear_cert.specs.Right.{CertTree, cert_tree}
 use Rattle.linear_solver.specs.Decides.{IsNumberOfPoints, MayStayOpen}
+use Rattle.linear_solver.specs.Looks.{most_looks}
 use Rattle.linear_solver.specs.declared.answer.Answer.{Answer}
 use Rattle.linear_solver.specs.declared.answer.Answer.TheVariants as found
 use Rattle.policy_checker.specs.Refuted.{Refutes}
@@ -65,6 +66,10 @@ abbrev pub IsAnswer : ℕ → List LinearSystem → ObAnswer → Type 0
 IsAnswer budget systems (answer.Holds certs) = AllRefuted budget systems certs
 IsAnswer budget systems (answer.Fails point) = IsFirstSolved budget systems point.vals
 IsAnswer budget systems (answer.Undecided points) = IsFirstLeft budget systems points
+
+-- That are few boxes to look at for an answer: for each system no more than one question may take.
+abbrev pub HasFewLooks : ℕ → List LinearSystem → ℕ → Type 0
+HasFewLooks budget systems looks = looks ≤ length systems * most_looks budget
 
 -- one certificate more has room in the list
 abbrev pub HasRoom : ObAnswer → Type 0

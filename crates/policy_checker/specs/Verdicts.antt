@@ -7,7 +7,7 @@ use Rattle.obligations.specs.declared.names.ObName.{ObName}
 use Rattle.obligations.specs.declared.obligation.Obligation.{Obligation}
 use Rattle.obligations.specs.Names.{ob_names, statement_of}
 use Rattle.obligations.specs.Systems.{systems_of}
-use Rattle.policy_checker.specs.Answers.{IsAnswer, MayBeDecided}
+use Rattle.policy_checker.specs.Answers.{HasFewLooks, IsAnswer, MayBeDecided}
 use Rattle.policy_checker.specs.Certified.{IsCertified}
 use Rattle.policy_checker.specs.declared.answer.Answered.{Answered}
 use Rattle.policy_checker.specs.declared.answer.ObAnswer.{ObAnswer}
@@ -45,11 +45,17 @@ Answers p budget answered = IsAnswer budget (systems_of p (statement_of answered
 pub record IsAnswerTo (budget : ℕ) (obligation : Obligation) (answered : Answered) : Type 0 where
   pub name : answered.name ≡ obligation.name
   pub answer : IsAnswer budget obligation.systems answered.answer
+  pub looks : HasFewLooks budget obligation.systems answered.looks
+
+-- so few boxes were looked at for it
+abbrev pub TookFewLooks : Meaning → ℕ → Answered → Type 0
+TookFewLooks p budget answered = HasFewLooks budget (systems_of p (statement_of answered.name)) answered.looks
 
 -- the answers to all obligations, in their order
 pub record AreAnswers (p : Meaning) (budget : ℕ) (answers : List Answered) : Type 0 where
   pub names : map (λ (answered : Answered). answered.name) answers ≡ ob_names
   pub each : AllByRecursion (Answers p budget) answers
+  pub looks : AllByRecursion (TookFewLooks p budget) answers
 
 -- each system of each of these obligations may be decided under the budget
 abbrev pub MayAllBeDecided : Meaning → ℕ → List ObName → Type 0

@@ -1,20 +1,21 @@
 //! Accepted policies.
 
-ghost use Rattle.std.specs.Prelude.{◌≡◌, Some, map, slice_get};
+ghost use Rattle.std.specs.Prelude.{◌≡◌, None, Some, map, slice_get};
 ghost use Rattle.linear_cert.specs.Right.{cert_tree};
 ghost use Rattle.policy_tree.specs.Meaning.{meaning_of};
 ghost use Rattle.policy_eval.specs.Obligations.{MeetsObligations};
 ghost use Rattle.policy_eval.specs.Resolved.{IsResolved};
+ghost use Rattle.obligations.specs.Counts.{first_crowded};
 ghost use Rattle.obligations.specs.Names.{ob_names};
 ghost use Rattle.policy_checker.specs.Certified.{Certifies, IsCertified, KeepAll};
 
 use crate::answer::{CertList, ObAnswer, ObAnswers};
 use crate::playing::PlayablePolicy;
-use obligations::ObName;
+use obligations::{ObName, ob_names};
 use policy_tree::Policy;
 use std::marker::Model;
 
-/// A policy that meets all its obligations.
+/// A policy that meets all its obligations, none of which has too many cases.
 ///
 /// It keeps a certificate for every system of every obligation, in their order, which is right for the system. A
 /// contract sees the policy alone.
@@ -38,9 +39,13 @@ impl Model for AcceptedPolicy {
 
     ghost view = { λ a. a.policy };
 
+    ghost use Rattle.std.specs.Prelude.{◌≡◌, None};
+    ghost use Rattle.obligations.specs.Counts.{first_crowded};
+    ghost use Rattle.obligations.specs.Names.{ob_names};
     ghost use Rattle.policy_checker.specs.Certified.{KeepAll};
 
-    ghost invariant = { λ a. IsResolved (meaning_of a.policy) × KeepAll (meaning_of a.policy) a.answers };
+    ghost invariant = { λ a. IsResolved (meaning_of a.policy) × KeepAll (meaning_of a.policy) a.answers
+        × (first_crowded (meaning_of a.policy) ob_names ≡ None) };
 }
 
 impl AcceptedPolicy {
@@ -48,6 +53,7 @@ impl AcceptedPolicy {
     pub(crate) fn new(policy: Policy, answers: ObAnswers) -> AcceptedPolicy
         requires resolved { IsResolved (meaning_of policy) }
         requires kept { KeepAll (meaning_of policy) answers }
+        requires few { first_crowded (meaning_of policy) ob_names ≡ None }
         ensures { result ≡ policy }
     {
         AcceptedPolicy { policy, answers }
@@ -68,6 +74,16 @@ impl AcceptedPolicy {
         ensures { result ≡ self }
     {
         PlayablePolicy::new(self.policy, self.answers)
+    }
+
+    /// The names of its obligations, none of which has too many cases.
+    pub fn obligations(&self) -> &[ObName]
+        ensures names { result.now ≡ ob_names }
+        ensures few { first_crowded (meaning_of self.now) ob_names ≡ None }
+    {
+        // The type's invariant is known where one of its fields is named.
+        let _ = &self.policy;
+        ob_names()
     }
 
     /// The certificates of that obligation, one for each of its systems, in their order.

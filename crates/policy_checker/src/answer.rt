@@ -35,6 +35,8 @@ pub enum ObAnswer {
 pub struct Answered {
     pub name: ObName,
     pub answer: ObAnswer,
+    /// How many boxes were looked at for it.
+    pub looks: u64,
 }
 
 /// Answers to the obligations of a policy, in the order in which they are reported.

@@ -1,6 +1,6 @@
 //! The check of a policy.
 
-ghost use Rattle.std.specs.Prelude.{◌≡◌, ◌↔◌, ℕ, Err, IfErr, IfOk, Some, length, vec_len};
+ghost use Rattle.std.specs.Prelude.{◌≡◌, ◌↔◌, ℕ, Err, IfErr, IfOk, None, Some, length, vec_len};
 ghost use Rattle.std.specs.List.{AllZip};
 ghost use Rattle.policy_tree.specs.Meaning.{meaning_of};
 ghost use Rattle.policy_eval.specs.Resolved.{IsResolved};
@@ -15,7 +15,7 @@ ghost use Rattle.policy_checker.specs.declared.verdict.CheckFault.TheVariants.{C
 
 use crate::accepted::AcceptedPolicy;
 use crate::answer::{Answered, ObAnswers};
-use crate::deciding::answer_to;
+use crate::deciding::{Reached, answer_to};
 use crate::verdict::{CheckFault, Verdict};
 use lists::Items;
 use obligations::{Obligation, ObligeFault, oblige};
@@ -71,10 +71,11 @@ fn answers_to(
 {
     let mut answers = Vec::new(alloc);
     for obligation in obligations {
-        let answer = answer_to(alloc, obligation.systems.as_slice(), budget)?;
+        let Reached { answer, looks } = answer_to(alloc, obligation.systems.as_slice(), budget)?;
         answers.push(Answered {
             name: obligation.name,
             answer,
+            looks,
         })?;
     }
     Ok(answers)
@@ -84,6 +85,7 @@ fn answers_to(
 fn verdict_of(answers: ObAnswers, policy: Policy) -> Verdict
     requires resolved { IsResolved (meaning_of policy) }
     requires answers { (budget : ℕ) × AreAnswers (meaning_of policy) budget answers }
+    requires few { first_crowded (meaning_of policy) ob_names ≡ None }
     ensures verdict { (budget : ℕ) → AreAnswers (meaning_of policy) budget answers →
         IsVerdict (meaning_of policy) budget result }
     ensures keeps { policy_of result ≡ policy }

@@ -9,11 +9,11 @@ ghost use Rattle.obligations.specs.declared.names.ObName.{ObName};
 ghost use Rattle.obligations.specs.Counts.{first_crowded};
 ghost use Rattle.obligations.specs.DifferencePolicies.{ComparesDifferences};
 ghost use Rattle.obligations.specs.Names.{ob_names};
-ghost use Rattle.policy_checker.specs.Answers.{IsAnswer};
+ghost use Rattle.policy_checker.specs.Answers.{HasFewLooks, IsAnswer};
 ghost use Rattle.policy_checker.specs.LastThreads.{IsOneOf};
 ghost use Rattle.policy_checker.specs.Verdicts.{is_left};
 
-use crate::deciding::answer_to;
+use crate::deciding::{Reached, answer_to};
 use crate::one::{One, OneFault};
 use obligations::{LastWaiting, Question, last_waiting};
 use policy_tree::Policy;
@@ -54,6 +54,8 @@ fn both_of(alloc: Global, last: LastWaiting, budget: u64) -> Result<LastOnes, Al
         (ones.filter.vars ≡ last.filter.vars) × (ones.batch.vars ≡ last.batch.vars)) }
     ensures answers { IfOk result (λ ones. IsAnswer budget last.filter.systems ones.filter.answer
         × IsAnswer budget last.batch.systems ones.batch.answer) }
+    ensures looks { IfOk result (λ ones. HasFewLooks budget last.filter.systems ones.filter.looks
+        × HasFewLooks budget last.batch.systems ones.batch.looks) }
 {
     let filter = one_of(alloc, last.filter, budget)?;
     let batch = one_of(alloc, last.batch, budget)?;
@@ -64,10 +66,12 @@ fn both_of(alloc: Global, last: LastWaiting, budget: u64) -> Result<LastOnes, Al
 fn one_of(alloc: Global, question: Question, budget: u64) -> Result<One, AllocError>
     ensures vars { IfOk result (λ one. one.vars ≡ question.vars) }
     ensures answer { IfOk result (λ one. IsAnswer budget question.systems one.answer) }
+    ensures looks { IfOk result (λ one. HasFewLooks budget question.systems one.looks) }
 {
-    let answer = answer_to(alloc, question.systems.as_slice(), budget)?;
+    let Reached { answer, looks } = answer_to(alloc, question.systems.as_slice(), budget)?;
     Ok(One {
         vars: question.vars,
         answer,
+        looks,
     })
 }

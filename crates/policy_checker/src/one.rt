@@ -8,11 +8,11 @@ ghost use Rattle.obligations.specs.Counts.{first_crowded};
 ghost use Rattle.obligations.specs.DifferencePolicies.{ComparesDifferences};
 ghost use Rattle.obligations.specs.Names.{ob_names, statement_of};
 ghost use Rattle.obligations.specs.Systems.{systems_of, variables_of};
-ghost use Rattle.policy_checker.specs.Answers.{IsAnswer};
+ghost use Rattle.policy_checker.specs.Answers.{HasFewLooks, IsAnswer};
 ghost use Rattle.policy_checker.specs.Verdicts.{is_left};
 
 use crate::answer::ObAnswer;
-use crate::deciding::answer_to;
+use crate::deciding::{Reached, answer_to};
 use obligations::{ObName, ObligeFault, VarList, oblige_one};
 use policy_tree::Policy;
 use std::alloc::Global;
@@ -27,6 +27,8 @@ pub struct One {
     pub vars: VarList,
     /// What was found out.
     pub answer: ObAnswer,
+    /// How many boxes were looked at for it.
+    pub looks: u64,
 }
 
 /// Decides the systems of one obligation, as `check_policy` does. The cases of all obligations are counted.
@@ -39,12 +41,15 @@ pub fn check_one(alloc: Global, policy: &Policy, ob: ObName, budget: u64) -> Res
         IsAnswer budget (systems_of (meaning_of policy.now) (statement_of ob)) one.answer) }
     ensures decided { ComparesDifferences (meaning_of policy.now) →
         IfOk result (λ one. IsFalse (is_left one.answer)) }
+    ensures looks { IfOk result (λ one.
+        HasFewLooks budget (systems_of (meaning_of policy.now) (statement_of ob)) one.looks) }
 {
     match oblige_one(alloc, policy, ob) {
         Ok(obligation) => match answer_to(alloc, obligation.systems.as_slice(), budget) {
-            Ok(answer) => Ok(One {
+            Ok(Reached { answer, looks }) => Ok(One {
                 vars: obligation.vars,
                 answer,
+                looks,
             }),
             Err(_unmade) => Err(OneFault::Memory),
         },

@@ -12,7 +12,7 @@ ghost use Rattle.policy_checker.specs.RestGaps.{IsAsked, IsKnownGap, IsLeastGap,
 ghost use Rattle.policy_checker.specs.Verdicts.{is_left};
 
 use crate::answer::ObAnswer;
-use crate::deciding::answer_to;
+use crate::deciding::{Reached, answer_to};
 use crate::one::One;
 use linear_form::Point;
 use obligations::{VarList, greatest_load, rest_gap};
@@ -49,10 +49,11 @@ pub fn check_gap(alloc: Global, policy: &Policy, gap: u32, budget: u64) -> Resul
         IfOk result (λ one. IsFalse (is_left one.answer)) }
 {
     let question = rest_gap(alloc, policy, gap)?;
-    let answer = answer_to(alloc, question.systems.as_slice(), budget)?;
+    let Reached { answer, looks } = answer_to(alloc, question.systems.as_slice(), budget)?;
     Ok(One {
         vars: question.vars,
         answer,
+        looks,
     })
 }
 
@@ -115,7 +116,7 @@ fn ask(alloc: Global, policy: &Policy, gap: u32, budget: u64) -> Result<Asked, A
     ensures found { IfOk result (IsAsked (meaning_of policy.now) budget gap) }
     ensures decided { ComparesDifferences (meaning_of policy.now) → IfOk result IsToldOf }
 {
-    let One { vars, answer } = check_gap(alloc, policy, gap, budget)?;
+    let One { vars, answer, .. } = check_gap(alloc, policy, gap, budget)?;
     match answer {
         ObAnswer::Holds(_certs) => Ok(Asked::Left),
         ObAnswer::Fails(point) => Ok(Asked::Passed(WiderGap { gap, vars, point })),

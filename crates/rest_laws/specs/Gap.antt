@@ -1,4 +1,5 @@
--- The gap at rest: where the filter fails only of a victim that has little more than the thief, all cores at rest have about the same.
+-- The gap at rest: where the filter fails only of a victim that has little more than the thief, all cores at rest have
+-- about the same.
 use Rattle.std.specs.Prelude.{◌≡◌, ℕ, ◌+◌, ◌<◌, ◌≤◌, List, take}
 use Rattle.policy_tree.specs.Meaning.{Meaning}
 use Rattle.policy_eval.specs.Obligations.{MeetsHandlerObligations, RestGap}
@@ -25,8 +26,8 @@ RestGapLaw = (p : Meaning) (plan : Plan) (history : List Entry) (g k : ℕ) → 
     → Legal p plan history → RestGap p g → ¬ RestlessAt p plan history k
     → LoadsWithin plan (after p plan (take k history)) g
 
--- where all threads weigh the same and the gap is one thread's weight, no two thread counts differ by more than 1: each core
--- has its share of all threads, rounded down or up. Where loads are counts, that weight is 1
+-- where all threads weigh the same and the gap is one thread's weight, no two thread counts differ by more than 1: each
+-- core has its share of all threads, rounded down or up. Where loads are counts, that weight is 1
 abbrev pub EvenCountsLaw : Type 0
 EvenCountsLaw = (p : Meaning) (plan : Plan) (history : List Entry) (k : ℕ) → Fits p plan → MeetsHandlerObligations p
     → Legal p plan history → least_weight p.load ≡ greatest_weight p.load → RestGap p (least_weight p.load)

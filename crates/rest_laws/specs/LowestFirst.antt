@@ -1,5 +1,5 @@
--- The law "lowest first": where the filter looks at how far the victim is ahead, each restless round raises a core of the least
--- thread count. So restless rounds are fewer than the threads above that count at first.
+-- The law "lowest first": where the filter looks at how far the victim is ahead, each restless round raises a core of
+-- the least thread count. So restless rounds are fewer than the threads above that count at first.
 use Rattle.std.specs.Prelude.{◌≡◌, ℕ, ◌+◌, ◌-◌, ◌/◌, ◌<◌, ◌≤◌, List, length, take, sum_by, All, ℤ, Option, None, Some}
 use Rattle.std.specs.List.Sorted.{IsStrictlyIncreasing}
 use mathlib.Core.Option.{some}
@@ -29,8 +29,8 @@ LowerSeesAsMuch p = (own victim lower seen : CoreValues) → CoreFits p own → 
     → CoreFits p seen → seen.consts ≡ victim.consts → Holds (pair_values own victim) p.filter
     → lower.nr ≤ own.nr → victim.nr + lower.nr ≤ seen.nr + own.nr → Holds (pair_values lower seen) p.filter
 
--- so does a core with two threads fewer than a thief whose batch goes on, also once that one has moved its thread. Without a
--- batch there is no such move
+-- so does a core with two threads fewer than a thief whose batch goes on, also once that one has moved its thread.
+-- Without a batch there is no such move
 abbrev pub BatchLeavesSeen : Meaning → Option BatchTree → Type 0
 BatchLeavesSeen p None = Unit {0}
 BatchLeavesSeen p (Some batch) = (own victim lower seen : CoreValues) (weight : ℕ) (attrs : List ℤ) → CoreFits p own
@@ -104,28 +104,32 @@ module _ (p : Meaning) (plan : Plan) (history : List Entry) where
     pub reads : List ℕ
     pub stands : get_elem? history position ≡ some (entry.Steal by from threads reads)
     pub in_round : round_at history position ≡ number
-    pub least : EachHas plan (after p plan (take position history)) (thread_count (after p plan (take position history) by))
+    pub least : EachHas plan (after p plan (take position history))
+        (thread_count (after p plan (take position history) by))
 
   -- a restless and still round has such a steal
   abbrev pub RestlessRoundsRaise : Type 0
   RestlessRoundsRaise = (number : ℕ) → IsRestless p plan history number → IsStill history number number
       → LowestSteals number
 
-  -- of a still stretch in which each core has so many threads at first, the restless rounds are at most the threads beyond
-  -- those, less a core's share of them rounded up
+  -- of a still stretch in which each core has so many threads at first, the restless rounds are at most the threads
+  -- beyond those, less a core's share of them rounded up
   abbrev pub RestlessRoundsFew : Type 0
   RestlessRoundsFew = (first last opening low : ℕ) (restless : List ℕ) → IsStillStretch history first last
       → BeginsAt history first opening → EachHas plan (after p plan (take opening history)) low
       → IsStrictlyIncreasing restless
       → All (λ number. (first ≤ number) × (number ≤ last) × IsRestless p plan history number) restless
-      → length restless + share_above plan (after p plan (take opening history)) low ≤ above plan (after p plan (take opening history)) low
+      → length restless + share_above plan (after p plan (take opening history)) low
+      ≤ above plan (after p plan (take opening history)) low
 
   -- from the Round on that comes so many rounds after the first, the cores are at rest
   abbrev pub RestsSoon : Type 0
   RestsSoon = (first last opening low rounds from k : ℕ) → IsStillStretch history first last
       → BeginsAt history first opening → EachHas plan (after p plan (take opening history)) low
-      → above plan (after p plan (take opening history)) low ≤ rounds + share_above plan (after p plan (take opening history)) low
-      → BeginsAt history (first + rounds) from → from ≤ k → InStretch history first last k → ¬ RestlessAt p plan history k
+      → above plan (after p plan (take opening history)) low
+      ≤ rounds + share_above plan (after p plan (take opening history)) low
+      → BeginsAt history (first + rounds) from → from ≤ k → InStretch history first last k
+      → ¬ RestlessAt p plan history k
 
   -- what holds of one history
   pub record RaisesLowest : Type 0 where
@@ -140,10 +144,12 @@ LowestFirstLaw = (p : Meaning) (plan : Plan) (history : List Entry) → Fits p p
 
 -- from there on the thread counts differ by one at most, where besides the filter leaves no gap but one thread's weight
 abbrev pub EvenSoonLaw : Type 0
-EvenSoonLaw = (p : Meaning) (plan : Plan) (history : List Entry) (first last opening low rounds from k : ℕ) → Fits p plan
+EvenSoonLaw = (p : Meaning) (plan : Plan) (history : List Entry) (first last opening low rounds from k : ℕ)
+    → Fits p plan
     → MeetsMoveObligations p → LowestFirst p → RestGap p (least_weight p.load) → Legal p plan history
     → IsStillStretch history first last → BeginsAt history first opening
     → EachHas plan (after p plan (take opening history)) low
-    → above plan (after p plan (take opening history)) low ≤ rounds + share_above plan (after p plan (take opening history)) low
+    → above plan (after p plan (take opening history)) low
+    ≤ rounds + share_above plan (after p plan (take opening history)) low
     → BeginsAt history (first + rounds) from → from ≤ k → InStretch history first last k
     → CountsWithin plan (after p plan (take k history)) 1

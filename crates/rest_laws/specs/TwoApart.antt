@@ -23,7 +23,8 @@ pub record IsTwoApart (p : Meaning) : Type 0 where
   pub filter : p.filter ≡ is_two_apart
   pub batch : IsBatchTwoApart p.batch
 
--- such a policy owes no more than that one case of each handler holds, raises the lowest first, and leaves no gap but one
+-- such a policy owes no more than that one case of each handler holds, raises the lowest first, and leaves no gap but
+-- one
 pub record EvensOut (p : Meaning) : Type 0 where
   pub obligations : MeetsHandlerObligations p → MeetsMoveObligations p
   pub lowest_first : LowestFirst p

@@ -4,13 +4,14 @@ ghost use Rattle.rest_laws.specs.Gap.{EvenCountsLaw, RestGapLaw};
 ghost use Rattle.rest_laws.specs.LowestFirst.{EvenSoonLaw, LowestFirstLaw, StepsByOneLaw};
 ghost use Rattle.rest_laws.specs.TwoApart.{TwoApartLaw};
 
-/// Where the filter fails only of a victim whose load is at most g greater than the thief's, no two loads of cores at rest
-/// differ by more than g. For this the policy need meet no more than the handlers' obligations.
+/// Where the filter fails only of a victim whose load is at most g greater than the thief's, no two loads of cores at
+/// rest differ by more than g. For this the policy need meet no more than the handlers' obligations.
 pub fn law_rest_gap()
     ensures { RestGapLaw }
 {}
 
-/// So where all threads weigh the same and g is one thread's weight, no two cores at rest differ by more than one thread.
+/// So where all threads weigh the same and g is one thread's weight, no two cores at rest differ by more than one
+/// thread.
 pub fn law_even_counts()
     ensures { EvenCountsLaw }
 {}
@@ -23,8 +24,8 @@ pub fn law_lowest_first()
 {}
 
 /// For that it is enough to look at a thread more and a thread fewer: whom a core sees it sees with a thread more, and
-/// sees where both have a thread fewer, whatever its attributes; and where a batch goes on, a core with two threads fewer
-/// than the thief sees the victim with a thread fewer.
+/// sees where both have a thread fewer, whatever its attributes; and where a batch goes on, a core with two threads
+/// fewer than the thief sees the victim with a thread fewer.
 pub fn law_steps_by_one()
     ensures { StepsByOneLaw }
 {}
@@ -35,8 +36,8 @@ pub fn law_two_apart()
     ensures { TwoApartLaw }
 {}
 
-/// Where both hold, of the fewest threads first and of the gap, any two cores differ by at most one thread from the Round
-/// on that comes that many rounds after the first of a still stretch.
+/// Where both hold, of the fewest threads first and of the gap, any two cores differ by at most one thread from the
+/// Round on that comes that many rounds after the first of a still stretch.
 pub fn law_even_soon()
     ensures { EvenSoonLaw }
 {}

@@ -1,4 +1,5 @@
-//! What cores at rest have: the gap that stays between their loads, and how soon policies by thread counts come to rest.
+//! What cores at rest have: the gap that stays between their loads, and how soon policies by thread counts come to
+//! rest.
 #![tactic(auto)]
 
 mod laws;

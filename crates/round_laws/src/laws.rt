@@ -33,7 +33,7 @@ pub fn law_still_rounds()
 {}
 
 /// A policy that meets its obligations wastes no core in still rounds, in every legal history of
-/// every plan that fits it: for 1 to 64 cores, up to 1,023 threads and 4,096 rounds, and every
+/// every plan that fits it: for every number of cores, rounds and entries, up to 1,023 threads, and every
 /// interleaving of the cores' turns within a round.
 pub fn law_main_theorem()
     ensures { MainTheorem }
@@ -41,8 +41,8 @@ pub fn law_main_theorem()
 
 /// Where a policy lets only idle cores take the last waiting thread of another, each bad and still round fills an idle
 /// core. Of any rounds, still or not, the bad ones are at most the cores that were idle as the first began, and the
-/// entries since that block or end a thread. In a still stretch that is 63 rounds at most, since plans have 1 to 64
-/// cores, however heavy and however many the threads.
+/// entries since that block or end a thread. In a still stretch that is fewer rounds than the plan has cores, however
+/// heavy and however many the threads.
 pub fn law_waste_is_paid()
     ensures { WasteIsPaidLaw }
 {}

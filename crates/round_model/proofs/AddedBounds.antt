@@ -154,6 +154,7 @@ module _ (p : Meaning) (plan : Plan) (old new : Past) (e : Entry) (by : ℕ) (be
       let later : count_by (λ (t : Planned). nat_lt new.rounds t.round) plan.threads ≡ count_by (λ (t : Planned). nat_lt old.rounds t.round) plan.threads =
       ap (λ (n : ℕ). count_by (λ (t : Planned). nat_lt n t.round) plan.threads) added.rounds in
       record {
+        limits = belongs.limits;
         cores = added.kept.len ∙ belongs.cores;
         turns = ap length turns ∙ (length-set old.turns by (turn_after e turn) ∙ belongs.turns);
         each = each;

@@ -18,6 +18,7 @@ use Rattle.round_model.specs.After.{after, after_from}
 use Rattle.round_model.specs.Bounds.{CoreInBounds, standing_count}
 use Rattle.round_model.specs.Cores.{core_numbers, listed, opening_state, seen_of}
 use Rattle.round_model.specs.Fits.{Fits}
+use Rattle.round_model.specs.Limits.{IsWithinLimits}
 use Rattle.round_model.specs.Code.Lists.{Lists}
 use Rattle.round_model.specs.Code.Past.{IsPastOf, StandsFor, is_flagged, seen_in, turn_of}
 use Rattle.round_model.specs.Reads.{value_read}
@@ -88,12 +89,13 @@ module _ (plan : Plan) (past : Past) (begins : Begins plan past) where
       let there : k < plan.cores = omega (arith, length-map-range_with_len (opening_state plan) 0 plan.cores) in
       subst (CoreInBounds p) (sym (get_or-map-range_with_len (opening_state plan) 0 plan.cores k k d there (omega arith))) (opening_core p plan fits k there))
 
-  pub belongs_begun : (p : Meaning) → Fits p plan → Lists plan past.directory → IsPastOf p plan past
-  belongs_begun p fits lists =
+  pub belongs_begun : (p : Meaning) → Fits p plan → IsWithinLimits plan → Lists plan past.directory → IsPastOf p plan past
+  belongs_begun p fits limits lists =
       let nobody = ap (sum_by standing_count) begins.state ∙ nobody_stands plan (core_numbers plan) in
       let none = ap length begins.arrivals in let one = ap length begins.rows in
       let entries = begins.entries in let rounds = begins.rounds in
       record {
+        limits = limits;
         cores = ap length begins.state ∙ length-map-range_with_len (opening_state plan) 0 plan.cores;
         turns = ap length begins.turns ∙ length-replicate plan.cores no_turn;
         each = in_bounds_begun p fits;

@@ -63,6 +63,7 @@ belongs_begun p plan old new fits belongs begun room due =
     let counts : count_by (λ (t : Planned). nat_lt new.rounds t.round) threads ≡ count_by (λ (t : Planned). nat_lt (old.rounds + 1) t.round) threads =
     ap (λ (n : ℕ). count_by (λ (t : Planned). nat_lt n t.round) threads) begun.rounds in
     record {
+      limits = belongs.limits;
       cores = ap length begun.state ∙ belongs.cores;
       turns = ap length begun.turns ∙ (length-replicate (length old.turns) fresh ∙ belongs.turns);
       each = subst (All (CoreInBounds p)) (sym begun.state) belongs.each;

@@ -3,7 +3,6 @@ use Rattle.std.proofs.Common.{◌≡◌, ℕ, zero, suc, ◌+◌, ◌-◌, ◌<�
 use Rattle.std.proofs.lemmas.Bool.Decides.{nat_tests}
 use Rattle.std.proofs.lemmas.List.{length-append}
 use Rattle.std.proofs.lemmas.List.Sums.{fold-append}
-use Rattle.sched_base.specs.declared.limits.TheConstants.{MAX_ENTRIES}
 use Rattle.policy_tree.specs.Meaning.{Meaning}
 use Rattle.policy_eval.specs.Obligations.{MeetsHandlerObligations}
 use Rattle.round_model.specs.declared.entry.Entry.{Entry}
@@ -17,7 +16,7 @@ use Rattle.round_model.specs.SerialEnds.{EndsWhole, IsFull, RoundFits, StopsFull
 use Rattle.round_model.specs.SerialRounds.{serial_rounds, with_round}
 use Rattle.round_model.proofs.Begun.{due_within}
 use Rattle.round_model.proofs.OwedBounds.{owed_bound}
-use Rattle.round_model.proofs.SerialWholes.{due_number, serial_more, serial_rounds_law, serial_stays}
+use Rattle.round_model.proofs.SerialWholes.{due_number, not_due_stays, round_played, serial_more, serial_rounds_law, serial_stays}
 
 pub replicate_both : (m n a : ℕ) → replicate (m + n) a ≡ replicate m a ++ replicate n a
 replicate_both zero n a = ap (λ (k : ℕ). replicate k a) (omega arith)
@@ -73,15 +72,39 @@ module _ (p : Meaning) (plan : Plan) (fits : Fits p plan) (handlers : MeetsHandl
           let few = due_within plan h due in
           absurd (omega (arith, ap rounds_begun serial, begun))
 
+  -- as long as each round fits the plan's limit, so does the history
+  rounds_within : (k : ℕ) → ((j : ℕ) → j < k → IsFull plan (serial_rounds p plan j) → ⊥) → length (serial_rounds p plan k) ≤ plan.limit
+  rounds_within zero fitted = omega arith
+  rounds_within (suc k) fitted =
+      let h = serial_rounds p plan k in
+      let before = rounds_within k (λ j below. fitted j (omega arith)) in
+      let next : suc k ≡ k + 1 = omega arith in
+      let is : serial_rounds p plan (suc k) ≡ with_round p plan h (k + 1) = ap (serial_rounds p plan) next ∙ serial_more p plan k in
+      subst (λ (g : List Entry). length g ≤ plan.limit) (sym is) (elim (is_due plan h) as (λ b. is_due plan h ≡ b → length (with_round p plan h (k + 1)) ≤ plan.limit) [
+        | false ↦ λ none. subst (λ (g : List Entry). length g ≤ plan.limit) (sym (not_due_stays p plan h (k + 1) none)) before
+        | true ↦ λ due.
+            let rounds = serial_rounds_law p plan k fits handlers in
+            let all = due_number p plan k fits handlers due in
+            let played = round_played p plan fits handlers h (k + 1) rounds.legal rounds.complete due (omega (arith, all)) in
+            let more = played.few in
+            elim (ltb plan.limit (length h + most_entries plan)) as (λ b. ltb plan.limit (length h + most_entries plan) ≡ b → length (with_round p plan h (k + 1)) ≤ plan.limit) [
+              | true ↦ λ e. absurd (fitted k (omega arith) (record { due = due; full = grind (arith, nat_tests) }))
+              | false ↦ λ e. let room : length h + most_entries plan ≤ plan.limit = grind (arith, nat_tests) in omega arith
+            ] refl
+      ] refl)
+
+  within_limit : (k : ℕ) (h : List Entry) → h ≡ serial_rounds p plan k → ((j : ℕ) → j < k → IsFull plan (serial_rounds p plan j) → ⊥) → length h ≤ plan.limit
+  within_limit k h serial fitted = subst (λ (g : List Entry). length g ≤ plan.limit) (sym serial) (rounds_within k fitted)
+
   -- serial play came to its end
-  pub ended_whole : (k : ℕ) (h : List Entry) → k ≤ plan.rounds → h ≡ serial_rounds p plan k → is_due plan h ≡ false → length h ≤ MAX_ENTRIES → ((j : ℕ) → j < k → IsFull plan (serial_rounds p plan j) → ⊥) → EndsWhole p plan h
-  ended_whole k h within serial none few fitted =
+  pub ended_whole : (k : ℕ) (h : List Entry) → k ≤ plan.rounds → h ≡ serial_rounds p plan k → is_due plan h ≡ false → ((j : ℕ) → j < k → IsFull plan (serial_rounds p plan j) → ⊥) → EndsWhole p plan h
+  ended_whole k h within serial none fitted =
       let rounds = serial_rounds_law p plan k fits handlers in
       let stopped : is_due plan (serial_rounds p plan k) ≡ false = ap (is_due plan) (sym serial) ∙ none in
       record {
         serial = let whole : k + (plan.rounds - k) ≡ plan.rounds = omega arith in serial ∙ (sym (serial_stays p plan k stopped (plan.rounds - k)) ∙ ap (serial_rounds p plan) whole);
         whole = record { legal = subst (Legal p plan) (sym serial) rounds.legal; complete = subst (λ (g : List Entry). IsComplete plan g) (sym serial) rounds.complete; finished = none };
-        few = few;
+        few = within_limit k h serial fitted;
         fitted = λ j full. elim (ltb j k) as (λ b. ltb j k ≡ b → ⊥) [
           | true ↦ λ e. fitted j (grind (arith, nat_tests)) full
           | false ↦ λ e. let late : k ≤ j = grind (arith, nat_tests) in
@@ -93,15 +116,15 @@ module _ (p : Meaning) (plan : Plan) (fits : Fits p plan) (handlers : MeetsHandl
       }
 
   -- serial play stopped
-  pub stopped_full : (k : ℕ) (h : List Entry) → h ≡ serial_rounds p plan k → IsDue plan h → (RoundFits plan (length h) → ⊥) → length h ≤ MAX_ENTRIES → ((j : ℕ) → j < k → IsFull plan (serial_rounds p plan j) → ⊥) → StopsFull p plan h
-  stopped_full k h serial due full few fitted =
+  pub stopped_full : (k : ℕ) (h : List Entry) → h ≡ serial_rounds p plan k → IsDue plan h → (RoundFits plan (length h) → ⊥) → ((j : ℕ) → j < k → IsFull plan (serial_rounds p plan j) → ⊥) → StopsFull p plan h
+  stopped_full k h serial due full fitted =
       let rounds = serial_rounds_law p plan k fits handlers in
       record {
         rounds = k;
         serial = serial;
         legal = subst (Legal p plan) (sym serial) rounds.legal;
         complete = subst (λ (g : List Entry). IsComplete plan g) (sym serial) rounds.complete;
-        few = few;
+        few = within_limit k h serial fitted;
         full = record {
           due = due;
           full = elim (ltb plan.limit (length h + most_entries plan)) as (λ b. ltb plan.limit (length h + most_entries plan) ≡ b → plan.limit < length h + most_entries plan) [

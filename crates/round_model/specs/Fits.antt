@@ -1,7 +1,6 @@
 -- Plans that fit a policy.
 use Rattle.std.specs.Prelude.{◌≡◌, ◌≢◌, ℕ, ◌<◌, ◌≤◌, List, [], ◌∷◌, length, All, AllPairs}
-use Rattle.sched_base.specs.declared.limits.TheConstants.{MAX_BLOCK_ROUNDS, MAX_BURSTS, MAX_CORES, MAX_ENTRIES}
-use Rattle.sched_base.specs.declared.limits.TheConstants.{MAX_ROUNDS, MAX_THREADS, MAX_UNITS}
+use Rattle.sched_base.specs.declared.limits.TheConstants.{MAX_BLOCK_ROUNDS, MAX_BURSTS, MAX_THREADS, MAX_UNITS}
 use Rattle.policy_tree.specs.Meaning.{Meaning}
 use Rattle.policy_eval.specs.Fitting.{IsWeight}
 use Rattle.policy_eval.specs.Ranges.{AreIn, attribute_ranges}
@@ -46,14 +45,11 @@ pub record ThreadFits (p : Meaning) (cores : ℕ) (t : Planned) : Type 0 where
 pub record OrderFits (cores : ℕ) (line : OrderLine) : Type 0 where
   pub each : All (λ c. c < cores) line.cores
 
--- the plan fits the policy. Its order lines are of different rounds, and a round takes its own line alone, so that
+-- the plan fits the policy: of any number of cores, rounds and entries. Its order lines are of different rounds, and a round takes its own line alone, so that
 -- their number needs no bound
 pub record Fits (p : Meaning) (plan : Plan) : Type 0 where
   pub policy : IsResolved p
   pub some_cores : 1 ≤ plan.cores
-  pub few_cores : plan.cores ≤ MAX_CORES
-  pub few_rounds : plan.rounds ≤ MAX_ROUNDS
-  pub few_entries : plan.limit ≤ MAX_ENTRIES
   pub consts_each : length plan.consts ≡ plan.cores
   pub consts : All (AreIn (attribute_ranges p.core_attrs)) plan.consts
   pub few_threads : length plan.threads ≤ MAX_THREADS

@@ -15,6 +15,7 @@ pub mod FreshReads
 pub mod Kinds
 pub mod Laws
 pub mod Legal
+pub mod Limits
 pub mod Local
 pub mod Moves
 pub mod OnePlace

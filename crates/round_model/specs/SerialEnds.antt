@@ -1,6 +1,5 @@
 -- What serial play comes to where a plan limits the entries of its history.
 use Rattle.std.specs.Prelude.{◌≡◌, ℕ, ◌+◌, ◌*◌, ◌<◌, ◌≤◌, List, length}
-use Rattle.sched_base.specs.declared.limits.TheConstants.{MAX_ENTRIES}
 use Rattle.policy_tree.specs.Meaning.{Meaning}
 use Rattle.round_model.specs.declared.entry.Entry.{Entry}
 use Rattle.round_model.specs.declared.plan.Plan.{Plan}
@@ -26,7 +25,7 @@ pub record IsFull (plan : Plan) (history : List Entry) : Type 0 where
 pub record EndsWhole (p : Meaning) (plan : Plan) (history : List Entry) : Type 0 where
   pub serial : history ≡ serial_history p plan
   pub whole : Whole p plan history
-  pub few : length history ≤ MAX_ENTRIES
+  pub few : length history ≤ plan.limit
   pub fitted : (k : ℕ) → IsFull plan (serial_rounds p plan k) → ⊥
 
 -- serial play stopped before the first round that might not fit
@@ -35,7 +34,7 @@ pub record StopsFull (p : Meaning) (plan : Plan) (history : List Entry) : Type 0
   pub serial : history ≡ serial_rounds p plan rounds
   pub legal : Legal p plan history
   pub complete : IsComplete plan history
-  pub few : length history ≤ MAX_ENTRIES
+  pub few : length history ≤ plan.limit
   pub full : IsFull plan history
   pub first : (k : ℕ) → k < rounds → IsFull plan (serial_rounds p plan k) → ⊥
 

@@ -10,6 +10,7 @@ ghost use Rattle.round_model.specs.Cores.{listed, opening_state};
 ghost use Rattle.round_model.specs.Fits.{Fits};
 ghost use Rattle.std.specs.List.{list_all, list_any};
 ghost use Rattle.round_model.specs.Legal.{is_complete as is_complete_after, is_due as is_due_after, rounds_begun};
+ghost use Rattle.round_model.specs.Limits.{IsWithinLimits};
 ghost use Rattle.round_model.specs.Code.Past.{IsKeptPosition, IsPastOf, IsWindow, StandsFor, is_flagged};
 ghost use Rattle.round_model.specs.Reads.{value_read};
 
@@ -58,7 +59,7 @@ pub struct Past {
 impl Past {
     /// The past of the empty history.
     pub fn new(alloc: Global, plan: &Plan) -> Result<Past, ModelMemory>
-        requires few_cores { plan.now.cores ≤ MAX_CORES }
+        requires limits { IsWithinLimits plan.now }
         requires consts_each { length plan.now.consts ≡ plan.now.cores }
         requires few_threads { length plan.now.threads ≤ MAX_THREADS }
         ensures stands { IfOk result (λ past. (p : Meaning) → StandsFor p plan.now past []) }

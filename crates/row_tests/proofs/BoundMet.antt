@@ -188,9 +188,6 @@ fits : Fits leaving four_cores
 fits = record {
   policy = leaving_resolved;
   some_cores = omega arith;
-  few_cores = omega arith;
-  few_rounds = omega arith;
-  few_entries = omega arith;
   consts_each = refl;
   consts = All-from_recursion (AreIn (attribute_ranges [])) four_cores.consts (zeros_fit, (zeros_fit, (zeros_fit, (zeros_fit, tt))));
   few_threads = omega arith;

@@ -1,4 +1,5 @@
 pub mod BoundMet
+pub mod HundredCores
 pub mod LeavingResolved
 pub mod Reported
 pub mod Stirred

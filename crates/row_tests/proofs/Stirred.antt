@@ -103,9 +103,6 @@ fits : Fits basic one_ends
 fits = record {
   policy = worked_policies_fit.basic_resolved;
   some_cores = omega arith;
-  few_cores = omega arith;
-  few_rounds = omega arith;
-  few_entries = omega arith;
   consts_each = refl;
   consts = All-from_recursion (AreIn (attribute_ranges [])) one_ends.consts (zeros_fit, (zeros_fit, tt));
   few_threads = omega arith;

@@ -127,9 +127,6 @@ fits : Fits fair three_cores
 fits = record {
   policy = fair_resolved;
   some_cores = omega arith;
-  few_cores = omega arith;
-  few_rounds = omega arith;
-  few_entries = omega arith;
   consts_each = refl;
   consts = All-from_recursion (AreIn (attribute_ranges [])) three_cores.consts (zeros_fit, (zeros_fit, (zeros_fit, tt)));
   few_threads = omega arith;

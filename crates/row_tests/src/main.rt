@@ -6,6 +6,7 @@ mod batches;
 mod bodies;
 pub mod bounds;
 mod histories;
+pub mod machines;
 mod reports;
 pub mod rows;
 

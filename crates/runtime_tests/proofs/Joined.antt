@@ -5,7 +5,8 @@ use Rattle.std.proofs.lemmas.Bool.Decides.{nat_tests}
 use Rattle.std.proofs.lemmas.List.Elements.{All-from_recursion, All-nil}
 use Rattle.round_model.specs.declared.entry.Entry.{Entry}
 use Rattle.round_model.specs.Entries.{touches}
-use Rattle.core_state.specs.Logs.{AreLogsOfOne, log_of}
+use Rattle.core_state.specs.Logs.{log_of}
+use Rattle.history_merge.specs.Merged.{AreLogsOfFew}
 use Rattle.core_state.specs.Views.{CoreView}
 use Rattle.runtime_tests.specs.Merged.{first_log, no_logs, second_log, two_logs, with_a_steal, with_log}
 
@@ -32,9 +33,9 @@ of_two at c few same = grind arith
 one_of_two : (at other c : ℕ) → at < 2 → other < 2 → IsTrue ((at == c) || (other == c)) → c < 2
 one_of_two at other c few less same = grind (arith, nat_tests)
 
-pub two_logs_of_one : AreLogsOfOne two_logs
+pub two_logs_of_few : AreLogsOfFew two_logs
 unfolding touches TouchesTwo
-two_logs_of_one = (
+two_logs_of_few = (
   with_a_steal,
   record {
     cores = logs_are;
@@ -53,7 +54,8 @@ two_logs_of_one = (
       ),
     );
   },
+  omega arith,
 )
 
-pub no_logs_of_one : AreLogsOfOne no_logs
-no_logs_of_one = ([], record { cores = λ c y is. absurd (cc); rounds = refl; there = All-nil _ })
+pub no_logs_of_few : AreLogsOfFew no_logs
+no_logs_of_few = ([], record { cores = λ c y is. absurd (cc); rounds = refl; there = All-nil _ }, omega arith)

@@ -158,9 +158,6 @@ plan_fits : Fits basic one_blocks
 plan_fits = record {
   policy = basic_resolved;
   some_cores = omega arith;
-  few_cores = omega arith;
-  few_rounds = omega arith;
-  few_entries = omega arith;
   consts_each = refl;
   consts = All-from_recursion (AreIn (attribute_ranges [])) one_blocks.consts (zeros_fit, (zeros_fit, tt));
   few_threads = omega arith;

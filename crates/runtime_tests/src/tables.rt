@@ -3,7 +3,7 @@
 ghost use Rattle.std.specs.Prelude.{◌≡◌, ◌<◌, IfOk};
 ghost use Rattle.std.specs.Thread.{IsSync};
 ghost use Rattle.policy_tree.specs.Meaning.{meaning_of};
-ghost use Rattle.core_state.specs.Logs.{AreLogsOfOne};
+ghost use Rattle.history_merge.specs.Merged.{AreLogsOfFew};
 ghost use Rattle.model_tests.specs.Plans.{two_cores as two_cores_plan};
 ghost use Rattle.model_tests.specs.Policies.{basic};
 ghost use Rattle.table_players.specs.Tables.{IsFree, IsUnbegun};
@@ -97,7 +97,7 @@ fn touched<R: Wait>(rt: &R, table: &Table, mut seat: Seat, core: CoreId) -> Seat
 
 /// The signs of the entries, back from their logs.
 fn merged(alloc: Global, closed: &Closed) -> Result<Vec<u8>, HistoryMemory>
-    requires { AreLogsOfOne closed.now }
+    requires { AreLogsOfFew closed.now }
 {
     let history = merge(alloc, closed)?;
     Ok(signs(alloc, history.as_slice())?)

@@ -1,4 +1,4 @@
-//! The limits of the project. No other crate writes one of these numbers.
+//! The limits of the project, by the names under which code and contracts cite them.
 
 /// The most cores of a plan. A plan has at least one.
 pub const MAX_CORES: usize = 64;

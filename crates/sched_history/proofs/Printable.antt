@@ -27,6 +27,7 @@ use Rattle.round_model.specs.Choices.{choice_of, may_steal}
 use Rattle.round_model.specs.Cores.{Cores}
 use Rattle.round_model.specs.Fits.{Fits, ThreadFits}
 use Rattle.round_model.specs.Legal.{LegalNext}
+use Rattle.round_model.specs.Limits.{IsWithinLimits}
 use Rattle.round_model.specs.Moves.{handed, is_task, received}
 use Rattle.round_model.specs.Programs.{Meeting, blocking, burst_of, ending_now, planned_of, tick, yielding}
 use Rattle.round_model.specs.Reads.{ReadsFit, read_values, round_start}
@@ -55,7 +56,7 @@ best_All P comes (x ∷ xs) each = with_rest (best_of comes xs) (best_All P come
     with_rest None is = each 0 x (omega arith)
     with_rest (Some y) is = elim (comes y x) as (λ b. P (cond b y x)) [ true ↦ is | false ↦ each 0 x (omega arith) ]
 
-module _ (p : Meaning) (plan : Plan) (fits : Fits p plan) where
+module _ (p : Meaning) (plan : Plan) (fits : Fits p plan) (limits : IsWithinLimits plan) where
   -- a thread that has a burst is one of the plan
   numbered : (t : Task) → HasBurst plan t → IsThreadNumber t.id
   numbered t has = by_found (planned_of plan t.id) refl has
@@ -69,11 +70,11 @@ module _ (p : Meaning) (plan : Plan) (fits : Fits p plan) where
           subst IsThreadNumber same (thread.id_positive, thread.id_small)
 
   core_small : (start c : ℕ) → c < plan.cores → IsCoreNumber (form.Second plan.cores start) c
-  core_small start c there = let few = fits.few_cores in omega arith
+  core_small start c there = let few = limits.few_cores in omega arith
 
   reads_small : (s : Scene) (reads : List ℕ) → s.position ≤ MAX_ENTRIES → ReadsFit plan.cores s.start s.position reads → AreOneEach plan.cores s.start reads
   reads_small s reads room fit = record {
-    count = (fits.some_cores, fits.few_cores);
+    count = (fits.some_cores, limits.few_cores);
     one_each = fit.one_each;
     positions = λ k d inside. let read = fit.each k d inside in let low = read.in_round in let high = read.before_entry in (omega arith, omega arith);
   }
@@ -196,7 +197,7 @@ module _ (p : Meaning) (plan : Plan) (fits : Fits p plan) where
   next_printable : (h : List Entry) (e : Entry) → length h ≤ MAX_ENTRIES → LegalNext p plan h e → IsPrintable (form.Second plan.cores (round_start h)) e
   unfolding LegalNext Row scene_of entering_next waking_next
   next_printable h (entry.Round number) room legal =
-      let few = fits.few_rounds in let due = due_within plan h legal.due in let next = legal.next in (omega arith, omega arith)
+      let few = limits.few_rounds in let due = due_within plan h legal.due in let next = legal.next in (omega arith, omega arith)
   next_printable h (entry.Enter thread by at reads) room legal =
       let s = scene_of p plan h by in
       let test = is_entering (round_of h) by (own_entries h by) in (
@@ -225,8 +226,8 @@ elem_at (x ∷ xs) zero d inside = refl
 elem_at (x ∷ xs) (suc k) d inside = elem_at xs k d (omega arith)
 
 pub legal_is_printable : LegalIsPrintable
-legal_is_printable p plan history fits legal room = record {
-  count = (fits.some_cores, fits.few_cores);
+legal_is_printable p plan history fits limits legal room = record {
+  count = (fits.some_cores, limits.few_cores);
   printable = record { lines = each; few = room };
 }
   where
@@ -234,4 +235,4 @@ legal_is_printable p plan history fits legal room = record {
     each k d inside =
         let within : k < length history = omega (arith, inside, length-lines 0 (second_form plan.cores) history) in
         subst IsPrintableLine (sym (line_at 0 (second_form plan.cores) history k d.entry d within))
-        (next_printable p plan fits (take k history) (get_or history k d.entry) (omega (arith, length-take k history)) (legal k (get_or history k d.entry) (elem_at history k d.entry within)))
+        (next_printable p plan fits limits (take k history) (get_or history k d.entry) (omega (arith, length-take k history)) (legal k (get_or history k d.entry) (elem_at history k d.entry within)))

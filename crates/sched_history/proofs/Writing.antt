@@ -1,5 +1,5 @@
 -- A history's text in the second format, line after line: what is written where, and that each entry can be.
-use Rattle.std.proofs.Common.{◌≡◌, ℕ, suc, ◌+◌, ◌<◌, cond, List, [], ◌∷◌, ◌++◌, length, take, get_or, ap, subst, ◌∙◌, arith}
+use Rattle.std.proofs.Common.{◌≡◌, All, ℕ, suc, ◌+◌, ◌<◌, cond, List, [], ◌∷◌, ◌++◌, length, take, get_or, ap, subst, ◌∙◌, arith}
 use Rattle.std.proofs.lemmas.List.{get_or-map, length-map, length-take, take_more}
 use Rattle.round_model.specs.declared.entry.Entry.{Entry}
 use Rattle.round_model.specs.Kinds.{is_round}
@@ -7,7 +7,7 @@ use Rattle.round_model.specs.Reads.{round_start}
 use Rattle.sched_history.specs.declared.forms.LineForm.{LineForm}
 use Rattle.sched_history.specs.declared.forms.LineForm.TheVariants as form
 use Rattle.sched_history.specs.Lines.{EntryLine, entry_lines}
-use Rattle.sched_history.specs.Ranges.{CanBePrinted, IsPrintableFrom, IsPrintableLine}
+use Rattle.sched_history.specs.Ranges.{IsPrintableFrom, IsPrintableLine}
 use Rattle.sched_history.specs.Spelling.{line_from, line_of, lines_of_history, second_form}
 use Rattle.sched_history.proofs.EntryLines.{form_after-push, length-lines, line_at}
 
@@ -47,9 +47,9 @@ module _ (cores : ℕ) (h : List Entry) where
         ∙ (get_or-map line_of lines at first [] (omega (arith, inside, length-lines 0 (second_form cores) h))
         ∙ ap line_of (line_at 0 (second_form cores) h at e first inside))
 
-    pub printable_at : CanBePrinted cores h → IsPrintableFrom (round_start (take at h)) (get_or h at e)
-    printable_at can = (
+    pub printable_at : All IsPrintableLine lines → IsPrintableFrom (round_start (take at h)) (get_or h at e)
+    printable_at each = (
       cores,
       subst IsPrintableLine (line_at 0 (second_form cores) h at e first inside)
-          (can.printable.lines at first (omega (arith, inside, length-lines 0 (second_form cores) h))),
+          (each at first (omega (arith, inside, length-lines 0 (second_form cores) h))),
     )

@@ -9,6 +9,7 @@ use Rattle.round_model.specs.declared.entry.Entry.TheVariants as entry
 use Rattle.round_model.specs.declared.plan.Plan.{Plan}
 use Rattle.round_model.specs.Fits.{Fits}
 use Rattle.round_model.specs.Legal.{Legal}
+use Rattle.round_model.specs.Limits.{IsWithinLimits}
 use Rattle.sched_history.specs.declared.forms.LineForm.{LineForm}
 use Rattle.sched_history.specs.declared.forms.LineForm.TheVariants as form
 use Rattle.sched_history.specs.declared.forms.TheConstants.{FIRST_FORMAT_CORES}
@@ -102,7 +103,7 @@ pub record CanBePrinted (cores : ℕ) (history : List Entry) : Type 0 where
   pub count : IsCoreCount cores
   pub printable : ArePrintable (second_form cores) history
 
--- a legal history of a plan that fits has one, where it is no longer than one may be
+-- a legal history of a plan that fits has one, where plan and history are within the limits
 abbrev pub LegalIsPrintable : Type 0
-LegalIsPrintable = (p : Meaning) (plan : Plan) (history : List Entry) → Fits p plan → Legal p plan history
+LegalIsPrintable = (p : Meaning) (plan : Plan) (history : List Entry) → Fits p plan → IsWithinLimits plan → Legal p plan history
     → length history ≤ MAX_ENTRIES → CanBePrinted plan.cores history

@@ -1,15 +1,17 @@
 //! The real files. They tell nothing of what they hold, and no proof speaks of what the system
 //! does: how a file that was opened is read is proved, and failures are counted.
 
-ghost use Rattle.std.specs.Prelude.{◌≡◌, ◌<◌, ◌≤◌, IfOk, IfSome, IsErrOf, None, length, vec_len};
+ghost use Rattle.std.specs.Prelude.{◌≡◌, ◌↔◌, ◌<◌, ◌≤◌, IfErr, IfOk, IfSome, IsErrOf, IsOk, None, length};
+ghost use Rattle.std.specs.Prelude.{vec_len};
+ghost use Rattle.std.specs.IoError.{error_kind};
 ghost use Rattle.sched_io.specs.Told.{untold};
 
 use crate::faults::LoadFault;
 use crate::sources::Files;
 use std::alloc::Global;
-use std::fs;
 use std::io::{ErrorKind, Read};
 use std::rt::Files as SystemFiles;
+use std::{fs, io};
 
 /// The files of the system.
 #[derive(Drop)]
@@ -45,13 +47,36 @@ pub fn load_from<S: Read + Drop>(alloc: Global, reader: S, limit: u64) -> Result
     }
 }
 
-/// The fault that an error of the system is.
+/// The fault that an error of the system is: want of memory where the error says so, and else a failure.
 fn fault_of(kind: ErrorKind) -> LoadFault
-    ensures { result ≡ LoadFault.TooLong → ⊥ }
+    ensures never_long { result ≡ LoadFault.TooLong → ⊥ }
+    ensures memory { (result ≡ LoadFault.Memory) ↔ (kind ≡ ErrorKind.OutOfMemory) }
 {
     match kind {
         ErrorKind::OutOfMemory => LoadFault::Memory,
         _ => LoadFault::Failed,
+    }
+}
+
+/// All bytes of what was opened, where they are at most `limit`. What couldn't be opened is a failure, or want of memory
+/// where the error says so.
+pub fn load_opened<S: Read + Drop>(
+    alloc: Global,
+    opened: io::Result<S>,
+    limit: u64,
+) -> Result<Vec<u8>, LoadFault>
+    ensures opened { IsOk result → IsOk opened }
+    ensures bytes { IfOk result (λ bytes. IfOk opened (λ reader.
+        IfSome (S.remaining reader) (λ left. bytes.items ≡ left))) }
+    ensures within { IfOk result (λ bytes. vec_len bytes ≤ limit) }
+    ensures too_long { IsErrOf result LoadFault.TooLong → IsOk opened
+        × IfOk opened (λ reader. IfSome (S.remaining reader) (λ left. limit < length left)) }
+    ensures memory { IfErr opened (λ error.
+        IsErrOf result LoadFault.Memory ↔ (error_kind error ≡ ErrorKind.OutOfMemory)) }
+{
+    match opened {
+        Ok(reader) => load_from(alloc, reader, limit),
+        Err(error) => Err(fault_of(error.kind())),
     }
 }
 
@@ -64,10 +89,7 @@ fn load_file<R: SystemFiles>(
 ) -> Result<Vec<u8>, LoadFault>
     ensures { IfOk result (λ bytes. vec_len bytes ≤ limit) }
 {
-    match fs::open(rt, name) {
-        Ok(file) => load_from(alloc, file, limit),
-        Err(error) => Err(fault_of(error.kind())),
-    }
+    load_opened(alloc, fs::open(rt, name), limit)
 }
 
 impl<R: SystemFiles> Files for DiskFiles<'_, R> {

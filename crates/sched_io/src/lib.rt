@@ -13,7 +13,7 @@ mod sources;
 mod steady_sink;
 mod writer_sink;
 
-pub use disk_files::{DiskFiles, load_from};
+pub use disk_files::{DiskFiles, load_from, load_opened};
 pub use faults::{IoMemory, LoadFault, MOST_FAULTS, PutFault};
 pub use gates::{Gate, OpenGate};
 pub use lines::{LINE_ROOM, Line, NUMBER_ROOM};
@@ -22,4 +22,4 @@ pub use memory_sink::MemorySink;
 pub use sinks::{Sink, put_all};
 pub use sources::Files;
 pub use steady_sink::SteadySink;
-pub use writer_sink::{StdoutSink, WriterSink};
+pub use writer_sink::WriterSink;

@@ -16,6 +16,7 @@ use Rattle.round_model.specs.After.{after}
 use Rattle.round_model.specs.Fits.{Fits}
 use Rattle.round_model.specs.Kinds.{is_round}
 use Rattle.round_model.specs.Legal.{Legal, Whole, rounds_begun}
+use Rattle.round_model.specs.Limits.{IsWithinLimits}
 use Rattle.round_model.specs.Rounds.{BeginsAt, IsBad}
 use Rattle.round_model.specs.Spread.{Beside}
 use Rattle.round_laws.proofs.Bests.{filtered_pass}
@@ -91,10 +92,10 @@ module _ (p : Meaning) (plan : Plan) (history : List Entry) where
     pub few_rows : length history ≤ MAX_ENTRIES → length (round_rows p plan history) ≤ MAX_ENTRIES
     few_rows few = omega (arith, rows_counted p plan history, count_by-le-length is_round history)
 
-    pub small_sum : Fits p plan → length history ≤ MAX_ENTRIES → sum_by (λ (row : RoundRow). row.idle) (round_rows p plan history) < 2 ^ 32
-    small_sum fits few =
+    pub small_sum : IsWithinLimits plan → length history ≤ MAX_ENTRIES → sum_by (λ (row : RoundRow). row.idle) (round_rows p plan history) < 2 ^ 32
+    small_sum limits few =
         let rows = round_rows p plan history in
-        let cores = fits.few_cores in
+        let cores = limits.few_cores in
         let each : All (λ (row : RoundRow). row.idle ≤ MAX_CORES) rows =
         All-weaker IsRowOf (λ (row : RoundRow). row.idle ≤ MAX_CORES)
         (λ row told. let idle = few_idle plan (after p plan (take told.opening history)) (suc told.before) in let same : row.idle ≡ (round_row plan (suc told.before) (after p plan (take told.opening history))).idle = ap (λ (x : RoundRow). x.idle) told.is in omega arith)

@@ -171,7 +171,7 @@ module _ (p : Meaning) (plan : Plan) (history : List Entry) (at : ℕ) (inside :
     fail_kept by from reads fails =
         let failed = legal_fail p plan (take at history) by from reads (legal at (entry.Fail by from reads) fails) in
         let fit = failed.read in
-        let few = fits.few_cores in
+        let few = belongs.limits.few_cores in
         let thief = failed.thief_there in
         let victim = failed.candidate.there in
         record {

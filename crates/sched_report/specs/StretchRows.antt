@@ -10,12 +10,12 @@ use Rattle.sched_report.specs.StillRows.{AreStillRows}
 use Rattle.sched_report.specs.declared.rows.StillRow.{StillRow}
 use Rattle.sched_report.specs.declared.rows.StretchRow.{StretchRow}
 
--- whether the entry at the position takes a thread in one of the rounds first to last
+-- whether the entry at the position is a Steal of one of the rounds first to last
 abbrev pub is_steal_within : List Entry → (first last : ℕ) → ℕ × Entry → Bool
 is_steal_within history first last at =
     is_steal at.1 && (nat_le first (round_at history at.0) && nat_le (round_at history at.0) last)
 
--- how many threads are stolen in the rounds first to last
+-- how many Steals the rounds first to last have; each may move several threads
 abbrev pub steals_within : List Entry → (first last : ℕ) → ℕ
 steals_within history first last = count_by (is_steal_within history first last) (enumerate_from 0 history)
 

@@ -5,6 +5,7 @@ ghost use Rattle.policy_tree.specs.Meaning.{meaning_of};
 ghost use Rattle.policy_eval.specs.Obligations.{MeetsHandlerObligations, MeetsObligations};
 ghost use Rattle.round_model.specs.Fits.{Fits};
 ghost use Rattle.round_model.specs.Legal.{Legal, Whole};
+ghost use Rattle.round_model.specs.Limits.{IsWithinLimits};
 ghost use Rattle.sched_report.specs.Reports.{AddsUp, IsPaid, IsReport};
 ghost use Rattle.sched_report.specs.Wastes.{IsWaste};
 
@@ -26,6 +27,7 @@ pub fn report(
     history: &History,
 ) -> Result<FullReport, ReportMemory>
     requires fits { Fits (meaning_of policy.now) plan.now }
+    requires limits { IsWithinLimits plan.now }
     requires meets { MeetsObligations (meaning_of policy.now) }
     requires whole { Whole (meaning_of policy.now) plan.now history.now }
     requires few { length history.now ≤ MAX_ENTRIES }
@@ -52,6 +54,7 @@ pub fn waste(
     history: &History,
 ) -> Result<WasteReport, ReportMemory>
     requires fits { Fits (meaning_of policy.now) plan.now }
+    requires limits { IsWithinLimits plan.now }
     requires handlers { MeetsHandlerObligations (meaning_of policy.now) }
     requires legal { Legal (meaning_of policy.now) plan.now history.now }
     requires few { length history.now ≤ MAX_ENTRIES }

@@ -5,6 +5,7 @@ ghost use Rattle.policy_tree.specs.Meaning.{meaning_of};
 ghost use Rattle.policy_eval.specs.Obligations.{MeetsHandlerObligations};
 ghost use Rattle.round_model.specs.Fits.{Fits};
 ghost use Rattle.round_model.specs.Legal.{Legal};
+ghost use Rattle.round_model.specs.Limits.{IsWithinLimits};
 ghost use Rattle.sched_report.specs.Code.Walks.{IsTally};
 
 use crate::causes::note_fail;
@@ -33,6 +34,7 @@ pub(crate) fn walk(
     history: &[Entry],
 ) -> Result<Tally, ReportMemory>
     requires fits { Fits (meaning_of policy.now) plan.now }
+    requires limits { IsWithinLimits plan.now }
     requires handlers { MeetsHandlerObligations (meaning_of policy.now) }
     requires legal { Legal (meaning_of policy.now) plan.now history.now }
     requires few { length history.now ≤ MAX_ENTRIES }

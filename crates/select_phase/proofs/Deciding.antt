@@ -73,7 +73,7 @@ module _ (v : View) (reads : List ℕ) (values : List CoreValues) (n : ℕ) (q :
   resolved = subst IsResolved (sym policy) known.1.fits.policy
 
   deep : n ≤ length values
-  deep = let few = known.1.fits.few_cores in let long = glanced.long in omega arith
+  deep = let few = known.1.limits.few_cores in let long = glanced.long in omega arith
 
   pub all_fit : All (CoreFits q) (take n values)
   all_fit = subst (λ p. All (CoreFits p) (take n values)) (sym policy)

@@ -1,7 +1,6 @@
 -- A round of serial play.
 use Rattle.std.proofs.Common.{◌≡◌, ℕ, zero, suc, ◌≤◌, cond, List, [], ◌∷◌, ◌++◌, fold, length, replicate, slice_index, slice_index_or, Option, None, refl, sym, ap, subst, ◌∙◌, arith}
 use Rattle.std.proofs.lemmas.List.{length-append}
-use Rattle.sched_base.specs.declared.limits.TheConstants.{MAX_ENTRIES}
 use Rattle.policy_tree.specs.Meaning.{Meaning}
 use Rattle.round_model.specs.declared.entry.Entry.{Entry}
 use Rattle.round_model.specs.declared.plan.Plan.{Plan}
@@ -78,7 +77,7 @@ pub room_behind : (p : Meaning) (plan : Plan) (old new : Play) (number : ℕ) �
 room_behind p plan old new number fits handlers room begins =
     let is = begins.history in
     let few = round_room p plan fits handlers old.history number (subst (Legal p plan) is begins.play.stands.legal) room in
-    let limit = fits.few_entries in
+    let limit = begins.play.belongs.limits.few_entries in
     subst (HasRoom p plan) (sym is) (omega arith)
 
 -- the round of that number
@@ -94,7 +93,3 @@ round_played p plan number old begun mid new due begins ordered ended =
       play = ended.play;
       history = sym at.history ∙ sym (ap (λ b. cond b (fold (step_of p plan) opened (order_of plan number ++ remaining_turns plan)).history h) due);
     }
-
--- a history is no longer than what is kept can be of
-pub few_entries : (p : Meaning) (plan : Plan) (play : Play) → IsPlay p plan play → length play.history ≤ MAX_ENTRIES
-few_entries p plan play is = let few = is.belongs.window.few in omega (arith, is.stands.entries)

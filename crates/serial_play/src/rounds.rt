@@ -6,6 +6,7 @@ ghost use Rattle.policy_eval.specs.Obligations.{MeetsHandlerObligations};
 ghost use Rattle.round_model.specs.declared.entry.Entry.TheVariants as entry;
 ghost use Rattle.round_model.specs.Fits.{Fits};
 ghost use Rattle.round_model.specs.Legal.{LegalNext};
+ghost use Rattle.round_model.specs.Limits.{IsWithinLimits};
 ghost use Rattle.round_model.specs.SerialEnds.{IsPlayed, RoundFits};
 ghost use Rattle.serial_play.specs.Plays.{IsPlay};
 ghost use Rattle.serial_play.specs.Rounds.{Begins, PlaysRound};
@@ -23,6 +24,7 @@ use std::alloc::Global;
 /// each thread.
 pub fn play_rounds(alloc: Global, policy: &Policy, plan: &Plan) -> Result<Played, ModelMemory>
     requires fits { Fits (meaning_of policy.now) plan.now }
+    requires limits { IsWithinLimits plan.now }
     requires handlers { MeetsHandlerObligations (meaning_of policy.now) }
     ensures { IfOk result (IsPlayed (meaning_of policy.now) plan.now) }
 {
@@ -41,7 +43,7 @@ pub fn play_rounds(alloc: Global, policy: &Policy, plan: &Plan) -> Result<Played
 
 /// The play of no entry.
 fn start(alloc: Global, plan: &Plan) -> Result<Play, ModelMemory>
-    requires few_cores { plan.now.cores ≤ MAX_CORES }
+    requires limits { IsWithinLimits plan.now }
     requires consts_each { length plan.now.consts ≡ plan.now.cores }
     requires few_threads { length plan.now.threads ≤ MAX_THREADS }
     ensures play { IfOk result (λ play. (p : Meaning) → Fits p plan.now → IsPlay p plan.now play) }

@@ -12,6 +12,7 @@ use Rattle.round_model.specs.declared.plan.OrderLine.{OrderLine}
 use Rattle.round_model.specs.declared.plan.Plan.{Plan}
 use Rattle.round_model.specs.declared.plan.Planned.{Planned}
 use Rattle.round_model.specs.Fits.{Fits, ThreadFits}
+use Rattle.round_model.specs.Limits.{IsWithinLimits}
 use Rattle.model_tests.specs.Policies.{in_batches}
 use Rattle.model_tests.proofs.BatchPolicies.{batched_handlers, batched_resolved}
 use Rattle.model_tests.proofs.PolicyRows.{zeros_fit}
@@ -41,9 +42,6 @@ module _ (plan : Plan) (is : IsDrawn plan) where
   fits = record {
     policy = batched_resolved 8 (omega arith) (omega arith);
     some_cores = is.some_cores;
-    few_cores = let few = is.few_cores in omega arith;
-    few_rounds = let six = is.rounds in omega arith;
-    few_entries = let limit = is.limit in omega arith;
     consts_each = ap (length {A = List _}) is.consts ∙ length-replicate plan.cores no_attributes;
     consts = subst (All (AreIn (attribute_ranges []))) (sym is.consts) (All-replicate (AreIn (attribute_ranges [])) plan.cores no_attributes zeros_fit);
     few_threads = let few = is.few_threads in omega arith;
@@ -52,6 +50,13 @@ module _ (plan : Plan) (is : IsDrawn plan) where
     orders = λ k d inside. let bad = no_orders k inside in absurd (omega arith);
     one_order_each = λ i j d below inside. let bad = no_orders j inside in absurd (omega arith);
   }
+
+pub drawn_within : (plan : Plan) → IsDrawn plan → IsWithinLimits plan
+drawn_within plan is = record {
+  few_cores = let few = is.few_cores in omega arith;
+  few_rounds = let six = is.rounds in omega arith;
+  few_entries = let limit = is.limit in omega arith;
+}
 
 pub drawn_fits : (p : Meaning) → p ≡ in_batches 8 → (plan : Plan) → IsDrawn plan → Fits p plan
 drawn_fits p same plan is = subst (λ q. Fits q plan) (sym same) (fits plan is)

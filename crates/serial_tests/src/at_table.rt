@@ -5,6 +5,7 @@ ghost use Rattle.sched_base.specs.declared.limits.TheConstants.{MAX_CORES};
 ghost use Rattle.policy_tree.specs.Meaning.{meaning_of};
 ghost use Rattle.policy_eval.specs.Obligations.{MeetsHandlerObligations};
 ghost use Rattle.round_model.specs.Fits.{Fits};
+ghost use Rattle.round_model.specs.Limits.{IsWithinLimits};
 ghost use Rattle.core_table.specs.Public.{Becomes, plan_of, policy_of};
 ghost use Rattle.core_table.specs.Views.{first_view};
 ghost use Rattle.table_players.specs.Tables.{IsFree};
@@ -33,6 +34,7 @@ pub(crate) fn by_hand<R: Wait>(
     plan: &Plan,
 ) -> Option<History>
     requires fits { Fits (meaning_of policy.now) plan.now }
+    requires limits { IsWithinLimits plan.now }
     requires handlers { MeetsHandlerObligations (meaning_of policy.now) }
 {
     let Ok((table, mut seat)) = Table::open(alloc, policy, plan) else {
@@ -48,6 +50,7 @@ pub(crate) fn by_hand<R: Wait>(
 /// All rounds of the plan that fit its limit.
 fn play_rounds<R: Wait>(rt: &R, table: &Table, policy: &Policy, plan: &Plan, seat: &mut Seat)
     requires fits { Fits (meaning_of policy.now) plan.now }
+    requires limits { IsWithinLimits plan.now }
     requires opened { (policy.now ≡ policy_of table.now) × (plan.now ≡ plan_of table.now) }
     requires seat { Becomes table.now seat.old (first_view policy.now plan.now) }
     ensures { IsFree table.now seat.new }
@@ -77,6 +80,7 @@ pub(crate) fn in_threads<R: Threads + Wait + Sync>(
     plan: &Plan,
 ) -> Option<History>
     requires fits { Fits (meaning_of policy.now) plan.now }
+    requires limits { IsWithinLimits plan.now }
     requires handlers { MeetsHandlerObligations (meaning_of policy.now) }
 {
     let Ok((table, seat)) = Table::open(alloc, policy.policy(), plan) else {
@@ -100,6 +104,7 @@ pub(crate) fn by_crew<R: Threads + Wait + Sync>(
     workers: u32,
 ) -> Option<History>
     requires fits { Fits (meaning_of policy.now) plan.now }
+    requires limits { IsWithinLimits plan.now }
     requires handlers { MeetsHandlerObligations (meaning_of policy.now) }
     requires workers { (1 ≤ workers) × (workers ≤ MAX_CORES) }
 {

@@ -3,6 +3,7 @@
 ghost use Rattle.policy_tree.specs.Meaning.{meaning_of};
 ghost use Rattle.policy_eval.specs.Obligations.{MeetsHandlerObligations};
 ghost use Rattle.round_model.specs.Fits.{Fits};
+ghost use Rattle.round_model.specs.Limits.{IsWithinLimits};
 
 use crate::comparing::are_same;
 use history_judge::replay;
@@ -20,6 +21,7 @@ pub(crate) fn agrees(
     plain: &History,
 ) -> bool
     requires fits { Fits (meaning_of policy.now) plan.now }
+    requires limits { IsWithinLimits plan.now }
     requires handlers { MeetsHandlerObligations (meaning_of policy.now) }
 {
     match history {
@@ -36,6 +38,7 @@ pub(crate) fn comes_whole(
     history: Option<History>,
 ) -> bool
     requires fits { Fits (meaning_of policy.now) plan.now }
+    requires limits { IsWithinLimits plan.now }
     requires handlers { MeetsHandlerObligations (meaning_of policy.now) }
 {
     match history {
@@ -47,6 +50,7 @@ pub(crate) fn comes_whole(
 /// Whether the history is judged to be whole.
 pub(crate) fn is_whole(alloc: Global, policy: &Policy, plan: &Plan, history: &History) -> bool
     requires fits { Fits (meaning_of policy.now) plan.now }
+    requires limits { IsWithinLimits plan.now }
     requires handlers { MeetsHandlerObligations (meaning_of policy.now) }
 {
     history.len() <= MAX_ENTRIES && replay(alloc, policy, plan, history).is_ok()

@@ -3,6 +3,7 @@
 ghost use Rattle.policy_tree.specs.Meaning.{meaning_of};
 ghost use Rattle.policy_eval.specs.Obligations.{MeetsHandlerObligations};
 ghost use Rattle.round_model.specs.Fits.{Fits};
+ghost use Rattle.round_model.specs.Limits.{IsWithinLimits};
 
 use history_merge::merge;
 use policy_checker::AcceptedPolicy;
@@ -13,6 +14,7 @@ use std::alloc::Global;
 /// The whole history that plain lists come to.
 pub(crate) fn by_lists(alloc: Global, policy: &Policy, plan: &Plan) -> Option<History>
     requires fits { Fits (meaning_of policy.now) plan.now }
+    requires limits { IsWithinLimits plan.now }
     requires handlers { MeetsHandlerObligations (meaning_of policy.now) }
 {
     match serial_play::play_rounds(alloc, policy, plan) {
@@ -23,7 +25,8 @@ pub(crate) fn by_lists(alloc: Global, policy: &Policy, plan: &Plan) -> Option<Hi
 
 /// The whole history whose logs the running cores come to.
 pub(crate) fn by_cores(alloc: Global, policy: &AcceptedPolicy, plan: &Plan) -> Option<History>
-    requires { Fits (meaning_of policy.now) plan.now }
+    requires fits { Fits (meaning_of policy.now) plan.now }
+    requires limits { IsWithinLimits plan.now }
 {
     let Ok(closed) = core_worker::play_rounds(alloc, policy, plan) else {
         return None;

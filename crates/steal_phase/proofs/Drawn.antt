@@ -51,6 +51,7 @@ row_with p plan s a b reads (id ∷ ids) legal = legal
 pub agrees_before : (v : View) (h : List Entry) (notes more : List Note) (held : List HeldCore) → v.held ≡ [] → notes ≡ more ++ v.notes → Agrees (record v { notes = notes; held = held }) h → Agrees v h
 agrees_before v h notes more held free is ag = record {
   fits = ag.fits;
+  limits = ag.limits;
   handlers = ag.handlers;
   legal = ag.legal;
   reserve = ag.reserve;

@@ -20,7 +20,7 @@ use Rattle.core_table.specs.Above.{IsAbove}
 use Rattle.core_table.specs.Told.{Agrees, IsSeatOf}
 use Rattle.core_table.specs.Views.{meaning_in}
 use Rattle.select_phase.specs.declared.looks.Look.{Look}
-use Rattle.select_phase.specs.Seen.{AreLast, Looked}
+use Rattle.select_phase.specs.Seen.{Looked}
 use Rattle.steal_phase.specs.declared.outcome.Outcome.{Outcome}
 use Rattle.steal_phase.specs.declared.outcome.Outcome.TheVariants as outcome
 
@@ -35,11 +35,10 @@ pub record MayLook (v : View) (core : ℕ) : Type 0 where
   pub first : IsFalse (has_attempted (own_entries_in v))
   pub free : v.held ≡ []
 
--- by this look the core may make its attempt: it may still look, and the look is the last thing that it read
+-- by this look the core may make its attempt: it may still look, and the look is its own, of the open round
 pub record MayAttempt (v : View) (look : Look) : Type 0 where
   pub ready : MayLook v look.by
   pub looked : Looked v look
-  pub last : AreLast v look.reads
 
 -- the core that was chosen. Where none was, this is of no account
 abbrev pub victim_in : Option ℕ → ℕ

@@ -14,6 +14,7 @@ use Rattle.round_model.specs.declared.plan.OrderLine.{OrderLine}
 use Rattle.round_model.specs.declared.plan.Plan.{Plan}
 use Rattle.round_model.specs.declared.plan.Planned.{Planned}
 use Rattle.round_model.specs.Fits.{Fits, IsProgram, ThreadFits}
+use Rattle.round_model.specs.Limits.{IsWithinLimits}
 use Rattle.round_model.specs.SerialEnds.{RoundFits}
 use Rattle.fair_policy.specs.Fair.{fair_meaning}
 use Rattle.fair_policy.proofs.FairMeets.{fair_handlers_meet}
@@ -72,9 +73,6 @@ module _ (p : Meaning) (grant : Grants p) (plan : Plan) (is : IsCrowd plan) wher
   fits = record {
     policy = grant.resolved;
     some_cores = is.some_cores;
-    few_cores = let few = is.few_cores in omega arith;
-    few_rounds = let one = is.rounds in omega arith;
-    few_entries = let limit = is.limit in omega arith;
     consts_each = ap (length {A = List _}) is.consts ∙ length-replicate plan.cores no_attributes;
     consts = subst (All (AreIn (attribute_ranges p.core_attrs))) (sym is.consts) (All-replicate (AreIn (attribute_ranges p.core_attrs)) plan.cores no_attributes grant.zeros);
     few_threads = let few = is.few_threads in omega arith;
@@ -86,6 +84,13 @@ module _ (p : Meaning) (grant : Grants p) (plan : Plan) (is : IsCrowd plan) wher
 
 pub crowd_fits : (p : Meaning) → IsTried p → (plan : Plan) → IsCrowd plan → Fits p plan
 crowd_fits p tried = fits p (grants p tried)
+
+pub crowd_within : (plan : Plan) → IsCrowd plan → IsWithinLimits plan
+crowd_within plan is = record {
+  few_cores = let few = is.few_cores in omega arith;
+  few_rounds = let one = is.rounds in omega arith;
+  few_entries = let limit = is.limit in omega arith;
+}
 
 pub crowd_round : (plan : Plan) → IsCrowd plan → RoundFits plan 0
 crowd_round plan is = let cores = is.few_cores in let threads = is.few_threads in let limit = is.limit in omega arith

@@ -112,7 +112,6 @@ module _ (v : View) (core : ℕ) where
   may_attempt look turn = record {
     ready = record { of_core = subst (IsSeatOf v) (sym turn.stage.0) turn.of_core; worked = turn.stage.3.work; first = turn.stage.3.attempt; free = turn.free };
     looked = turn.stage.1;
-    last = turn.stage.2;
   }
 
   pub attempted_now : (look : Look) (at : ℕ) (e : Entry) (w : View) → IsTurn v core (stage.Attempting look) → HasAdded look.by at e v w → IsTurn w core stage.Over

@@ -4,7 +4,7 @@ ghost use Rattle.std.specs.Prelude.{◌≡◌, ◌+◌, ◌<◌, ◌≤◌, IfOk
 ghost use Rattle.sched_base.specs.declared.limits.TheConstants.{MAX_ENTRIES};
 ghost use Rattle.policy_tree.specs.Meaning.{meaning_of};
 ghost use Rattle.round_model.specs.Legal.{Legal};
-ghost use Rattle.core_state.specs.Logs.{AreLogsOfOne};
+ghost use Rattle.history_merge.specs.Merged.{AreLogsOfFew};
 ghost use Rattle.core_table.specs.Ends.{IsClosed};
 ghost use Rattle.core_table.specs.Public.{plan_of, policy_of, view_of};
 ghost use Rattle.core_table.specs.Told.{Agrees};
@@ -114,7 +114,7 @@ impl<'a> Game<'a> {
 /// The cores and the logs at the end.
 pub fn closed(table: Table, seat: Seat) -> Closed
     requires { IsFree table seat }
-    ensures logs { AreLogsOfOne result }
+    ensures logs { AreLogsOfFew result }
     ensures closed { IsClosed (view_of seat) result }
 {
     table.close(seat)

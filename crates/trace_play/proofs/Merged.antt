@@ -1,14 +1,14 @@
 -- The history of the logs is the one that was played, and can be written.
-use Rattle.std.proofs.Common.{◌≡◌, ◌≤◌, ℕ, List, length, map, ap, subst, sym, ◌∙◌}
+use Rattle.std.proofs.Common.{◌≡◌, ◌≤◌, ℕ, List, length, map, ap, subst, sym, ◌∙◌, arith}
 use Rattle.std.proofs.lemmas.List.{length-map}
 use Rattle.std.proofs.lemmas.List.FromFn.{length-range_with_len}
-use Rattle.sched_base.specs.declared.limits.TheConstants.{MAX_ENTRIES}
 use Rattle.policy_tree.specs.Meaning.{Meaning}
 use Rattle.round_model.specs.declared.entry.Entry.{Entry}
 use Rattle.round_model.specs.declared.plan.Plan.{Plan}
 use Rattle.round_model.specs.Cores.{core_numbers}
 use Rattle.round_model.specs.Fits.{Fits}
 use Rattle.round_model.specs.Legal.{Legal}
+use Rattle.round_model.specs.Limits.{IsWithinLimits}
 use Rattle.round_model.specs.SerialEnds.{EndsWhole, StopsFull}
 use Rattle.core_state.specs.Logs.{LogsOf}
 use Rattle.core_state.specs.Views.{ClosedView, CoreView}
@@ -19,14 +19,14 @@ use Rattle.sched_history.specs.Ranges.{CanBePrinted}
 use Rattle.sched_history.proofs.Printable.{legal_is_printable}
 
 -- logs of a legal history that isn't too long can be written
-pub can_be_written : (p : Meaning) (plan : Plan) (closed : ClosedView) (history : List Entry) → Fits p plan → Legal p plan history → length history ≤ MAX_ENTRIES
+pub can_be_written : (p : Meaning) (plan : Plan) (closed : ClosedView) (history : List Entry) → Fits p plan → IsWithinLimits plan → Legal p plan history → length history ≤ plan.limit
     → length closed.cores ≡ plan.cores → LogsOf history closed → CanBeWritten closed
-can_be_written p plan closed history fits legal few count logs =
-    let same : history ≡ merged closed = sym (merged_history closed history logs) in record {
-      logs = (history, logs);
-      printable = subst (λ (cores : ℕ). CanBePrinted cores (merged closed)) (sym count)
-          (subst (CanBePrinted plan.cores) same (legal_is_printable p plan history fits legal few));
-    }
+can_be_written p plan closed history fits limits legal few count logs =
+    let most = limits.few_entries in
+    let same : history ≡ merged closed = sym (merged_history closed history logs) in
+    let can = subst (λ (cores : ℕ). CanBePrinted cores (merged closed)) (sym count)
+    (subst (CanBePrinted plan.cores) same (legal_is_printable p plan history fits limits legal (omega arith))) in
+    record { logs = (history, logs, omega arith); count = can.count; lines = can.printable.lines }
 
 count_of_views : (plan : Plan) (closed : ClosedView) (view : ℕ → CoreView) → closed.cores ≡ map view (core_numbers plan) → length closed.cores ≡ plan.cores
 count_of_views plan closed view are = ap length are ∙ (length-map (core_numbers plan) view ∙ length-range_with_len 0 plan.cores)
@@ -44,13 +44,13 @@ module _ (p : Meaning) (plan : Plan) (closed : ClosedView) where
   pub full_count : PlaysFull p plan closed → length closed.cores ≡ plan.cores
   full_count played = count_of_views plan closed _ played.cores
 
-  pub whole_can_be_written : Fits p plan → PlaysWhole p plan closed → CanBeWritten closed
-  whole_can_be_written fits played =
-      can_be_written p plan closed played.history fits played.ends.whole.legal played.ends.few (whole_count played) played.logs
+  pub whole_can_be_written : Fits p plan → IsWithinLimits plan → PlaysWhole p plan closed → CanBeWritten closed
+  whole_can_be_written fits limits played =
+      can_be_written p plan closed played.history fits limits played.ends.whole.legal played.ends.few (whole_count played) played.logs
 
-  pub full_can_be_written : Fits p plan → PlaysFull p plan closed → CanBeWritten closed
-  full_can_be_written fits played =
-      can_be_written p plan closed played.history fits played.stops.legal played.stops.few (full_count played) played.logs
+  pub full_can_be_written : Fits p plan → IsWithinLimits plan → PlaysFull p plan closed → CanBeWritten closed
+  full_can_be_written fits limits played =
+      can_be_written p plan closed played.history fits limits played.stops.legal played.stops.few (full_count played) played.logs
 
 -- and the merged list is that of the definition
 pub merged_list : (closed : ClosedView) (history : List Entry) → LogsOf history closed → merged closed ≡ history

@@ -4,6 +4,7 @@ use Rattle.policy_tree.specs.Meaning.{Meaning}
 use Rattle.round_model.specs.declared.entry.Entry.{Entry}
 use Rattle.round_model.specs.declared.plan.Plan.{Plan}
 use Rattle.round_model.specs.Fits.{Fits}
+use Rattle.round_model.specs.Limits.{IsWithinLimits}
 use Rattle.job_trace.specs.declared.fault.TraceFault.{TraceFault}
 use Rattle.job_trace.specs.declared.plan_fault.PlanFault.{PlanFault}
 use Rattle.job_trace.specs.declared.trace.Numbered.{Numbered}
@@ -61,12 +62,13 @@ pub data HasFault (p : Meaning) (text : List ℕ) (fault : LineFault) : Type 0 w
   no_plan : (trace : List Numbered) (found : PlanFault) → SpellsTrace text trace → IsForeign p trace found →
       told_of_plan found ≡ Some fault → HasFault p text fault
 
--- the text spells a trace, which means that plan under the policy
+-- the text spells a trace, which means that plan under the policy. It is within the limits
 pub record MeansPlan (p : Meaning) (text : List ℕ) (plan : Plan) : Type 0 where
   pub trace : List Numbered
   pub spells : SpellsTrace text trace
   pub means : SpellsPlan p trace plan
   pub fits : Fits p plan
+  pub limits : IsWithinLimits plan
 
 -- that fault, or want of memory
 abbrev pub stop_of : Option LineFault → PlanStop
@@ -85,6 +87,7 @@ pub record PlaysText (p : Meaning) (text : List ℕ) (play : Played) : Type 0 wh
   pub plan : Plan
   pub means : SpellsPlan p trace plan
   pub fits : Fits p plan
+  pub limits : IsWithinLimits plan
   pub played : IsPlayed p plan play
 
 -- so it is with what these cores played, and they are the plan's

@@ -3,6 +3,7 @@
 ghost use Rattle.std.specs.Prelude.{◌<◌, ◌≡◌, IfOk, length};
 ghost use Rattle.policy_tree.specs.Meaning.{meaning_of};
 ghost use Rattle.round_model.specs.Fits.{Fits};
+ghost use Rattle.round_model.specs.Limits.{IsWithinLimits};
 ghost use Rattle.round_model.specs.SerialEnds.{IsPlayed};
 ghost use Rattle.history_merge.specs.Merged.{CanBeWritten};
 ghost use Rattle.trace_play.specs.Plays.{IsPlayOf, IsShown, closed_of, played_by};
@@ -56,7 +57,8 @@ pub fn play_cores(
     policy: &AcceptedPolicy,
     plan: &Plan,
 ) -> Result<PlayedCores, PlayMemory>
-    requires { Fits (meaning_of policy.now) plan.now }
+    requires fits { Fits (meaning_of policy.now) plan.now }
+    requires limits { IsWithinLimits plan.now }
     ensures play { IfOk result (λ left. IsPlayed (meaning_of policy.now) plan.now (played_by left)) }
     ensures cores { IfOk result (λ left. length (closed_of left).cores ≡ plan.now.cores) }
     ensures shown { IfOk result (λ left. CanBeWritten (closed_of left)) }
@@ -70,7 +72,8 @@ pub fn play_cores(
 
 /// What serial play of the plan under the policy comes to, as a history: the logs of the cores are merged.
 pub fn play_plan(alloc: Global, policy: &AcceptedPolicy, plan: &Plan) -> Result<Played, PlayMemory>
-    requires { Fits (meaning_of policy.now) plan.now }
+    requires fits { Fits (meaning_of policy.now) plan.now }
+    requires limits { IsWithinLimits plan.now }
     ensures { IfOk result (IsPlayed (meaning_of policy.now) plan.now) }
 {
     match play_cores(alloc, policy, plan)? {

@@ -1,9 +1,10 @@
 -- The history of the logs is the one that was run, and can be written.
-use Rattle.std.proofs.Common.{ℕ, Result, Ok, Err, IfOk, arith, subst, sym}
+use Rattle.std.proofs.Common.{ℕ, Result, Ok, Err, IfOk, subst, sym}
 use Rattle.policy_tree.specs.Meaning.{Meaning}
 use Rattle.round_model.specs.declared.plan.Plan.{Plan}
 use Rattle.round_model.specs.Fits.{Fits}
 use Rattle.round_model.specs.Legal.{rounds_begun}
+use Rattle.round_model.specs.Limits.{IsWithinLimits}
 use Rattle.core_state.specs.Views.{ClosedView}
 use Rattle.history_merge.specs.Merged.{CanBeWritten, merged}
 use Rattle.history_merge.proofs.MergedLists.{merged_history}
@@ -45,14 +46,14 @@ module _ (p : Meaning) (plan : Plan) (Passed : ℕ → ℕ → Type 0) (closed :
   full_passed run =
       subst (λ h. AllPassed Passed plan (rounds_begun h)) (sym (merged_history closed run.history run.left.logs)) run.left.passed
 
-  module _ (fits : Fits p plan) where
+  module _ (fits : Fits p plan) (limits : IsWithinLimits plan) where
     pub whole_can_be_written : RunsWhole p plan Passed closed → CanBeWritten closed
     whole_can_be_written run =
-        can_be_written p plan closed run.history fits run.left.legal (let most = fits.few_entries in let few = run.left.few in omega arith) run.left.count run.left.logs
+        can_be_written p plan closed run.history fits limits run.left.legal run.left.few run.left.count run.left.logs
 
     pub full_can_be_written : RunsFull p plan Passed closed → CanBeWritten closed
     full_can_be_written run =
-        can_be_written p plan closed run.history fits run.left.legal (let most = fits.few_entries in let few = run.left.few in omega arith) run.left.count run.left.logs
+        can_be_written p plan closed run.history fits limits run.left.legal run.left.few run.left.count run.left.logs
 
 module _ (p : Meaning) (plan : Plan) (Passed : ℕ → ℕ → Type 0) (table : Table) (seat : Seat) where
   -- what holds of all cores that a full history leaves holds of those that are left

@@ -8,6 +8,7 @@ use Rattle.round_model.specs.declared.serial.Played.{Played}
 use Rattle.round_model.specs.declared.serial.Played.TheVariants as played
 use Rattle.round_model.specs.Fits.{Fits}
 use Rattle.round_model.specs.Legal.{IsComplete, Legal, Whole, rounds_begun}
+use Rattle.round_model.specs.Limits.{IsWithinLimits}
 use Rattle.round_model.specs.SerialEnds.{IsFull}
 use Rattle.parallel_play.specs.Runs.{AllPassed, HadRoom}
 use Rattle.parallel_play.specs.declared.fault.RunFault.{RunFault}
@@ -68,6 +69,7 @@ pub record RunsText (p : Meaning) (text : List ℕ) (play : Played) : Type 0 whe
   pub plan : Plan
   pub means : SpellsPlan p trace plan
   pub fits : Fits p plan
+  pub limits : IsWithinLimits plan
   pub ran : IsRun p plan play
 
 -- so it is with what these cores ran, and they are the plan's

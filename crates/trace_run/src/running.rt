@@ -3,6 +3,7 @@
 ghost use Rattle.std.specs.Prelude.{◌<◌, ◌≡◌, ℕ, IfErr, IfOk, IsTrue, length};
 ghost use Rattle.policy_tree.specs.Meaning.{meaning_of};
 ghost use Rattle.round_model.specs.Fits.{Fits};
+ghost use Rattle.round_model.specs.Limits.{IsWithinLimits};
 ghost use Rattle.core_table.specs.Public.{Becomes, plan_of, policy_of};
 ghost use Rattle.core_table.specs.Views.{first_view};
 ghost use Rattle.crew_play.specs.Crews.{IsFaultOf};
@@ -71,6 +72,7 @@ pub fn run_plan<R: Threads + Wait + Sync, G: Gate + Sync>(
     gate: &G,
 ) -> Result<PlayedCores, PlayMemory>
     requires fits { Fits (meaning_of policy.now) plan.now }
+    requires limits { IsWithinLimits plan.now }
     requires players { HasPlayers players }
     requires gate { (c r : ℕ) → IsTrue (G.admits gate.now c r) }
     ensures run { IfOk result (λ left. IsRun (meaning_of policy.now) plan.now (played_by left)) }
@@ -99,6 +101,7 @@ fn play_rounds<R: Threads + Wait + Sync, G: Gate + Sync>(
     gate: &G,
 ) -> Result<Closed, CrewFault>
     requires fits { Fits (meaning_of policy.now) plan.now }
+    requires limits { IsWithinLimits plan.now }
     requires players { HasPlayers players }
     requires opened { (policy.now ≡ policy_of table) × (plan.now ≡ plan_of table)
         × Becomes table seat (first_view policy.now plan.now) }

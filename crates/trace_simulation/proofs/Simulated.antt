@@ -1,10 +1,11 @@
 -- What serial play of a plan comes to can be written, and what that wasted is what is answered.
-use Rattle.std.proofs.Common.{ℕ, List}
+use Rattle.std.proofs.Common.{ℕ, List, arith}
 use Rattle.policy_tree.specs.Meaning.{Meaning}
 use Rattle.round_model.specs.declared.plan.Plan.{Plan}
 use Rattle.round_model.specs.declared.serial.Played.{Played}
 use Rattle.round_model.specs.declared.serial.Played.TheVariants as played
 use Rattle.round_model.specs.Fits.{Fits}
+use Rattle.round_model.specs.Limits.{IsWithinLimits}
 use Rattle.round_model.specs.SerialEnds.{IsPlayed}
 use Rattle.sched_history.specs.Ranges.{CanBePrinted}
 use Rattle.sched_history.proofs.Printable.{legal_is_printable}
@@ -15,9 +16,11 @@ use Rattle.trace_simulation.specs.declared.answer.SimulationAnswer.TheVariants a
 use Rattle.trace_simulation.specs.declared.answer.PlayedPlan.{PlayedPlan}
 use Rattle.trace_simulation.specs.Simulations.{IsPlayedPlan, IsWasteOf, WastesPlayed}
 
-pub can_be_written : (p : Meaning) (plan : Plan) (play : Played) → Fits p plan → IsPlayed p plan play → CanBePrinted plan.cores (history_of play)
-can_be_written p plan (played.Whole history) fits ends = legal_is_printable p plan history fits ends.whole.legal ends.few
-can_be_written p plan (played.Full history) fits ends = legal_is_printable p plan history fits ends.legal ends.few
+pub can_be_written : (p : Meaning) (plan : Plan) (play : Played) → Fits p plan → IsWithinLimits plan → IsPlayed p plan play → CanBePrinted plan.cores (history_of play)
+can_be_written p plan (played.Whole history) fits limits ends =
+    legal_is_printable p plan history fits limits ends.whole.legal (let few = ends.few in let most = limits.few_entries in omega arith)
+can_be_written p plan (played.Full history) fits limits ends =
+    legal_is_printable p plan history fits limits ends.legal (let few = ends.few in let most = limits.few_entries in omega arith)
 
 module _ (p : Meaning) (text : List ℕ) (made : PlayedPlan) (is : IsPlayedPlan p text made) where
   pub wasted_so : (waste : PlayedWaste) → WastesPlayed p made.plan made.played waste → IsWasteOf p text (answer.Wasted waste)

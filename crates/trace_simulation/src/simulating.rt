@@ -5,6 +5,7 @@ ghost use Rattle.policy_tree.specs.Meaning.{meaning_of};
 ghost use Rattle.policy_eval.specs.Obligations.{MeetsHandlerObligations};
 ghost use Rattle.policy_eval.specs.Resolved.{IsResolved};
 ghost use Rattle.round_model.specs.Fits.{Fits};
+ghost use Rattle.round_model.specs.Limits.{IsWithinLimits};
 ghost use Rattle.round_model.specs.SerialEnds.{IsPlayed};
 ghost use Rattle.trace_play.specs.Plays.{IsPlanStop};
 ghost use Rattle.trace_simulation.specs.Simulations.{IsPlayedPlan, IsShown, IsSimulationOf, IsWasteOf, WastesPlayed};
@@ -76,6 +77,7 @@ fn waste_of(
 ) -> Result<PlayedWaste, SimulationMemory>
     requires handlers { MeetsHandlerObligations (meaning_of policy.now) }
     requires fits { Fits (meaning_of policy.now) made.now.plan }
+    requires limits { IsWithinLimits made.now.plan }
     requires played { IsPlayed (meaning_of policy.now) made.now.plan made.now.played }
     ensures { IfOk result (WastesPlayed (meaning_of policy.now) made.now.plan made.now.played) }
 {

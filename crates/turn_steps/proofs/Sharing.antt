@@ -3,7 +3,7 @@ use Rattle.std.proofs.Common.{◌≡◌, ℕ, zero, suc, ◌+◌, ◌*◌, ◌/�
 use Rattle.std.proofs.Math.Nat.{mul-div_cancel_left, zero-div, div-le_of_le-mul, mul-le-mul_right}
 use Rattle.std.proofs.lemmas.Bool.Decides.{nat_tests}
 use Rattle.std.proofs.lemmas.Nat.{div-add-mod', le-div}
-use Rattle.turn_steps.specs.Shares.{OneWorkerLaw, Plays, first_of}
+use Rattle.turn_steps.specs.Shares.{OneWorkerLaw, Plays, SharesLaw, first_of}
 
 pub first_is : (cores workers worker : ℕ) → worker * cores / workers ≡ first_of cores workers worker
 unfolding first_of
@@ -54,3 +54,11 @@ one_worker cores workers core some low =
         | false ↦ λ f. let most : one ≤ other = grind (arith, nat_tests) in omega arith
       ] refl
     ] refl
+
+pub share_grows : (cores workers worker : ℕ) → 1 ≤ workers → workers ≤ cores → first_of cores workers worker < first_of cores workers (worker + 1)
+unfolding first_of
+share_grows cores workers worker some few =
+    let next = le-div (worker * cores / workers + 1) ((worker + 1) * cores) workers (omega arith) (let whole = div-add-mod' (worker * cores) workers in omega arith) in omega arith
+
+pub shares : SharesLaw
+shares cores workers worker few there = record { from = omega arith; below = share_grows cores workers worker (omega arith) few }

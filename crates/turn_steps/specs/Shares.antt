@@ -19,3 +19,8 @@ pub record HasOneWorker (cores workers core : ℕ) : Type 0 where
 
 abbrev pub OneWorkerLaw : Type 0
 OneWorkerLaw = (cores workers core : ℕ) → 1 ≤ workers → core < cores → HasOneWorker cores workers core
+
+-- where there are no more workers than cores, each of them plays one at least
+abbrev pub SharesLaw : Type 0
+SharesLaw = (cores workers worker : ℕ) → workers ≤ cores → worker < workers →
+    Plays cores workers worker (first_of cores workers worker)

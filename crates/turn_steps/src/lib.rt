@@ -14,6 +14,6 @@ mod steps;
 pub mod turning;
 
 pub use crate::asking::{Ask, Told};
-pub use crate::laws::law_one_worker;
+pub use crate::laws::{law_one_worker, law_shares};
 pub use crate::shares::first_core;
 pub use crate::turning::Turning;

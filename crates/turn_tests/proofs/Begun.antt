@@ -26,7 +26,7 @@ opened policy plan past h fits handlers empty stands belongs = subst (Keeps (mea
   handlers = handlers;
   stands = stands;
   belongs = belongs;
-  reserve = (first_agrees policy plan fits handlers).reserve;
+  reserve = (first_agrees policy plan fits belongs.limits handlers).reserve;
 })
 
 module _ (it : MemoryCalls) (kept : IsKept it) (may : MayBegin it) (number : ℕ) (is : number ≡ rounds_begun (history_of it) + 1) where
@@ -44,7 +44,7 @@ module _ (it : MemoryCalls) (kept : IsKept it) (may : MayBegin it) (number : ℕ
   legal_round = subst (LegalRound plan h) (sym is) may.next
 
   pub round_next : MayGrow it (entry.Round number)
-  round_next = let room = may.room in let few = kept.fits.few_entries in record { legal = legal_round; room = omega arith }
+  round_next = let room = may.room in let few = kept.belongs.limits.few_entries in record { legal = legal_round; room = omega arith }
 
   module _ (now : MemoryCalls) (grown : HasGrown (entry.Round number) it now) where
     abbrev begun : MemoryCalls
@@ -67,7 +67,7 @@ module _ (it : MemoryCalls) (kept : IsKept it) (may : MayBegin it) (number : ℕ
       ready = record {
         kept = begun_kept;
         agrees = let more = begun_more h (entry.Round number) in let some = kept.fits.some_cores in
-            told (policy_of it) plan 0 (h ++ entry.Round number ∷ []) false kept.fits kept.handlers grown.stands.legal begun_kept.reserve (omega arith) (omega arith) (λ marked. absurd (cc));
+            told (policy_of it) plan 0 (h ++ entry.Round number ∷ []) false kept.fits kept.belongs.limits kept.handlers grown.stands.legal begun_kept.reserve (omega arith) (omega arith) (λ marked. absurd (cc));
       };
       core = refl;
       history = ap (λ (n : ℕ). h ++ entry.Round n ∷ []) is;

@@ -81,7 +81,7 @@ module _ (it : MemoryCalls) (ready : IsReady it) where
       let k = ready.kept in
       let may : LegalNext p plan h e = subst (MayAdd p plan h) is legal in
       let low = room_for p plan h e a plan.limit k.fits k.handlers k.stands.legal may (subst (ActsBy a) is acts) ready.agrees.role.there k.reserve in
-      let few = k.fits.few_entries in
+      let few = k.belongs.limits.few_entries in
       record { legal = may; room = omega arith }
 
   -- One entry more.
@@ -170,7 +170,7 @@ module _ (it : MemoryCalls) (ready : IsReady it) where
   pub marked_ready : HasWoken p plan h a → IsReady (record it { none_due = true })
   marked_ready none = record {
     kept = ready.kept;
-    agrees = told (policy_of it) plan a h true ready.kept.fits ready.kept.handlers ready.kept.stands.legal ready.kept.reserve ready.agrees.role.there ready.agrees.role.begun (λ marked. none);
+    agrees = told (policy_of it) plan a h true ready.kept.fits ready.kept.belongs.limits ready.kept.handlers ready.kept.stands.legal ready.kept.reserve ready.agrees.role.there ready.agrees.role.begun (λ marked. none);
   }
 
   -- the unit that was told is the one that the step adds

@@ -13,6 +13,7 @@ use Rattle.round_model.specs.Code.Turns.{HasWoken}
 use Rattle.round_model.specs.Entries.{acting_core}
 use Rattle.round_model.specs.Fits.{Fits}
 use Rattle.round_model.specs.Legal.{Legal, LegalNext, rounds_begun}
+use Rattle.round_model.specs.Limits.{IsWithinLimits}
 use Rattle.round_model.specs.Owed.{owed_total}
 use Rattle.round_model.specs.Scenes.{is_due_blocked, waking_next}
 use Rattle.round_model.proofs.Added.{acts_is, no_round, round_stays}
@@ -42,11 +43,12 @@ unfound test (x ∷ xs) is =
     ] refl
 
 -- the history is one that the view tells of
-pub told : (policy : Policy) (plan : Plan) (core : ℕ) (h : List Entry) (none_due : Bool) → Fits (meaning_of policy) plan → MeetsHandlerObligations (meaning_of policy) → Legal (meaning_of policy) plan h
+pub told : (policy : Policy) (plan : Plan) (core : ℕ) (h : List Entry) (none_due : Bool) → Fits (meaning_of policy) plan → IsWithinLimits plan → MeetsHandlerObligations (meaning_of policy) → Legal (meaning_of policy) plan h
     → length h + owed_total (meaning_of policy) plan h ≤ plan.limit → core < plan.cores → 0 < rounds_begun h → (IsTrue none_due → HasWoken (meaning_of policy) plan h core)
     → Agrees (viewed policy plan core h none_due) h
-told policy plan core h none_due fits handlers legal reserve there begun due = record {
+told policy plan core h none_due fits limits handlers legal reserve there begun due = record {
   fits = fits;
+  limits = limits;
   handlers = handlers;
   legal = legal;
   reserve = reserve;
@@ -81,7 +83,7 @@ module _ (policy : Policy) (plan : Plan) (core : ℕ) (h : List Entry) (none_due
   pub longer_told : Agrees (viewed policy plan core (h ++ e ∷ []) none_due) (h ++ e ∷ [])
   longer_told =
       let long = longer h e in let owes = reserve_kept p plan h e core ag.fits ag.handlers ag.legal next acting ag.role.there in let room : length h + owed_total p plan h ≤ plan.limit = ag.reserve in let begun = ag.role.begun in let same = begun_same p plan ag.fits h e core acting in
-      told policy plan core (h ++ e ∷ []) none_due ag.fits ag.handlers longer_legal (omega arith) ag.role.there (omega arith)
+      told policy plan core (h ++ e ∷ []) none_due ag.fits ag.limits ag.handlers longer_legal (omega arith) ag.role.there (omega arith)
       (λ marked. due_stays p plan ag.fits h e core acting core (ag.role.due marked))
 
   -- the view is the one with that entry more

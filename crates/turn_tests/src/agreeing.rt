@@ -4,6 +4,7 @@ ghost use Rattle.std.specs.Prelude.{◌≡◌, ◌⊎◌};
 ghost use Rattle.policy_tree.specs.Meaning.{meaning_of};
 ghost use Rattle.policy_eval.specs.Obligations.{MeetsHandlerObligations};
 ghost use Rattle.round_model.specs.Fits.{Fits};
+ghost use Rattle.round_model.specs.Limits.{IsWithinLimits};
 ghost use Rattle.fair_policy.specs.Fair.{fair_meaning};
 ghost use Rattle.model_tests.specs.Policies.{basic};
 
@@ -78,6 +79,7 @@ fn of_number<R: Wait>(rt: &R, alloc: Global, policy: &Policy, number: usize) -> 
 /// Whether they do on this plan.
 fn of_plan<R: Wait>(rt: &R, alloc: Global, policy: &Policy, plan: &Plan) -> Option<bool>
     requires fits { Fits (meaning_of policy.now) plan.now }
+    requires limits { IsWithinLimits plan.now }
     requires handlers { MeetsHandlerObligations (meaning_of policy.now) }
 {
     let whole = play(rt, alloc, policy, plan, Way::Whole)?;
@@ -89,6 +91,7 @@ fn of_plan<R: Wait>(rt: &R, alloc: Global, policy: &Policy, plan: &Plan) -> Opti
 /// What comes of the plan where turns are taken that way.
 fn play<R: Wait>(rt: &R, alloc: Global, policy: &Policy, plan: &Plan, way: Way) -> Option<Played>
     requires fits { Fits (meaning_of policy.now) plan.now }
+    requires limits { IsWithinLimits plan.now }
     requires handlers { MeetsHandlerObligations (meaning_of policy.now) }
 {
     let Ok(mut calls) = MemoryCalls::open(alloc, policy, plan) else {

@@ -12,6 +12,7 @@ use crate::steps::{did, woken};
 use core_calls::CoreCalls;
 use round_model::{Did, Entry, NextStep, choice};
 use sched_base::{Pos, ThreadId};
+use sched_io::Gate;
 use select_phase::Look;
 use std::sync::Wait;
 use steal_phase::Outcome;
@@ -51,7 +52,7 @@ impl CoreCalls for MemoryCalls<'_> {
         }
     }
 
-    fn look(&mut self) -> Look {
+    fn look<G: Gate>(&mut self, _gate: &G) -> Look {
         let reads = fresh_reads(self.plan, &self.history);
         let values = self.values_read(&reads);
         Look {

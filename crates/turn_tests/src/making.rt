@@ -7,6 +7,7 @@ ghost use Rattle.policy_eval.specs.Obligations.{MeetsHandlerObligations};
 ghost use Rattle.round_model.specs.After.{round_of};
 ghost use Rattle.round_model.specs.Fits.{Fits};
 ghost use Rattle.round_model.specs.Legal.{Legal};
+ghost use Rattle.round_model.specs.Limits.{IsWithinLimits};
 ghost use Rattle.turn_tests.specs.Memory.{HasBegun, IsKept, IsReady, IsSameMemory, MayBegin, core_of, history_of};
 ghost use Rattle.turn_tests.specs.Memory.{meaning_in_memory, plan_of, policy_of};
 
@@ -25,6 +26,7 @@ impl<'a> MemoryCalls<'a> {
         plan: &'a Plan,
     ) -> Result<MemoryCalls<'a>, ModelMemory>
         requires fits { Fits (meaning_of policy.now) plan.now }
+        requires limits { IsWithinLimits plan.now }
         requires handlers { MeetsHandlerObligations (meaning_of policy.now) }
         ensures kept { IfOk result IsKept }
         ensures of { IfOk result (λ it. (policy_of it ≡ policy.now) × (plan_of it ≡ plan.now)) }

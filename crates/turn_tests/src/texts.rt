@@ -6,6 +6,7 @@ ghost use Rattle.policy_tree.specs.Meaning.{meaning_of};
 ghost use Rattle.policy_eval.specs.Resolved.{IsResolved};
 ghost use Rattle.round_model.specs.Fits.{Fits};
 ghost use Rattle.round_model.specs.Legal.{Legal};
+ghost use Rattle.round_model.specs.Limits.{IsWithinLimits};
 
 use job_trace::{plan, read_trace};
 use policy_tree::Policy;
@@ -17,7 +18,8 @@ use std::alloc::Global;
 /// The plan of the text, if it has one and there is memory for it.
 pub(crate) fn plan_of_text(alloc: Global, policy: &Policy, text: &str) -> Option<Plan>
     requires { IsResolved (meaning_of policy.now) }
-    ensures { IfSome result (Fits (meaning_of policy.now)) }
+    ensures fits { IfSome result (Fits (meaning_of policy.now)) }
+    ensures limits { IfSome result IsWithinLimits }
 {
     let bytes = text.as_bytes();
     if bytes.len() >= u32::MAX as usize {
@@ -43,6 +45,7 @@ pub(crate) fn spelled(
     history: &[Entry],
 ) -> Option<MemorySink>
     requires fits { Fits (meaning_of policy.now) plan.now }
+    requires limits { IsWithinLimits plan.now }
     requires legal { Legal (meaning_of policy.now) plan.now history.now }
     requires few { length history.now ≤ MAX_ENTRIES }
 {
@@ -64,6 +67,7 @@ pub(crate) fn is_spelled(
     text: &str,
 ) -> bool
     requires fits { Fits (meaning_of policy.now) plan.now }
+    requires limits { IsWithinLimits plan.now }
     requires legal { Legal (meaning_of policy.now) plan.now history.now }
     requires few { length history.now ≤ MAX_ENTRIES }
 {

@@ -6,6 +6,7 @@ ghost use Rattle.sched_base.specs.declared.limits.TheConstants.{MAX_ENTRIES};
 ghost use Rattle.policy_tree.specs.Meaning.{meaning_of};
 ghost use Rattle.policy_eval.specs.Obligations.{MeetsHandlerObligations};
 ghost use Rattle.round_model.specs.Fits.{Fits};
+ghost use Rattle.round_model.specs.Limits.{IsWithinLimits};
 ghost use Rattle.fair_policy.specs.Fair.{fair_meaning};
 ghost use Rattle.model_tests.specs.Policies.{basic, in_batches};
 ghost use Rattle.turn_tests.specs.Memory.{IsKept, IsSameMemory};
@@ -225,6 +226,7 @@ fn plan_comes_to<R: Wait>(
     way: Way,
 ) -> Option<Finding>
     requires fits { Fits (meaning_of policy.now) plan.now }
+    requires limits { IsWithinLimits plan.now }
     requires handlers { MeetsHandlerObligations (meaning_of policy.now) }
 {
     let gate = Turnstile::new();
@@ -271,6 +273,7 @@ fn have_told<R: Wait, G: Gate>(
 /// Whether there was memory to judge the entries, and each of them is legal behind those before it.
 fn is_legal(alloc: Global, policy: &Policy, plan: &Plan, entries: &[Entry]) -> bool
     requires fits { Fits (meaning_of policy.now) plan.now }
+    requires limits { IsWithinLimits plan.now }
     requires handlers { MeetsHandlerObligations (meaning_of policy.now) }
     requires few { length entries.now ≤ MAX_ENTRIES }
 {

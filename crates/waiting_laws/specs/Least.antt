@@ -1,5 +1,5 @@
--- The law of the least value: where a thread with the least value of an attribute is elected, and each unit raises it, the
--- values of the others say how many units a thread waits, as long as no thread comes.
+-- The law of the least value: where a thread with the least value of an attribute is elected, and each unit raises it,
+-- the values of the others say how many units a thread waits, as long as no thread comes.
 use Rattle.std.specs.Prelude.{◌≡◌, ℕ, suc, ◌+◌, ◌<◌, ◌≤◌, ◌⊎◌, ℤ, pos, negsuc, ◌-ℤ◌, ◌<ℤ◌, List, [], ◌∷◌}
 use Rattle.std.specs.Prelude.{length, take, sum_by, All, IsSomeAnd, Some, false, option_map, slice_get}
 use mathlib.Core.Option.{some}
@@ -77,8 +77,8 @@ module _ (p : Meaning) (plan : Plan) (history : List Entry) (a : ℕ) where
   abbrev pub lags : (c : ℕ) → ℤ → ℕ → ℕ
   lags c u k = sum_by (lag a u) (after p plan (take k history) c).queue
 
-  -- until a thread that waits runs or is stolen, or another comes, each unit of the core lessens the sum of its place and
-  -- the lags
+  -- until a thread that waits runs or is stolen, or another comes, each unit of the core lessens the sum of its place
+  -- and the lags
   abbrev pub UnitsLessenLags : Type 0
   UnitsLessenLags = (x c place from to : ℕ) (u : ℤ) → c < plan.cores → from ≤ to → WaitsWith x c u place from
       → IsUnstolen history x c from to → NoneComes history c from to
@@ -92,7 +92,8 @@ module _ (p : Meaning) (plan : Plan) (history : List Entry) (a : ℕ) where
       → IsUnstolen history x c from to → NoneComes history c from to
       → suc (place + lags c u from) ≤ units_of history c from to → RunsIn history x c from to
 
-  -- so among as many units as threads wait there and the lags together: of itself one, of each other one more than it lags
+  -- so among as many units as threads wait there and the lags together: of itself one, of each other one more than it
+  -- lags
   abbrev pub RunsByOthers : Type 0
   RunsByOthers = (x c place from to : ℕ) (u : ℤ) → c < plan.cores → WaitsWith x c u place from
       → IsUnstolen history x c from to → NoneComes history c from to

@@ -1,5 +1,5 @@
--- The law of slices: where a thread keeps its core only as long as an attribute of it falls, the attribute's range bounds
--- how many units go by before the next that waits gets the core.
+-- The law of slices: where a thread keeps its core only as long as an attribute of it falls, the attribute's range
+-- bounds how many units go by before the next that waits gets the core.
 use Rattle.std.specs.Prelude.{◌≡◌, ℕ, suc, ◌+◌, ◌*◌, ◌<◌, ◌≤◌, ◌⊎◌, ℤ, pos, ◌+ℤ◌, ◌<ℤ◌, List, [], take, All}
 use Rattle.std.specs.Prelude.{IfSome, Some, false, option_map, slice_get, slice_index_or}
 use Rattle.sched_base.specs.declared.task.Task.{Task}
@@ -29,8 +29,8 @@ LowersIfKeeping p a c = c.put ≡ put.Keep
     → (consts : List ℤ) (t : Task) → AreIn (attribute_ranges p.core_attrs) consts → IsTask p t
     → Holds (seen_by_handler false consts t) c.guard → value_in a (task_after_case p false consts t c) <ℤ value_in a t
 
--- the policy elects the first that waits; on tick and on yield a case that keeps its thread lowers that attribute, whose
--- upper end is as many numbers above `low`, its lower end, as `keeps` says. A case that doesn't keep it queues it
+-- the policy elects the first that waits; on tick and on yield a case that keeps its thread lowers that attribute,
+-- whose upper end is as many numbers above `low`, its lower end, as `keeps` says. A case that doesn't keep it queues it
 pub record KeepsInSlices (p : Meaning) (a : ℕ) (low : ℤ) (keeps : ℕ) : Type 0 where
   pub first : p.elect ≡ []
   pub reaches : option_map declared_range (slice_get p.thread_attrs a) ≡ Some (range low (low +ℤ pos keeps))
@@ -46,8 +46,8 @@ module _ (p : Meaning) (plan : Plan) (history : List Entry) (a : ℕ) (low : ℤ
   abbrev pub KeepsAreFew : Type 0
   KeepsAreFew = (c k : ℕ) → c < plan.cores → HasLeft a low (after p plan (take k history) c) keeps
 
-  -- until a thread that waits runs or is stolen, each unit of the core uses up one of those that are left to the current
-  -- thread, and of one more than `keeps` for each that waits before it
+  -- until a thread that waits runs or is stolen, each unit of the core uses up one of those that are left to the
+  -- current thread, and of one more than `keeps` for each that waits before it
   abbrev pub UnitsUseUp : Type 0
   UnitsUseUp = (x c place left from to : ℕ) → c < plan.cores → from ≤ to → WaitsAt p plan history x c place from
       → HasLeft a low (after p plan (take from history) c) left → IsUnstolen history x c from to
@@ -55,8 +55,8 @@ module _ (p : Meaning) (plan : Plan) (history : List Entry) (a : ℕ) (low : ℤ
       ⊎ ((ahead rest : ℕ) × (rest + ahead * suc keeps + units_of history c from to ≤ left + place * suc keeps)
       × WaitsAt p plan history x c ahead to × HasLeft a low (after p plan (take to history) c) rest)
 
-  -- so a thread that isn't stolen runs among as many slices of the core as its place says, and one more, each of `keeps`
-  -- units and one
+  -- so a thread that isn't stolen runs among as many slices of the core as its place says, and one more, each of
+  -- `keeps` units and one
   abbrev pub RunsInSlices : Type 0
   RunsInSlices = (x c place from to : ℕ) → c < plan.cores → WaitsAt p plan history x c place from
       → IsUnstolen history x c from to → suc place * suc keeps ≤ units_of history c from to → RunsIn history x c from to

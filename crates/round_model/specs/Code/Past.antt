@@ -15,6 +15,7 @@ use Rattle.round_model.specs.After.{after, round_of}
 use Rattle.round_model.specs.Bounds.{CoreInBounds, standing_count}
 use Rattle.round_model.specs.Cores.{core_numbers, listed}
 use Rattle.round_model.specs.Legal.{Legal, has_ended, rounds_begun}
+use Rattle.round_model.specs.Limits.{IsWithinLimits}
 use Rattle.round_model.specs.Code.Lists.{Lists}
 use Rattle.round_model.specs.Reads.{round_start, value_read}
 use Rattle.round_model.specs.Scenes.{has_attempted, has_worked, is_entering, own_entries}
@@ -76,8 +77,9 @@ pub record IsKeptPosition (past : Past) (position : ℕ) : Type 0 where
   pub not_after : position ≤ past.entries
   pub not_before : past.entries + 1 ≤ position + length past.rows
 
--- the past was made for that plan, and its numbers lie in the policy's ranges
+-- the past was made for that plan, which is within the limits, and its numbers lie in the policy's ranges
 pub record IsPastOf (p : Meaning) (plan : Plan) (past : Past) : Type 0 where
+  pub limits : IsWithinLimits plan
   pub cores : length past.state ≡ plan.cores
   pub turns : length past.turns ≡ plan.cores
   pub each : All (CoreInBounds p) past.state

@@ -18,7 +18,7 @@ returns-in-Ok c =
     (subst (λ (p : Meaning). SpellsPlan p c.in_ok-trace.trace plan) c.requires.policy c.in-Ok.ensures.plan) in
     let fits : Fits fair_meaning plan = subst (λ (p : Meaning). Fits p plan) c.requires.policy
     (c.in-Ok.ensures.fits (subst IsResolved (sym c.requires.policy) fair_resolved)) in
-    is_made_plan c.args.seed c.args.size plan c.requires.size spells fits
+    is_made_plan c.args.seed c.args.size plan c.requires.size spells fits c.in-Ok.ensures.limits
 
 pub unreachable-requires : goal.unreachable-requires
 unreachable-requires c =

@@ -10,5 +10,8 @@ pub returns : goal.returns
 returns c =
     let p = meaning_of c.args.policy.now in
     let front = c.in_ok-extend_from_slice.ensures.items ∙ ap (λ t. t ++ codes "certificates 1\n") c.new-text.ensures.items in
-    let written = subst (λ (names : List ObName). AreWritten p names c.extend_from_slice.new.self.items c.put_obligations.new.text.items) c.ob_names.ensures c.in_ok-put_obligations.ensures in
-    written_whole p c.extend_from_slice.new.self.items c.put_obligations.new.text.items front written
+    let written = subst (λ (names : List ObName). AreWritten p names c.extend_from_slice.new.self.items c.put_obligations.new.text.items) c.obligations.ensures.names c.in_ok-put_obligations.ensures in
+    record {
+      uncrowded = c.obligations.ensures.few;
+      proves = written_whole p c.extend_from_slice.new.self.items c.put_obligations.new.text.items front written;
+    }

@@ -1,11 +1,11 @@
-use Rattle.std.proofs.Common.{◌≡◌, ◌+◌, true, refl, sym, ap, ◌∙◌, subst, arith}
+use Rattle.std.proofs.Common.{◌≡◌, ℕ, ◌+◌, true, refl, sym, ap, ◌∙◌, subst, arith}
 use Rattle.round_model.specs.declared.entry.Entry.TheVariants as entry
 use Rattle.core_table.specs.declared.views.Role.TheVariants as role
 use Rattle.core_table.specs.declared.views.View.{View}
 use Rattle.core_calls.specs.Calls.{core_in}
 use Rattle.core_calls.specs.Code.Arrivals.{HasDrawn}
 use Rattle.core_calls.specs.Steps.{HasLetAllIn, MayWork, Worked}
-use Rattle.core_calls.proofs.TurnEnds.{drawn_so_far, may_attempt, may_look, turned_by}
+use Rattle.core_calls.proofs.TurnEnds.{drawn_so_far, may_look, may_try, turned_by}
 use Rattle.core_calls.proofs.Turning.{core_is, own_few}
 use Rattle.core_calls.proofs.turns.turn.Goals as goal
 
@@ -38,11 +38,19 @@ look-look-requires-clause-may g c =
     let a = core_in v in let work = subst (λ k. Worked k c.work-did.result w x) (core_is w a e.drawn.of_core) c.work-did.ensures.worked in
     may_look a c.wake_all-drawn.result v w x e.drawn c.work-did.result work
 
+pub look-look-requires-clause-passed : goal.look-look-requires-clause-passed
+look-look-requires-clause-passed g c =
+    let v = g.C.CoreCalls.view c.enter_all-entered.new.calls in let w = g.C.CoreCalls.view c.wake_all-drawn.new.calls in let x = g.C.CoreCalls.view c.work-did.new.self in let e = c.wake_all-drawn.ensures in
+    let a = core_in v in let begun = c.enter_all-entered.ensures.drawn in let work = subst (λ k. Worked k c.work-did.result w x) (core_is w a e.drawn.of_core) c.work-did.ensures.worked in
+    let P : ℕ → ℕ → Type 0 = g.G.Gate.passed c.args.gate.now in let core = core_is x a work.adds.added.of_core ∙ core_is v c.args.core begun.of_core in
+    let round = ap (λ (u : View). u.round) work.adds.added.rest ∙ (ap (λ (u : View). u.round) e.drawn.rest ∙ (ap (λ (u : View). u.round) begun.rest ∙ sym c.requires.round)) in
+    subst (λ k. P k x.round) (sym core) (subst (P c.args.core) (sym round) c.pass.ensures)
+
 pub attempt-requires-clause-may : goal.attempt-requires-clause-may
 attempt-requires-clause-may g c =
     let v = g.C.CoreCalls.view c.enter_all-entered.new.calls in let w = g.C.CoreCalls.view c.wake_all-drawn.new.calls in let x = g.C.CoreCalls.view c.work-did.new.self in let e = c.wake_all-drawn.ensures in
     let a = core_in v in let work = subst (λ k. Worked k c.work-did.result w x) (core_is w a e.drawn.of_core) c.work-did.ensures.worked in
-    may_attempt a c.wake_all-drawn.result v w x e.drawn c.work-did.result work (g.C.CoreCalls.view c.look-look.new.self) c.look-look.result c.look-look.ensures.looked
+    may_try a c.wake_all-drawn.result v w x e.drawn c.work-did.result work (g.C.CoreCalls.view c.look-look.new.self) c.look-look.result c.look-look.ensures.looked
 
 pub overflow_add-result : goal.overflow_add-result
 overflow_add-result g c =

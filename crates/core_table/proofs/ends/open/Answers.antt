@@ -6,7 +6,7 @@ use Rattle.core_table.proofs.Opening.{first_agrees, opens, sits_first}
 use Rattle.core_table.proofs.ends.open.Goals as goal
 
 pub new-requires : goal.new-requires
-new-requires c = opens c.args.policy.now c.args.plan.now (record { policy = c.of.result; plan = c.of-2.result }) c.in_ok-slots.slots.items c.as_slice.result.now c.requires.fits c.requires.handlers c.in_ok-slots.ensures
+new-requires c = opens c.args.policy.now c.args.plan.now (record { policy = c.of.result; plan = c.of-2.result }) c.in_ok-slots.slots.items c.as_slice.result.now c.requires.fits c.requires.limits c.requires.handlers c.in_ok-slots.ensures
     (c.as_slice.ensures.value ∙ c.in_ok-words.ensures.items_if_clones_equal (λ y e. e)) c.of.ensures c.of-2.ensures
 
 pub returns-in-Ok-clause-sits : goal.returns-in-Ok-clause-sits
@@ -20,5 +20,5 @@ returns-in-Ok-clause-known c = let o = c.in-Ok.ensures.ok in (
   [],
   subst (λ (v : View). Rattle.core_table.specs.Told.Agrees v [])
       (sym (ap (λ m. m.0) o.4 ∙ (λ i. Rattle.core_table.specs.Views.first_view (c.of.ensures i) (c.of-2.ensures i))))
-      (first_agrees c.args.policy.now c.args.plan.now c.requires.fits c.requires.handlers),
+      (first_agrees c.args.policy.now c.args.plan.now c.requires.fits c.requires.limits c.requires.handlers),
 )

@@ -4,7 +4,7 @@ use Rattle.core_table.specs.Public.{plan_of, view_of}
 use Rattle.parallel_play.specs.Playing.{IdleFrom}
 use Rattle.parallel_play.specs.Stages.{table_in}
 use Rattle.turn_steps.specs.Shares.{first_of}
-use Rattle.turn_steps.proofs.Sharing.{first_grows, first_within}
+use Rattle.turn_steps.proofs.Sharing.{first_grows, first_within, share_grows}
 use Rattle.crew_play.specs.Hands.{Nobody}
 use Rattle.crew_play.proofs.Handing.{crew_as, dealt_round}
 use Rattle.crew_play.proofs.Shares.{share_fits}
@@ -48,3 +48,10 @@ returns-clause-len g c = c.deal-seat.ensures.len ∙ (c.first_core-end.ensures �
 pub returns-clause-crew : goal.returns-clause-crew
 returns-clause-crew g c =
     crew_as (table_in c.args.stage.now) Nobody (g.G.Gate.passed c.args.gate.now) c.args.stage.now.round c.first_core-first.result c.deal-seat.result.1.items (λ core round nobody. absurd nobody) c.deal-seat.ensures.crew
+
+pub returns-clause-some : goal.returns-clause-some
+returns-clause-some g c few =
+    let cores : ℕ = (plan_of (table_in c.args.stage.now)).cores in let grows = share_grows cores c.args.workers c.args.worker c.requires.workers.0 few in
+    let first : c.first_core-first.result ≡ first_of cores c.args.workers c.args.worker = c.first_core-first.ensures ∙ ap (λ n. first_of n c.args.workers c.args.worker) c.cores-cores.ensures in
+    let end : c.first_core-end.result ≡ first_of cores c.args.workers (c.args.worker + 1) = c.first_core-end.ensures ∙ ap (λ n. first_of n c.args.workers (c.args.worker + 1)) c.cores-cores.ensures in
+    let len = c.deal-seat.ensures.len in omega arith

@@ -9,6 +9,7 @@ use Rattle.turn_steps.specs.States.{TurnState, state_of}
 use Rattle.crew_play.specs.Hands.{turn_in}
 use Rattle.crew_play.specs.Steps.{IsPlaying, Steps}
 use Rattle.crew_play.proofs.Handing.{same_passed}
+use Rattle.crew_play.proofs.Passing.{step_of}
 use Rattle.crew_play.proofs.playing.step_hand.Goals as goal
 
 pub returns-clause-hand : goal.returns-clause-hand
@@ -33,3 +34,8 @@ returns-clause-over g c ends =
     let t = turn_in c.args.hand.now in let u = state_of c.crew_step-goes_on.new.turning in let s = c.crew_step-goes_on.ensures in let before = view_of (seat_of c.new-calls.result) in let now = view_of (seat_of c.crew_step-goes_on.new.calls) in
     let rests = subst (λ b. Steps b t u before now) ends s.steps in
     subst (λ (x : TurnState). IsOver x.reached) (sym rests.untold) rests.over
+
+pub returns-clause-step : goal.returns-clause-step
+returns-clause-step g c =
+    let t = turn_in c.args.hand.now in let u = state_of c.crew_step-goes_on.new.turning in let s = c.crew_step-goes_on.ensures in let before = view_of (seat_of c.new-calls.result) in let now = view_of (seat_of c.crew_step-goes_on.new.calls) in
+    let step = step_of c.crew_step-goes_on.result t u before now s.steps s.over s.more in record { rests = step.0; goes = step.1 }

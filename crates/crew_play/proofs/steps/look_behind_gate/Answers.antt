@@ -1,7 +1,9 @@
+use Rattle.std.proofs.Common.{ℕ, sym, subst}
+use Rattle.core_calls.proofs.Turning.{core_is}
 use Rattle.turn_steps.specs.declared.asking.Told.TheVariants as told
 use Rattle.turn_steps.specs.Answers.{with_told}
 use Rattle.turn_steps.specs.States.{state_of}
-use Rattle.crew_play.proofs.Growing.{played_as, same_turn, told_behind_all}
+use Rattle.crew_play.proofs.Growing.{played_as, same_turn, told_behind_all, told_more}
 use Rattle.crew_play.proofs.Knowing.{told_few}
 use Rattle.crew_play.proofs.Trying.{looked_asked, looked_playing, may_look}
 use Rattle.crew_play.proofs.steps.look_behind_gate.Goals as goal
@@ -27,3 +29,11 @@ returns-clause-looked g c =
     let a = c.requires.awaits in
     looked_asked (state_of c.args.turning.now) (g.C.CoreCalls.view c.args.calls.now) c.requires.playing a.0 a.1 c.look-look.result (g.C.CoreCalls.view c.look-look.new.self) c.look-look.ensures.looked c.requires.asked
     (state_of c.told.new.self) c.told.ensures.state
+
+pub returns-clause-more : goal.returns-clause-more
+returns-clause-more g c = told_more (told.Looked c.look-look.result) (state_of c.args.turning.now) (state_of c.told.new.self) c.told.ensures.told
+
+pub look-look-requires-clause-passed : goal.look-look-requires-clause-passed
+look-look-requires-clause-passed g c =
+    let t = state_of c.args.turning.now in let v = g.C.CoreCalls.view c.args.calls.now in let said = c.requires.playing.told in let P : ℕ → ℕ → Type 0 = g.G.Gate.passed c.args.gate.now in
+    subst (λ k. P k v.round) (sym (core_is v t.core said.of_core)) (subst (P t.core) (sym said.round) (subst (λ k. P k t.round) c.core.ensures (subst (P c.core.result) c.round.ensures c.pass.ensures)))

@@ -3,14 +3,14 @@ use Rattle.turn_steps.specs.declared.asking.Told.TheVariants as told
 use Rattle.turn_steps.specs.Answers.{with_told}
 use Rattle.turn_steps.specs.States.{state_of}
 use Rattle.crew_play.specs.Steps.{HasLooked}
-use Rattle.crew_play.proofs.Growing.{played_as, same_turn, told_behind_all}
+use Rattle.crew_play.proofs.Growing.{played_as, same_turn, told_behind_all, told_more}
 use Rattle.crew_play.proofs.Knowing.{told_few}
-use Rattle.crew_play.proofs.Trying.{may_attempt, tried_asked, tried_playing}
+use Rattle.crew_play.proofs.Trying.{may_try, tried_asked, tried_playing}
 use Rattle.crew_play.proofs.steps.try_by.Goals as goal
 
 pub attempt-requires-clause-may : goal.attempt-requires-clause-may
 attempt-requires-clause-may g c =
-    let a = c.requires.awaits in may_attempt (state_of c.args.turning.now) (g.C.CoreCalls.view c.args.calls.now) c.requires.playing a.0 c.args.look a.1
+    let a = c.requires.awaits in may_try (state_of c.args.turning.now) (g.C.CoreCalls.view c.args.calls.now) c.requires.playing a.0 c.args.look a.1
 
 pub told-requires-clause-awaited : goal.told-requires-clause-awaited
 told-requires-clause-awaited g c = let a = c.requires.awaits in (a.0, c.args.look, a.1)
@@ -36,3 +36,6 @@ returns-clause-added g c =
 
 pub returns-clause-looked : goal.returns-clause-looked
 returns-clause-looked g c looked = subst HasLooked (sym c.requires.awaits.1) tt
+
+pub returns-clause-more : goal.returns-clause-more
+returns-clause-more g c = told_more told.Acted (state_of c.args.turning.now) (state_of c.told.new.self) c.told.ensures.told

@@ -1,4 +1,4 @@
-use Rattle.std.proofs.Common.{◌∙◌, MatchOption, refl, sym, subst}
+use Rattle.std.proofs.Common.{◌∙◌, MatchOption, refl, sym, subst, arith}
 use Rattle.core_calls.specs.Steps.{HasNoneDue, Woken}
 use Rattle.core_calls.proofs.Turning.{core_is, none_woke, some_woke}
 use Rattle.turn_steps.specs.declared.asking.Ask.TheVariants as ask
@@ -8,7 +8,7 @@ use Rattle.turn_steps.specs.Asks.{AsksAsModel}
 use Rattle.turn_steps.specs.States.{TurnState, state_of}
 use Rattle.turn_steps.proofs.ModelAsks.{model_of_unit}
 use Rattle.crew_play.specs.Steps.{AddsAsked}
-use Rattle.crew_play.proofs.Growing.{played_as, same_turn, told_behind_all}
+use Rattle.crew_play.proofs.Growing.{played_as, same_turn, told_behind_all, told_more}
 use Rattle.crew_play.proofs.Knowing.{told_few}
 use Rattle.crew_play.proofs.Waking.{asked_before, may_wake, none_playing, woken_asked, woken_playing}
 use Rattle.crew_play.proofs.steps.wake_or_work.Goals as goal
@@ -59,3 +59,10 @@ returns-else-is_some-clause-added g c =
     let playing = none_playing t v p mid none c.requires.awaits.1 (told_behind_all told.NothingDue t u is c.told-else-is_some.ensures.told) in
     asked_before t v p mid none c.requires.awaits.0 (model_of_unit mid.plan (with_told told.NothingDue t) c.requires.awaits.1 playing.of_plan refl) playing.told now last
     (subst (λ (x : TurnState). AddsAsked x last mid now) is c.work.ensures.added)
+
+pub returns-then-is_some-clause-more : goal.returns-then-is_some-clause-more
+returns-then-is_some-clause-more g c = told_more told.Woke (state_of c.args.turning.now) (state_of c.told.new.self) c.told.ensures.told
+
+pub returns-else-is_some-clause-more : goal.returns-else-is_some-clause-more
+returns-else-is_some-clause-more g c =
+    let none = told_more told.NothingDue (state_of c.args.turning.now) (state_of c.told-else-is_some.new.self) c.told-else-is_some.ensures.told in let unit = c.work.ensures.more in omega arith

@@ -5,7 +5,7 @@ use Rattle.turn_steps.specs.declared.asking.Told.TheVariants as told
 use Rattle.turn_steps.specs.Answers.{with_told}
 use Rattle.turn_steps.specs.States.{TurnState, state_of}
 use Rattle.crew_play.specs.Steps.{HasLooked}
-use Rattle.crew_play.proofs.Growing.{played_as, same_turn, told_behind_all}
+use Rattle.crew_play.proofs.Growing.{played_as, same_turn, told_behind_all, told_more}
 use Rattle.crew_play.proofs.Knowing.{told_few}
 use Rattle.crew_play.proofs.Waking.{may_work, unit_asked, unit_playing}
 use Rattle.crew_play.proofs.steps.work.Goals as goal
@@ -38,3 +38,6 @@ returns-clause-added g c =
 
 pub returns-clause-looked : goal.returns-clause-looked
 returns-clause-looked g c looked = absurd (subst HasLooked (ap (λ (x : TurnState). x.reached) c.told.ensures.state) looked)
+
+pub returns-clause-more : goal.returns-clause-more
+returns-clause-more g c = told_more (told.Worked c.work-did.result) (state_of c.args.turning.now) (state_of c.told.new.self) c.told.ensures.told

@@ -5,6 +5,10 @@ use Rattle.round_model.specs.declared.entry.Entry.{Entry}
 use Rattle.history_merge.proofs.Walks.{none_beyond}
 use Rattle.history_merge.proofs.merging.merge.Goals as goal
 
+pub overflow_cast-count : goal.overflow_cast-count
+overflow_cast-count c =
+    let one = c.requires in let count = c.entry_count-count.ensures one.0 one.1 in let few = one.2 in omega arith
+
 pub loop-at-init : goal.loop-at-init
 loop-at-init c = record {
   entries = λ h logs. c.in_ok-entries.ensures.items;
@@ -16,10 +20,10 @@ loop-at-init c = record {
 pub unreachable-requires : goal.unreachable-requires
 unreachable-requires c =
     let one = c.requires in
-    let none = sym (c.next_entry.ensures.entry one.0 one.1) ∙ c.in_default-next_entry.is in
+    let none = sym (c.next_entry.ensures.entry one.0 one.1) ∙ c.in_default.is in
     let beyond = none_beyond one.0 c.loop-at.at none in
-    let count = c.entry_count.ensures one.0 one.1 in
-    let same = c.in-Ok.ensures.1 in omega arith
+    let count = c.entry_count-count.ensures one.0 one.1 in
+    let less = c.loop-at-test.true in omega arith
 
 pub loop-at-preserved : goal.loop-at-preserved
 loop-at-preserved c = record {

@@ -21,7 +21,7 @@ same : (closed : ClosedView) (can : CanBeWritten closed) → merged closed ≡ c
 same closed can = merged_history closed can.logs.0 can.logs.1
 
 pub put_header-requires : goal.put_header-requires
-put_header-requires g c = rw c.cores.ensures.count c.requires.printable.count
+put_header-requires g c = rw c.cores.ensures.count c.requires.count
 
 pub returns-in_err-put_header-clause-lines : goal.returns-in_err-put_header-clause-lines
 returns-in_err-put_header-clause-lines g c =
@@ -32,8 +32,7 @@ returns-in_err-put_header-clause-lines g c =
 
 pub overflow_cast-count : goal.overflow_cast-count
 overflow_cast-count g c =
-    let can = c.requires in let counts = c.entry_count-count.ensures can.logs.0 can.logs.1 in
-    let is = ap length (same c.args.closed.now can) in let few = can.printable.printable.few in omega arith
+    let can = c.requires in let counts = c.entry_count-count.ensures can.logs.0 can.logs.1 in let few = can.logs.2 in omega arith
 
 pub loop-at-init : goal.loop-at-init
 loop-at-init g c = record { stand = c.start-cursors.ensures c.args.closed.now; start = refl; written = subst (λ (n : ℕ). WritesAll (header n ∷ []) (g.S.Sink.shown c.args.out.now) (g.S.Sink.shown c.put_header.new.out)) c.cores.ensures.count c.in_ok-put_header.ensures }
@@ -56,7 +55,7 @@ put_entry-requires g c =
     let there = found history one.0 at e (same c.args.closed.now c.requires) (sym (c.lend_entry.ensures.entry one.0 one.1) ∙ ap lent c.in-Some.is) in
     let is = get_or_from_slice_get history at e e there in
     subst (λ (n : ℕ). IsPrintableFrom n e) (sym c.loop-at.invariant.start)
-    (subst (λ (x : Entry). IsPrintableFrom (round_start (take at history)) x) is (printable_at (length c.args.closed.now.cores) history at e (slice_get_within history at e there) c.requires.printable))
+    (subst (λ (x : Entry). IsPrintableFrom (round_start (take at history)) x) is (printable_at (length c.args.closed.now.cores) history at e (slice_get_within history at e there) c.requires.lines))
 
 pub returns-in_err-put_entry-clause-lines : goal.returns-in_err-put_entry-clause-lines
 returns-in_err-put_entry-clause-lines g c =

@@ -1,7 +1,9 @@
 -- What is written of an accepted policy is of the one that it lends.
 use Rattle.std.proofs.Common.{◌≡◌, IfOk, subst, sym}
+use Rattle.std.proofs.lemmas.Result.{IfOk-weaker}
 use Rattle.policy_tree.specs.declared.typed.Policy.{Policy}
 use Rattle.policy_tree.specs.Meaning.{meaning_of}
+use Rattle.cert_file.specs.Answers.{IsWritten}
 use Rattle.c_printer.specs.CText.{c_text}
 use Rattle.ipanema_cli.specs.PolicyAnswers.{exporting_of}
 use Rattle.ipanema_cli.specs.declared.kinds.ExportCommand.{ExportCommand}
@@ -10,7 +12,7 @@ use Rattle.ipanema_cli.proofs.answers.exported_of.Goals as goal
 pub returns-in-Prove : goal.returns-in-Prove
 returns-in-Prove c =
     subst (λ (command : ExportCommand). IfOk c.write_certs.result (λ text. exporting_of command (meaning_of c.args.accepted.now) text.items))
-    (sym c.in-Prove.is) c.write_certs.ensures
+    (sym c.in-Prove.is) (IfOk-weaker c.write_certs.result _ _ (λ text (written : IsWritten (meaning_of c.args.accepted.now) text.items). written.proves) c.write_certs.ensures)
 
 pub returns-in_ok-c_text-in-Emit : goal.returns-in_ok-c_text-in-Emit
 returns-in_ok-c_text-in-Emit c =

@@ -10,7 +10,7 @@ use Rattle.policy_checker.specs.declared.verdict.CheckFault.{CheckFault}
 use Rattle.policy_checker.specs.declared.verdict.CheckFault.TheVariants.{Cases}
 use Rattle.policy_check.specs.Checks.{IsJudged}
 use Rattle.policy_check.specs.Reading.{IsReading}
-use Rattle.policy_check.proofs.Texts.{no_crowd}
+use Rattle.policy_checker.proofs.Kept.{no_crowd}
 use Rattle.policy_check.proofs.answer.check_text.Goals as goal
 
 pub returns-in-Faulty : goal.returns-in-Faulty

@@ -6,7 +6,7 @@ use Rattle.obligations.specs.Counts.{first_crowded}
 use Rattle.obligations.specs.Names.{ob_names, statement_of}
 use Rattle.policy_check.specs.Checks.{IsCrowded}
 use Rattle.policy_check.specs.Reading.{IsReading}
-use Rattle.policy_check.proofs.Texts.{no_crowd}
+use Rattle.policy_checker.proofs.Kept.{no_crowd}
 use Rattle.policy_check.proofs.Values.{has_values}
 use Rattle.policy_check.proofs.explaining.explain_text.Goals as goal
 

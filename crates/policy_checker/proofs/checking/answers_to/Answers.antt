@@ -13,8 +13,8 @@ loop-obligation-preserved c =
     let at = c.loop-obligation.obligation-index in
     let xs = c.args.obligations.now in
     let item = c.obligation-item.result in
-    let answered : Answered = record { name = item.name; answer = c.in_ok-answer.answer } in
-    let is : IsAnswerTo c.args.budget item answered = record { name = refl; answer = rw c.as_slice.ensures.items at c.in_ok-answer.ensures } in
+    let answered : Answered = record { name = item.name; answer = c.in_ok-answer.field-0.answer; looks = c.in_ok-answer.field-0.looks } in
+    let is : IsAnswerTo c.args.budget item answered = record { name = refl; answer = rw c.as_slice.ensures.items at c.in_ok-answer.ensures.answer; looks = rw c.as_slice.ensures.items at c.in_ok-answer.ensures.looks } in
     let joined = all_zipped_more (IsAnswerTo c.args.budget) (take at xs) c.loop-obligation.answers.items item answered c.loop-obligation.invariant.answers is in
     let pushed = c.in_ok-push.ensures.items in
     let here = subst (λ (o : Obligation). AllZip (IsAnswerTo c.args.budget) (take at xs ++ o ∷ []) (c.loop-obligation.answers.items ++ answered ∷ [])) c.obligation-item.is joined in

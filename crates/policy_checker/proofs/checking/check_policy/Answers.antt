@@ -1,6 +1,11 @@
 -- A policy is told to have an obligation with too many cases exactly where it has one, and one of differences is decided.
+use Rattle.std.proofs.Common.{◌≡◌, ℕ, sym, subst}
 use Rattle.policy_tree.specs.Meaning.{meaning_of}
+use Rattle.obligations.specs.declared.names.ObName.{ObName}
+use Rattle.obligations.specs.Counts.{first_crowded}
+use Rattle.obligations.specs.Names.{ob_names}
 use Rattle.policy_checker.proofs.Decided.{differences_are_decided}
+use Rattle.policy_checker.proofs.Kept.{no_crowd}
 use Rattle.policy_checker.proofs.checking.check_policy.Goals as goal
 
 pub returns-in-Ok-clause-crowded : goal.returns-in-Ok-clause-crowded
@@ -24,3 +29,9 @@ pub returns-in-Ok-clause-decided : goal.returns-in-Ok-clause-decided
 returns-in-Ok-clause-decided c form =
     let is = c.verdict_of.ensures.verdict c.args.budget c.in-Ok.ensures.answers in
     differences_are_decided.verdicts (meaning_of c.args.policy) form c.args.budget c.verdict_of.result is
+
+-- where the obligations are answered, none has too many cases
+pub verdict_of-requires-clause-few : goal.verdict_of-requires-clause-few
+verdict_of-requires-clause-few c =
+    no_crowd (first_crowded (meaning_of c.args.policy) ob_names)
+    (λ (crowd : ObName × ℕ) e. let told = (c.in-Ok.ensures.crowded crowd.0 crowd.1).1 e in let clash : ⊥ = cc in clash)

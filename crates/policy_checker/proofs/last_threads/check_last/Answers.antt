@@ -3,7 +3,7 @@ use Rattle.std.proofs.Common.{ap, subst, ◌∙◌}
 use Rattle.policy_tree.specs.Meaning.{meaning_of}
 use Rattle.policy_eval.specs.Obligations.{batch_leaves_last, filter_leaves_last}
 use Rattle.obligations.specs.declared.last_threads.LastWaiting.{LastWaiting}
-use Rattle.policy_checker.specs.Answers.{IsAnswer}
+use Rattle.policy_checker.specs.Answers.{HasFewLooks, IsAnswer}
 use Rattle.policy_checker.proofs.Decided.{statement_decided}
 use Rattle.policy_checker.proofs.last_threads.check_last.Goals as goal
 
@@ -15,12 +15,14 @@ pub returns-in-Ok-both_of-clause-filter : goal.returns-in-Ok-both_of-clause-filt
 returns-in-Ok-both_of-clause-filter c = record {
   vars = c.in-Ok-both_of.ensures.vars.0 ∙ ap (λ (last : LastWaiting). last.filter.vars) c.in-Ok.ensures.ok;
   answer = subst (λ (last : LastWaiting). IsAnswer c.args.budget last.filter.systems c.in-Ok-both_of.ones.filter.answer) c.in-Ok.ensures.ok c.in-Ok-both_of.ensures.answers.0;
+  looks = subst (λ (last : LastWaiting). HasFewLooks c.args.budget last.filter.systems c.in-Ok-both_of.ones.filter.looks) c.in-Ok.ensures.ok c.in-Ok-both_of.ensures.looks.0;
 }
 
 pub returns-in-Ok-both_of-clause-batch : goal.returns-in-Ok-both_of-clause-batch
 returns-in-Ok-both_of-clause-batch c = record {
   vars = c.in-Ok-both_of.ensures.vars.1 ∙ ap (λ (last : LastWaiting). last.batch.vars) c.in-Ok.ensures.ok;
   answer = subst (λ (last : LastWaiting). IsAnswer c.args.budget last.batch.systems c.in-Ok-both_of.ones.batch.answer) c.in-Ok.ensures.ok c.in-Ok-both_of.ensures.answers.1;
+  looks = subst (λ (last : LastWaiting). HasFewLooks c.args.budget last.batch.systems c.in-Ok-both_of.ones.batch.looks) c.in-Ok.ensures.ok c.in-Ok-both_of.ensures.looks.1;
 }
 
 pub returns-in-Ok-both_of-clause-decided : goal.returns-in-Ok-both_of-clause-decided

@@ -14,8 +14,8 @@ returns-in-Ok-answer_to-clause-crowded c name count =
 pub returns-in-Ok-answer_to-clause-decided : goal.returns-in-Ok-answer_to-clause-decided
 returns-in-Ok-answer_to-clause-decided c form =
     let same = c.as_slice.ensures.items ∙ ap (λ (o : Obligation). o.systems) c.in-Ok.ensures.ok in
-    let is = subst (λ (systems : List LinearSystem). IsAnswer c.args.budget systems c.in-Ok-answer_to.answer) same c.in-Ok-answer_to.ensures in
-    differences_are_decided.answers (meaning_of c.args.policy.now) form c.args.ob c.args.budget c.in-Ok-answer_to.answer is
+    let is = subst (λ (systems : List LinearSystem). IsAnswer c.args.budget systems c.in-Ok-answer_to.field-0.answer) same c.in-Ok-answer_to.ensures.answer in
+    differences_are_decided.answers (meaning_of c.args.policy.now) form c.args.ob c.args.budget c.in-Ok-answer_to.field-0.answer is
 
 pub returns-in-Err-answer_to-clause-crowded : goal.returns-in-Err-answer_to-clause-crowded
 returns-in-Err-answer_to-clause-crowded c name count =

@@ -13,5 +13,5 @@ pub returns-clause-decided : goal.returns-clause-decided
 returns-clause-decided c form =
     let p = meaning_of c.args.policy.now in let s = rest_gap c.args.gap in
     let systems : c.as_slice.result.now ≡ systems_of p s = c.as_slice.ensures.items ∙ ap (λ (q : Question). q.systems) c.in_ok-question.ensures.ok in
-    statement_decided p form s c.args.budget c.in_ok-answer.answer
-    (subst (λ (all : List LinearSystem). IsAnswer c.args.budget all c.in_ok-answer.answer) systems c.in_ok-answer.ensures)
+    statement_decided p form s c.args.budget c.in_ok-answer.field-0.answer
+    (subst (λ (all : List LinearSystem). IsAnswer c.args.budget all c.in_ok-answer.field-0.answer) systems c.in_ok-answer.ensures.answer)

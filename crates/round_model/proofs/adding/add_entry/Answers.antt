@@ -12,7 +12,7 @@ use Rattle.round_model.proofs.adding.add_entry.Goals as goal
 pub note-requires-clause-few : goal.note-requires-clause-few
 note-requires-clause-few c =
     let kept = c.in_default.ensures.kept (all_hold (meaning_of c.args.policy.now) c.args.past.now.state c.requires.past.each) in
-    omega (arith, kept.len, c.requires.past.cores, c.requires.fits.few_cores)
+    omega (arith, kept.len, c.requires.past.cores, c.requires.past.limits.few_cores)
 
 pub note-requires-clause-countable : goal.note-requires-clause-countable
 note-requires-clause-countable c =

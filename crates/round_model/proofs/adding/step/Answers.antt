@@ -12,7 +12,7 @@ use Rattle.round_model.proofs.adding.step.Goals as goal
 pub begin_round-requires-clause-rounds : goal.begin_round-requires-clause-rounds
 begin_round-requires-clause-rounds c =
     let next = c.requires.next in
-    omega (arith, room_for_round (meaning_of c.args.policy.now) c.args.plan.now c.args.past.now next.history c.args.entry (sym c.acting_core.ensures ∙ c.in-None.is) next.stands next.legal, c.requires.fits.few_rounds)
+    omega (arith, room_for_round (meaning_of c.args.policy.now) c.args.plan.now c.args.past.now next.history c.args.entry (sym c.acting_core.ensures ∙ c.in-None.is) next.stands next.legal, c.requires.past.limits.few_rounds)
 
 pub returns-in-None-clause-stands : goal.returns-in-None-clause-stands
 returns-in-None-clause-stands c =

@@ -9,13 +9,13 @@ use Rattle.round_model.proofs.glances.chosen.Goals as goal
 
 pub choice-requires-clause-values : goal.choice-requires-clause-values
 choice-requires-clause-values c =
-    let p = meaning_of c.args.policy.now in let few = c.requires.fits.few_cores in
+    let p = meaning_of c.args.policy.now in let few = c.requires.past.limits.few_cores in
     values_All (CoreFits p) c.args.plan.now.cores c.read_values.new.values
     (c.read_values.ensures.fits p c.requires.fits c.requires.past) (omega (arith, c.read_values.ensures.len))
 
 pub returns-clause-choice : goal.returns-clause-choice
 returns-clause-choice c history stands =
-    let p = meaning_of c.args.policy.now in let plan = c.args.plan.now in let few = c.requires.fits.few_cores in
+    let p = meaning_of c.args.policy.now in let plan = c.args.plan.now in let few = c.requires.past.limits.few_cores in
     let values = c.read_values.new.values in let first = take plan.cores values in
     let count : length first ≡ plan.cores = omega (arith, length-take plan.cores values, c.read_values.ensures.len) in
     c.choice.ensures.choice ∙ (ap (λ n. choice_of p n (values_in first) c.args.core) count
@@ -24,7 +24,7 @@ returns-clause-choice c history stands =
 
 pub returns-clause-there : goal.returns-clause-there
 returns-clause-there c =
-    let p = meaning_of c.args.policy.now in let plan = c.args.plan.now in let few = c.requires.fits.few_cores in
+    let p = meaning_of c.args.policy.now in let plan = c.args.plan.now in let few = c.requires.past.limits.few_cores in
     let values = c.read_values.new.values in let first = take plan.cores values in
     let count : length first ≡ plan.cores = omega (arith, length-take plan.cores values, c.read_values.ensures.len) in
     subst (λ (o : Option ℕ). IfSome o (λ v. (v < plan.cores) × (c.args.core ≢ v)))

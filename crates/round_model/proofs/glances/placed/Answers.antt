@@ -9,13 +9,13 @@ use Rattle.round_model.proofs.glances.placed.Goals as goal
 
 pub target-requires-clause-values : goal.target-requires-clause-values
 target-requires-clause-values c =
-    let p = meaning_of c.args.policy.now in let few = c.requires.fits.few_cores in
+    let p = meaning_of c.args.policy.now in let few = c.requires.past.limits.few_cores in
     values_All (CoreFits p) c.args.plan.now.cores c.read_values.new.values
     (c.read_values.ensures.fits p c.requires.fits c.requires.past) (omega (arith, c.read_values.ensures.len))
 
 pub returns : goal.returns
 returns c history stands =
-    let p = meaning_of c.args.policy.now in let plan = c.args.plan.now in let few = c.requires.fits.few_cores in
+    let p = meaning_of c.args.policy.now in let plan = c.args.plan.now in let few = c.requires.past.limits.few_cores in
     let values = c.read_values.new.values in let first = take plan.cores values in
     let count : length first ≡ plan.cores = omega (arith, length-take plan.cores values, c.read_values.ensures.len) in
     let seen = values_at p plan history c.args.reads.now in

@@ -21,7 +21,7 @@ put_entry-requires g c =
     let entries = c.args.entries.now in let at : ℕ = c.loop-entry.entry-index in let e = c.entry-item.result in
     let inside : at < length entries = omega arith in
     subst (λ (n : ℕ). IsPrintableFrom n e) (sym c.loop-entry.invariant.start)
-    (subst (λ (x : Entry). IsPrintableFrom (round_start (take at entries)) x) (sym c.entry-item.is) (printable_at c.args.cores entries at e inside c.requires))
+    (subst (λ (x : Entry). IsPrintableFrom (round_start (take at entries)) x) (sym c.entry-item.is) (printable_at c.args.cores entries at e inside c.requires.printable.lines))
 
 pub returns-in_err-put_entry : goal.returns-in_err-put_entry
 returns-in_err-put_entry g c =

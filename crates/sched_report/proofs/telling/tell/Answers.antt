@@ -39,7 +39,7 @@ pub totals_of-totals-requires-clause-small : goal.totals_of-totals-requires-clau
 totals_of-totals-requires-clause-small c =
     let p = meaning_of c.args.policy.now in let plan = c.args.plan.now in let history = c.args.history.now in let tally = c.in_ok-tally.tally in
     let told = subst (λ h. IsTally p plan h tally) c.as_slice-entries.ensures.items c.in_ok-tally.ensures in
-    subst (λ rows. sum_by (λ (row : RoundRow). row.idle) rows < 2 ^ 32) (sym (c.as_slice-3.ensures.items ∙ told.rounds)) (small_sum p plan history c.requires.legal c.requires.fits c.requires.few)
+    subst (λ rows. sum_by (λ (row : RoundRow). row.idle) rows < 2 ^ 32) (sym (c.as_slice-3.ensures.items ∙ told.rounds)) (small_sum p plan history c.requires.legal c.requires.limits c.requires.few)
 
 pub returns : goal.returns
 returns c =

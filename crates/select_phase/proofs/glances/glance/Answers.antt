@@ -13,7 +13,7 @@ loop-core-preserved c =
     let i = c.loop-core.invariant in let k = c.loop-core.core in let read = c.read-read.result in let e = c.read-read.ensures.noted in
     let x : CoreValues = record { nr = read.nr; load = read.load; consts = c.consts.result.now } in
     let note = noted k read.at (record { nr = read.nr; load = read.load }) in
-    let cores = ap (λ (p : Plan). p.cores) i.of.opening.plan in let few = e.known.1.fits.few_cores in let low = c.loop-core-test.true in let last = c.cores-core-end.ensures in
+    let cores = ap (λ (p : Plan). p.cores) i.of.opening.plan in let few = e.known.1.limits.few_cores in let low = c.loop-core-test.true in let last = c.cores-core-end.ensures in
     let deep : k < length c.loop-core.values = omega (arith, i.long) in
     record {
       of = e.of;

@@ -15,7 +15,7 @@ returns c =
     let h = old.history in let played = c.requires.play in
     let grown : c.append.new.history ≡ h ++ e ∷ [] = c.in_ok-append.ensures.history in
     let stands = c.in_ok-append.ensures.stands in
-    let few = c.requires.fits.few_cores in
+    let few = c.requires.play.belongs.limits.few_cores in
     record {
       play = record {
         stands = subst (StandsFor p plan c.append.new.past) (sym grown) stands;

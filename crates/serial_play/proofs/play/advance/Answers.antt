@@ -43,7 +43,7 @@ returns-in-Looks c =
     let looks = c.next_step.ensures.looks play.history played.stands c.in-Looks.is in
     let none = none_is here looks.0 in
     let step = subst (λ (reads : List ℕ). IsStepOf p plan play.history a reads here c.next_step.result) c.fresh_reads-fresh.ensures (c.next_step.ensures.step play.history played.stands) in
-    let few = c.requires.fits.few_cores in
+    let few = c.requires.play.belongs.limits.few_cores in
     subst (λ (reads : List ℕ). Advances p plan a play (record play { looks = set play.looks a (Some reads) }) true) (sym c.fresh_reads-fresh.ensures)
     (advanced_look p plan play a c.requires.fits played c.requires.core (omega arith) (sym look ∙ none)
     (subst (λ (l : Option (List ℕ)). IsStepOf p plan play.history a (fresh_of plan play) l next.Looks) none

@@ -4,7 +4,6 @@ use Rattle.round_model.specs.SerialEnds.{IsFull}
 use Rattle.round_model.specs.SerialRounds.{serial_rounds}
 use Rattle.round_model.proofs.SerialEnding.{ended_whole, fits_not_full, round_legal, rounds_over, serial_next, stopped_full}
 use Rattle.round_model.proofs.SerialWholes.{next_too}
-use Rattle.serial_play.proofs.Playing.{few_entries}
 use Rattle.serial_play.proofs.rounds.play_rounds.Goals as goal
 
 pub loop-begun-init : goal.loop-begun-init
@@ -18,7 +17,7 @@ pub returns-then-not-round_due : goal.returns-then-not-round_due
 returns-then-not-round_due c =
     let p = meaning_of c.args.policy.now in let plan = c.args.plan.now in let play = c.loop-begun.play in let is = c.loop-begun.invariant in
     ended_whole p plan c.requires.fits c.requires.handlers c.loop-begun.begun play.history (omega arith) is.serial
-    (sym (c.round_due.ensures p play.history is.play.stands) ∙ c.if-not-round_due.true) (few_entries p plan play is.play) is.fitted
+    (sym (c.round_due.ensures p play.history is.play.stands) ∙ c.if-not-round_due.true) is.fitted
 
 pub returns-then-not-round_fits : goal.returns-then-not-round_fits
 returns-then-not-round_fits c =
@@ -26,7 +25,7 @@ returns-then-not-round_fits c =
     stopped_full p plan c.requires.fits c.requires.handlers c.loop-begun.begun play.history is.serial
     (sym (c.round_due.ensures p play.history is.play.stands) ∙ c.if-not-round_due.false)
     (λ room. let count = c.len.ensures in let fits = c.round_fits.ensures.1 (omega (arith, count)) in let none = c.if-not-round_fits.true in absurd (cc))
-    (few_entries p plan play is.play) is.fitted
+    is.fitted
 
 pub play_round-requires-clause-legal : goal.play_round-requires-clause-legal
 play_round-requires-clause-legal c =
@@ -50,4 +49,4 @@ returns c =
     let p = meaning_of c.args.policy.now in let plan = c.args.plan.now in let play = c.loop-begun.play in let is = c.loop-begun.invariant in
     let all : c.loop-begun.begun ≡ plan.rounds = omega arith in
     ended_whole p plan c.requires.fits c.requires.handlers c.loop-begun.begun play.history (omega arith) is.serial
-    (rounds_over p plan c.requires.fits c.requires.handlers c.loop-begun.begun play.history is.serial (omega arith)) (few_entries p plan play is.play) is.fitted
+    (rounds_over p plan c.requires.fits c.requires.handlers c.loop-begun.begun play.history is.serial (omega arith)) is.fitted

@@ -11,7 +11,7 @@ pub returns-in-Ok-clause-cores : goal.returns-in-Ok-clause-cores
 returns-in-Ok-clause-cores c = whole_count (meaning_of c.args.policy.now) c.args.plan.now c.in-Ok.closed c.in-Ok.ensures.whole
 
 pub returns-in-Ok-clause-shown : goal.returns-in-Ok-clause-shown
-returns-in-Ok-clause-shown c = whole_can_be_written (meaning_of c.args.policy.now) c.args.plan.now c.in-Ok.closed c.requires c.in-Ok.ensures.whole
+returns-in-Ok-clause-shown c = whole_can_be_written (meaning_of c.args.policy.now) c.args.plan.now c.in-Ok.closed c.requires.fits c.requires.limits c.in-Ok.ensures.whole
 
 pub returns-in-Err-HistoryFull-clause-play : goal.returns-in-Err-HistoryFull-clause-play
 returns-in-Err-HistoryFull-clause-play c =
@@ -29,4 +29,4 @@ pub returns-in-Err-HistoryFull-clause-shown : goal.returns-in-Err-HistoryFull-cl
 returns-in-Err-HistoryFull-clause-shown c =
     let p = meaning_of c.args.policy.now in let plan = c.args.plan.now in
     let full : PlaysFull p plan c.in-Err-HistoryFull.closed = subst (IsFaultOf p plan) c.in-Err-HistoryFull.field-0-is c.in-Err-HistoryFull.ensures.fault in
-    full_can_be_written p plan c.in-Err-HistoryFull.closed c.requires full
+    full_can_be_written p plan c.in-Err-HistoryFull.closed c.requires.fits c.requires.limits full

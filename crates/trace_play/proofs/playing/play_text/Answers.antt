@@ -6,14 +6,14 @@ use Rattle.trace_play.specs.declared.planning.PlanStop.TheVariants as stop
 use Rattle.trace_play.specs.Plays.{HasFault, IsPlanStop, MeansPlan}
 use Rattle.trace_play.proofs.playing.play_text.Goals as goal
 
-pub play_cores-requires : goal.play_cores-requires
-play_cores-requires c = subst (λ policy. Fits (meaning_of policy) c.in-Ok.plan) c.policy.ensures.policy c.in-Ok.ensures.plan.fits
+pub play_cores-requires-clause-fits : goal.play_cores-requires-clause-fits
+play_cores-requires-clause-fits c = subst (λ policy. Fits (meaning_of policy) c.in-Ok.plan) c.policy.ensures.policy c.in-Ok.ensures.plan.fits
 
 pub returns-in_ok-play_cores-in-Ok-clause-play : goal.returns-in_ok-play_cores-in-Ok-clause-play
 returns-in_ok-play_cores-in-Ok-clause-play c =
     let means = subst (λ policy. MeansPlan (meaning_of policy) c.args.text.now c.in-Ok.plan) c.policy.ensures.policy c.in-Ok.ensures.plan in
     record {
-      plays = record { trace = means.trace; spells = means.spells; plan = c.in-Ok.plan; means = means.means; fits = means.fits; played = c.in_ok-play_cores-in-Ok.ensures.play };
+      plays = record { trace = means.trace; spells = means.spells; plan = c.in-Ok.plan; means = means.means; fits = means.fits; limits = means.limits; played = c.in_ok-play_cores-in-Ok.ensures.play };
       count = c.in_ok-play_cores-in-Ok.ensures.cores;
     }
 

@@ -21,7 +21,7 @@ returns-in-Ok-play_rounds-clause-cores g c = c.in-Ok-play_rounds.ensures.whole.l
 
 pub returns-in-Ok-play_rounds-clause-shown : goal.returns-in-Ok-play_rounds-clause-shown
 returns-in-Ok-play_rounds-clause-shown g c =
-    whole_can_be_written (meaning_of c.args.policy.now) c.args.plan.now (g.G.Gate.passed c.args.gate.now) c.in-Ok-play_rounds.closed c.requires.fits c.in-Ok-play_rounds.ensures.whole
+    whole_can_be_written (meaning_of c.args.policy.now) c.args.plan.now (g.G.Gate.passed c.args.gate.now) c.in-Ok-play_rounds.closed c.requires.fits c.requires.limits c.in-Ok-play_rounds.ensures.whole
 
 pub returns-in-Ok-play_rounds-clause-passed : goal.returns-in-Ok-play_rounds-clause-passed
 returns-in-Ok-play_rounds-clause-passed g c =
@@ -40,7 +40,7 @@ returns-in-Err-clause-cores g c =
 pub returns-in-Err-clause-shown : goal.returns-in-Err-clause-shown
 returns-in-Err-clause-shown g c =
     let p = meaning_of c.args.policy.now in let plan = c.args.plan.now in let Passed = g.G.Gate.passed c.args.gate.now in
-    of_left p plan Passed _ _ (λ left. CanBeWritten (closed_of left)) (λ closed full. full_can_be_written p plan Passed closed c.requires.fits full) c.in-Err.fault c.in-Err.ensures.fault c.left_by.result c.left_by.ensures
+    of_left p plan Passed _ _ (λ left. CanBeWritten (closed_of left)) (λ closed full. full_can_be_written p plan Passed closed c.requires.fits c.requires.limits full) c.in-Err.fault c.in-Err.ensures.fault c.left_by.result c.left_by.ensures
 
 pub returns-in-Err-clause-passed : goal.returns-in-Err-clause-passed
 returns-in-Err-clause-passed g c =

@@ -12,7 +12,7 @@ pub returns-in_ok-left-in-Ok-clause-run : goal.returns-in_ok-left-in-Ok-clause-r
 returns-in_ok-left-in-Ok-clause-run g c =
     let means = subst (λ policy. MeansPlan (meaning_of policy) c.args.text.now c.in-Ok.plan) c.policy.ensures.policy c.in-Ok.ensures.plan in
     record {
-      runs = record { trace = means.trace; spells = means.spells; plan = c.in-Ok.plan; means = means.means; fits = means.fits; ran = c.in_ok-left-in-Ok.ensures.run };
+      runs = record { trace = means.trace; spells = means.spells; plan = c.in-Ok.plan; means = means.means; fits = means.fits; limits = means.limits; ran = c.in_ok-left-in-Ok.ensures.run };
       count = c.in_ok-left-in-Ok.ensures.cores;
     }
 

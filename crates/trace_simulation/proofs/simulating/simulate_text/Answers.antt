@@ -9,7 +9,7 @@ use Rattle.trace_simulation.proofs.simulating.simulate_text.Goals as goal
 pub returns-in-Ok-clause-shown : goal.returns-in-Ok-clause-shown
 returns-in-Ok-clause-shown c =
     let made = c.in-Ok.made in
-    can_be_written (meaning_of c.policy.result.now) made.plan made.played c.in-Ok.ensures.made.means.fits c.in-Ok.ensures.made.played
+    can_be_written (meaning_of c.policy.result.now) made.plan made.played c.in-Ok.ensures.made.means.fits c.in-Ok.ensures.made.means.limits c.in-Ok.ensures.made.played
 
 pub returns-in-Err-Broken-clause-simulation : goal.returns-in-Err-Broken-clause-simulation
 returns-in-Err-Broken-clause-simulation c =

@@ -5,5 +5,5 @@ pub returns : goal.returns
 returns c =
     given_ok c.attempts.result c.attempts.ensures
     (λ last. c.in_ok-word.ensures ⊳ c.in_ok-word-2.ensures ⊳ c.in_ok-word-3.ensures ⊳ c.in_ok-number.ensures ⊳
-    c.in_ok-word-4.ensures ⊳ c.in_ok-number-2.ensures ⊳ c.in_ok-word-5.ensures ⊳ c.in_ok-word-6.ensures ⊳
-    c.in_ok-word-7.ensures ⊳ c.in_ok-word-8.ensures ⊳ c.in_ok-word-9.ensures ⊳ last)
+    c.in_ok-word-4.ensures ⊳ c.in_ok-word-5.ensures ⊳ c.in_ok-word-6.ensures ⊳ c.in_ok-word-7.ensures ⊳
+    c.in_ok-word-8.ensures ⊳ last)

@@ -32,7 +32,7 @@ pub note-requires-clause-room : goal.note-requires-clause-room
 note-requires-clause-room c =
     let next = c.requires.next in
     entries_few (meaning_of c.args.policy.now) c.args.plan.now next.0 c.args.thread c.args.by c.args.at c.args.reads c.args.self.now next.1
-    c.admit.new.self c.in-Some.planned.now c.in-Some.ensures c.entering_task.result c.entering_task.ensures (c.admit.ensures (meaning_of c.args.policy.now)) c.requires.fits
+    c.admit.new.self c.in-Some.planned.now c.in-Some.ensures c.entering_task.result c.entering_task.ensures (c.admit.ensures (meaning_of c.args.policy.now))
 
 pub note-requires-clause-can : goal.note-requires-clause-can
 note-requires-clause-can c =

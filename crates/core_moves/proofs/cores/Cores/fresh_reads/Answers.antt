@@ -18,13 +18,13 @@ core-requires c = in_sight c.requires.0 c.args.plan.now c.args.self.now c.requir
 
 pub end_of-requires : goal.end_of-requires
 end_of-requires c =
-    let ends = log_ends c.requires.0 c.args.plan.now c.args.self.now c.requires.2 c.requires.1 c.loop-core.core c.loop-core-test.true c.core.result.now c.core.ensures in
+    let ends = log_ends c.requires.0 c.args.plan.now c.args.self.now c.requires.2 c.loop-core.core c.loop-core-test.true c.core.result.now c.core.ensures in
     let same : after_last 0 c.entries.result.now ≡ after_last 0 c.core.result.now.log = ap (λ (log : List Logged). after_last 0 log) c.entries.ensures in
     omega arith
 
 pub push-requires : goal.push-requires
 push-requires c =
-    let h = c.requires.2.0 in let few = c.requires.1.few_cores in let below = c.loop-core-test.true in
+    let h = c.requires.2.0 in let few = c.requires.2.1.are.limits.few_cores in let below = c.loop-core-test.true in
     let read : ℕ → ℕ = λ k. max (round_start h) (touched_from k 0 0 h) in
     let reads = ap length (c.loop-core.invariant c.requires.0 h c.requires.2.1.are) ∙ length-map-range_with_len read 0 c.loop-core.core in
     omega arith

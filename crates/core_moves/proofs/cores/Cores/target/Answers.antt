@@ -20,7 +20,7 @@ target-requires-clause-values c =
 
 pub returns : goal.returns
 returns c h are =
-    let p = meaning_of c.args.policy.now in let plan = c.args.plan.now in let few = c.requires.fits.few_cores in
+    let p = meaning_of c.args.policy.now in let plan = c.args.plan.now in let few = c.requires.limits.few_cores in
     let values = c.see_all.new.values in let first = take plan.cores values in
     let many : length first ≡ plan.cores = omega (arith, length-take plan.cores values, c.see_all.ensures.len) in
     sym (target_same p plan.cores (values_in first) (values_now p plan h c.args.core)

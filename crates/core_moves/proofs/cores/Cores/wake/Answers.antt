@@ -35,7 +35,7 @@ note-requires-clause-room c =
     let next = c.requires.next in
     entries_few (meaning_of c.args.policy.now) c.args.plan.now next.0 c.args.thread c.args.by c.args.at c.args.reads c.args.self.now next.1
     c.release-task.new.self c.release-task.result c.release-task.ensures.task (c.release-task.ensures.core (meaning_of c.args.policy.now))
-    c.admit.new.self (c.admit.ensures (meaning_of c.args.policy.now)) c.requires.fits
+    c.admit.new.self (c.admit.ensures (meaning_of c.args.policy.now))
 
 pub note-requires-clause-can : goal.note-requires-clause-can
 note-requires-clause-can c =

@@ -15,13 +15,13 @@ run-did-requires-clause-can c =
 pub run-did-requires-clause-round : goal.run-did-requires-clause-round
 run-did-requires-clause-round c =
     let may = c.requires.may in
-    round_few (meaning_of c.args.policy.now) c.args.plan.now may.0 c.args.core c.args.round c.args.self.now may.1 c.requires.fits
+    round_few (meaning_of c.args.policy.now) c.args.plan.now may.0 c.args.core c.args.round c.args.self.now may.1
 
 pub note-requires-clause-room : goal.note-requires-clause-room
 note-requires-clause-room c =
     let may = c.requires.may in
     entries_few (meaning_of c.args.policy.now) c.args.plan.now may.0 c.args.core c.args.round c.args.self.now may.1
-    c.run-did.new.self (c.run-did.ensures.core (meaning_of c.args.policy.now)) c.requires.fits
+    c.run-did.new.self (c.run-did.ensures.core (meaning_of c.args.policy.now))
 
 pub note-requires-clause-can : goal.note-requires-clause-can
 note-requires-clause-can c =

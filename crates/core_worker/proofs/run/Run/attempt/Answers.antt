@@ -42,7 +42,7 @@ returns c s m is =
     let kind : is_attempt e ≡ true = ap is_attempt e_is ∙ attempts p plan (after p plan s.history) a look.reads look.choice in
     let step = attempt_step p plan fits handlers run s a m there look e is e_is in
     let ok = added_legal p plan fits handlers s a e (within_of p plan fits handlers run s m) there step in
-    let few = fits.few_cores in
+    let few = c.requires.limits.few_cores in
     moment_added p plan fits handlers run _ s a e m there ok.legal ok.acting step (c.attempt.ensures.cores s.history m.at.cores) (record {
       round = refl;
       worked = λ k inside. sym (ap (λ b. is_flagged run.turns.worked k || (acts k e && b)) (no_work e kind) ∙ none_by (is_flagged run.turns.worked k) (acts k e));

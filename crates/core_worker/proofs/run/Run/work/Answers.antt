@@ -24,7 +24,7 @@ returns c s m is =
     let works = c.work-did.ensures s.history (may_work p plan fits handlers run s a m there is) in
     let step = work_step p plan fits handlers run s a m there d is works.outcome in
     let ok = added_legal p plan fits handlers s a e (within_of p plan fits handlers run s m) there step in
-    let few = fits.few_cores in
+    let few = c.requires.limits.few_cores in
     moment_added p plan fits handlers run _ s a e m there ok.legal ok.acting step works.are (record {
       round = refl;
       worked = λ k inside. flag_set run.turns.worked a k (omega arith) ∙ ap (λ b. is_flagged run.turns.worked k || b) (sym (and_true (acts k e) ∙ acts_is e a k refl));

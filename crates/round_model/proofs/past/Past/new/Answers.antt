@@ -33,4 +33,4 @@ pub returns-clause-stands : goal.returns-clause-stands
 returns-clause-stands c = stands_begun c.args.plan.now (made c) (begins c)
 
 pub returns-clause-belongs : goal.returns-clause-belongs
-returns-clause-belongs c p fits = belongs_begun c.args.plan.now (made c) (begins c) p fits (c.in_ok-directory.ensures p fits)
+returns-clause-belongs c p fits = belongs_begun c.args.plan.now (made c) (begins c) p fits c.requires.limits (c.in_ok-directory.ensures p fits)

@@ -7,12 +7,12 @@ use Rattle.turn_tests.proofs.Stepping.{fresh_late}
 use Rattle.turn_tests.proofs.calling.MemoryCallsCoreCalls.look.Goals as goal
 
 pub choice-requires-clause-values : goal.choice-requires-clause-values
-choice-requires-clause-values c =
+choice-requires-clause-values g c =
     let it = c.args.self.now in let e = c.values_read-values.ensures in
     all_fit (view_of it) c.fresh_reads-reads.result c.values_read-values.result (plan_of it).cores (meaning_in_memory it) refl refl e.known e.read
 
 pub returns-clause-looked : goal.returns-clause-looked
-returns-clause-looked c =
+returns-clause-looked g c =
     let it = c.args.self.now in let e = c.values_read-values.ensures in
     record {
       by = refl;
