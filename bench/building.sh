@@ -2,15 +2,17 @@
 # programs of the benches. Their files end in `.source` here, since the gate stops at a file of Rattle that it doesn't read.
 benches="$(cd "$(dirname "${BASH_SOURCE[0]}")" && pwd)"
 
-# The crates of those names, as they lie here, into the folder. Those of the kit needn't be copied.
+# The crates of those names and those on which they stand, as they lie here, into the folder. Those of the kit needn't be copied.
 add_libraries() {
   local folder="$1" library
   mkdir -p "$folder/crates"
   cp "$benches/../HANDLES" "$folder/HANDLES"
   for library in "${@:2}"; do
-    [ -d "$benches/../crates/$library" ] || continue
+    [ -d "$benches/../crates/$library" ] && [ ! -e "$folder/crates/$library" ] || continue
     tar -C "$benches/../crates" --exclude=out -c "$library" | tar -C "$folder/crates" -x
     grep "^$library:" "$benches/../crates.txt" >>"$folder/crates.txt"
+    # shellcheck disable=SC2046  # the names are words
+    add_libraries "$folder" $(sed -n "s/^$library: //p" "$benches/../crates.txt")
   done
 }
 

@@ -10,10 +10,10 @@ use Rattle.policy_eval.proofs.Wide.{thread_wide}
 use Rattle.round_model.specs.declared.state.ModelCore.{ModelCore}
 use Rattle.round_model.specs.Attempts.{first_of, further_moves, next_of}
 use Rattle.round_model.specs.Bounds.{standing_count}
-use Rattle.round_model.specs.Code.Kept.{Holds}
+use Rattle.round_model.specs.Kept.{Holds}
 use Rattle.round_model.specs.Moves.{handed, handed_all, is_task, queued_of, received, received_all, taken_from, without_first}
 use Rattle.round_model.specs.Work.{before}
-use Rattle.round_model.proofs.AddedBounds.{holds_bounds}
+use Rattle.round_model.proofs.InBounds.{holds_bounds}
 use Rattle.round_model.proofs.Keeping.{All-append, All-one, bounds_hold, holds_handed, queued_fits, standing_handed, standing_is}
 use Rattle.round_model.proofs.Takings.{found-more, left-more, one_found, one_handed, one_received}
 use Rattle.run_queue.specs.Tasks.{IsSeenTask}

@@ -2,8 +2,8 @@
 use Rattle.std.proofs.Common.{◌≡◌, ◌∙◌, ℕ, List, ap, ap₂, sym, subst, arith}
 use Rattle.round_model.specs.declared.entry.Entry.{Entry}
 use Rattle.round_model.specs.declared.plan.Plan.{Plan}
-use Rattle.round_model.specs.SerialRounds.{serial_history}
-use Rattle.round_model.specs.SerialEnds.{EndsWhole}
+use Rattle.serial_steps.specs.SerialRounds.{serial_history}
+use Rattle.serial_steps.specs.SerialEnds.{EndsWhole}
 use Rattle.job_trace.specs.Plans.{plan_of}
 use Rattle.sched_report.specs.declared.rows.Totals.{Totals}
 use Rattle.sched_report.specs.Reports.{totals_of}

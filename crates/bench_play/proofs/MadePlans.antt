@@ -13,8 +13,8 @@ use Rattle.policy_tree.specs.Meaning.{Meaning}
 use Rattle.round_model.specs.declared.plan.Plan.{Plan}
 use Rattle.round_model.specs.Fits.{Fits}
 use Rattle.round_model.specs.Limits.{IsWithinLimits}
-use Rattle.round_model.specs.Room.{HasRoomForRounds}
-use Rattle.round_model.specs.SerialEnds.{most_entries}
+use Rattle.serial_steps.specs.Room.{HasRoomForRounds}
+use Rattle.serial_steps.specs.SerialEnds.{most_entries}
 use Rattle.job_trace.specs.declared.plan_fault.PlanFault.{PlanFault}
 use Rattle.job_trace.specs.declared.trace.Numbered.{Numbered}
 use Rattle.job_trace.specs.Plans.{SpellsPlan, first_fault, is_foreign, limit_of, line_fault, rounds_of, IsForeign, thread_of, threads_of}

@@ -5,7 +5,7 @@ use Rattle.round_model.specs.declared.plan.Plan.{Plan}
 use Rattle.round_model.specs.Fits.{Fits}
 use Rattle.round_model.specs.Legal.{Whole}
 use Rattle.round_model.specs.Limits.{IsWithinLimits}
-use Rattle.round_model.specs.SerialRounds.{serial_history}
+use Rattle.serial_steps.specs.SerialRounds.{serial_history}
 use Rattle.job_trace.specs.declared.trace.Numbered.{Numbered}
 use Rattle.job_trace.specs.Plans.{SpellsPlan}
 use Rattle.trace_maker.specs.Made.{made}

@@ -4,16 +4,17 @@ ghost use Rattle.std.specs.Prelude.{◌≡◌, IfOk};
 ghost use Rattle.policy_tree.specs.Meaning.{meaning_of};
 ghost use Rattle.round_model.specs.Fits.{Fits};
 ghost use Rattle.round_model.specs.Limits.{IsWithinLimits};
-ghost use Rattle.round_model.specs.Room.{HasRoomForRounds};
-ghost use Rattle.round_model.specs.SerialEnds.{EndsWhole};
+ghost use Rattle.serial_steps.specs.Room.{HasRoomForRounds};
+ghost use Rattle.serial_steps.specs.SerialEnds.{EndsWhole};
 ghost use Rattle.fair_policy.specs.Fair.{fair_meaning};
 ghost use Rattle.bench_play.specs.Bench.{IsBench, IsSize};
 
 use crate::memory::BenchMemory;
 use crate::planning::made_plan;
 use policy_checker::AcceptedPolicy;
-use round_model::{History, Plan, Played};
+use round_model::{History, Plan};
 use sched_report::{Totals, report};
+use serial_steps::Played;
 use std::alloc::Global;
 use trace_play::play_plan;
 

@@ -12,7 +12,7 @@ use Rattle.round_model.specs.Entries.{acts, ends, lets_in}
 use Rattle.round_model.specs.Kinds.{is_attempt, is_work}
 use Rattle.round_model.specs.Reads.{round_start}
 use Rattle.round_model.specs.Scenes.{Scene, entering_next, has_attempted, has_worked, own_entries, scene_of, waking_next}
-use Rattle.round_model.specs.TurnSteps.{over, step_behind_unit, step_to_enter, step_to_wake, turn_step_of, working}
+use Rattle.serial_steps.specs.TurnSteps.{over, step_behind_unit, step_to_enter, step_to_wake, turn_step_of, working}
 use Rattle.core_state.specs.declared.logged.Logged.{Logged}
 use Rattle.core_state.specs.Logs.{logged}
 use Rattle.core_table.specs.declared.views.Role.TheVariants as role

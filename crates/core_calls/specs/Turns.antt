@@ -4,7 +4,7 @@ use Rattle.std.specs.List.{list_any}
 use Rattle.round_model.specs.declared.entry.Entry.{Entry}
 use Rattle.round_model.specs.Entries.{ends}
 use Rattle.round_model.specs.Scenes.{has_attempted, scene_of}
-use Rattle.round_model.specs.TurnSteps.{over, turn_step_of}
+use Rattle.serial_steps.specs.TurnSteps.{over, turn_step_of}
 use Rattle.core_table.specs.declared.views.View.{View}
 use Rattle.core_table.specs.Public.{IsOf, view_of}
 use Rattle.core_table.specs.Told.{Agrees, IsSeatOf}

@@ -18,8 +18,8 @@ use Rattle.round_model.specs.declared.state.ModelCore.{ModelCore}
 use Rattle.round_model.specs.After.{after, round_of}
 use Rattle.round_model.specs.Bounds.{standing_count, standing_total}
 use Rattle.round_model.specs.BoundsLaws.{IsBounded, is_awaited}
-use Rattle.round_model.specs.Code.Kept.{Holds}
-use Rattle.round_model.specs.Code.Updates.{updated}
+use Rattle.round_model.specs.Kept.{Holds}
+use Rattle.round_model.specs.Updates.{updated}
 use Rattle.round_model.specs.Cores.{Cores, seen_of}
 use Rattle.round_model.specs.Fits.{Fits}
 use Rattle.round_model.specs.Legal.{Legal, LegalNext, rounds_begun}
@@ -28,7 +28,7 @@ use Rattle.round_model.specs.Reads.{values_of}
 use Rattle.round_model.specs.Rows.{Row}
 use Rattle.round_model.specs.Scenes.{entering_next, is_entering, own_entries, scene_of}
 use Rattle.round_model.proofs.Awaited.{let_in_awaited}
-use Rattle.round_model.proofs.Begun.{due_within}
+use Rattle.round_model.proofs.Histories.{due_within}
 use Rattle.round_model.proofs.Bounded.{bounds_law}
 use Rattle.round_model.proofs.Bursts.{have_bursts}
 use Rattle.round_model.proofs.Histories.{legal_induction, open_round}

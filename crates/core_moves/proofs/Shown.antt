@@ -12,7 +12,7 @@ use Rattle.round_model.specs.declared.entry.Entry.TheVariants as entry
 use Rattle.round_model.specs.declared.plan.Plan.{Plan}
 use Rattle.round_model.specs.declared.state.ModelCore.{ModelCore}
 use Rattle.round_model.specs.After.{after, moved, round_of}
-use Rattle.round_model.specs.Code.Updates.{updated}
+use Rattle.round_model.specs.Updates.{updated}
 use Rattle.round_model.specs.Cores.{Cores}
 use Rattle.round_model.specs.Entries.{touches}
 use Rattle.round_model.specs.Fits.{Fits}

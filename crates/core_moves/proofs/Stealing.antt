@@ -8,7 +8,7 @@ use Rattle.round_model.specs.declared.plan.Plan.{Plan}
 use Rattle.round_model.specs.declared.state.ModelCore.{ModelCore}
 use Rattle.round_model.specs.After.{after, round_of}
 use Rattle.round_model.specs.Attempts.{moves_of, steal_or_fail}
-use Rattle.round_model.specs.Code.Updates.{updated}
+use Rattle.round_model.specs.Updates.{updated}
 use Rattle.round_model.specs.Cores.{Cores, consts_of}
 use Rattle.round_model.specs.Fits.{Fits}
 use Rattle.round_model.specs.Kinds.{is_attempt}

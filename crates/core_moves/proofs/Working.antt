@@ -8,7 +8,7 @@ use Rattle.round_model.specs.declared.entry.Entry.{Entry}
 use Rattle.round_model.specs.declared.entry.Entry.TheVariants as entry
 use Rattle.round_model.specs.declared.plan.Plan.{Plan}
 use Rattle.round_model.specs.After.{after, round_of}
-use Rattle.round_model.specs.Code.Updates.{updated}
+use Rattle.round_model.specs.Updates.{updated}
 use Rattle.round_model.specs.Cores.{Cores}
 use Rattle.round_model.specs.Fits.{Fits}
 use Rattle.round_model.specs.Work.{IsOutcomeOfWork, core_after_work}

@@ -9,7 +9,7 @@ use Rattle.policy_eval.specs.Events.{outcomes_of}
 use Rattle.round_model.specs.declared.entry.Did.{Did}
 use Rattle.round_model.specs.declared.state.Blocked.{Blocked}
 use Rattle.round_model.specs.declared.state.ModelCore.{ModelCore}
-use Rattle.round_model.specs.Code.Updates.{IsFirstAt}
+use Rattle.round_model.specs.Updates.{IsFirstAt}
 use Rattle.round_model.specs.Moves.{core_after_event, is_blocked_task, with_outcome, with_task, without_first as first_left_out}
 use Rattle.round_model.specs.Work.{did_of, met}
 use Rattle.run_queue.specs.Tasks.{QueueView, without_first}

@@ -3,7 +3,7 @@
 ghost use Rattle.std.specs.Prelude.{◌≡◌};
 ghost use Rattle.sched_base.specs.declared.task.Task.{Task};
 ghost use Rattle.round_model.specs.Moves.{is_blocked_task};
-ghost use Rattle.round_model.specs.Code.Updates.{IsFirstPlace};
+ghost use Rattle.round_model.specs.Updates.{IsFirstPlace};
 ghost use Rattle.round_model.specs.Work.{did_of as word_of};
 
 use policy_tree::Put;

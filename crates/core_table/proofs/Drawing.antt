@@ -20,8 +20,8 @@ use Rattle.round_model.specs.Kinds.{is_round}
 use Rattle.round_model.specs.Legal.{LegalNext, rounds_begun}
 use Rattle.round_model.specs.Reads.{round_start}
 use Rattle.round_model.specs.Scenes.{is_due_blocked, scene_of, waking_next}
-use Rattle.round_model.proofs.Added.{acts_is, no_round, round_stays}
-use Rattle.round_model.proofs.BegunBounds.{counted}
+use Rattle.round_model.proofs.Acting.{acts_is, no_round, round_stays}
+use Rattle.round_model.proofs.Counting.{counted}
 use Rattle.round_model.proofs.Grows.{legal_grows}
 use Rattle.round_model.proofs.Locality.{next_of}
 use Rattle.round_model.proofs.Longer.{begun_more, round_of_more, start_stays, start_within}

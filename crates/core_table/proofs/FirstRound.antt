@@ -12,9 +12,9 @@ use Rattle.round_model.specs.declared.entry.Entry.TheVariants as entry
 use Rattle.round_model.specs.declared.plan.Plan.{Plan}
 use Rattle.round_model.specs.declared.plan.Planned.{Planned}
 use Rattle.round_model.specs.Legal.{IsComplete, IsDue, Legal, LegalNext, has_ended, is_complete, is_due, rounds_begun}
-use Rattle.round_model.specs.SerialEnds.{RoundFits}
 use Rattle.round_model.proofs.Histories.{legal_induction, open_round}
 use Rattle.round_model.proofs.Longer.{begun_more}
+use Rattle.serial_steps.specs.SerialEnds.{RoundFits}
 use Rattle.core_state.specs.Views.{CoreView}
 use Rattle.core_table.specs.declared.views.Turn.{Turn}
 use Rattle.core_table.specs.declared.views.View.{View}

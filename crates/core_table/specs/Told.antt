@@ -15,7 +15,7 @@ use Rattle.round_model.specs.Owed.{owed_total}
 use Rattle.round_model.specs.Reads.{round_start, value_read}
 use Rattle.round_model.specs.Rows.{Row}
 use Rattle.round_model.specs.Scenes.{Scene, waking_next}
-use Rattle.round_model.specs.SerialEnds.{RoundFits}
+use Rattle.serial_steps.specs.SerialEnds.{RoundFits}
 use Rattle.core_state.specs.declared.logged.Logged.{Logged}
 use Rattle.core_state.specs.Views.{CoreView}
 use Rattle.core_table.specs.declared.views.HeldCore.{HeldCore}

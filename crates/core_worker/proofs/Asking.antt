@@ -3,18 +3,18 @@ use Rattle.std.proofs.Common.{◌≡◌, ◌<◌, ◌++◌, ℕ, List, Option, S
 use Rattle.std.proofs.lemmas.Option.{slice_get_within}
 use Rattle.policy_tree.specs.Meaning.{Meaning}
 use Rattle.policy_eval.specs.Obligations.{MeetsHandlerObligations}
-use Rattle.round_model.specs.declared.past.Arrival.{Arrival}
 use Rattle.round_model.specs.declared.plan.Plan.{Plan}
 use Rattle.round_model.specs.declared.plan.Planned.{Planned}
 use Rattle.round_model.specs.declared.state.Blocked.{Blocked}
 use Rattle.round_model.specs.After.{after, round_of}
-use Rattle.round_model.specs.Code.Past.{arrives_at}
-use Rattle.round_model.specs.Code.Updates.{IsFirstAt}
+use Rattle.round_model.specs.Updates.{IsFirstAt}
 use Rattle.round_model.specs.Fits.{Fits}
 use Rattle.round_model.specs.Moves.{without_first}
 use Rattle.round_model.specs.Scenes.{entering_next, own_entries, waking_next}
-use Rattle.round_model.specs.Serial.{SerialState}
-use Rattle.round_model.proofs.Turning.{none_entering, none_waking}
+use Rattle.round_judge.specs.declared.past.Arrival.{Arrival}
+use Rattle.round_judge.specs.Past.{arrives_at}
+use Rattle.serial_steps.specs.Serial.{SerialState}
+use Rattle.serial_steps.proofs.Turning.{none_entering, none_waking}
 use Rattle.run_queue.proofs.Scanning.{find-here, without_first-here}
 use Rattle.core_state.proofs.Placing.{same_rest}
 use Rattle.core_worker.specs.declared.run.Run.{Run}

@@ -6,9 +6,10 @@ use Rattle.round_model.specs.declared.plan.Plan.{Plan}
 use Rattle.round_model.specs.declared.plan.Planned.{Planned}
 use Rattle.round_model.specs.declared.state.Blocked.{Blocked}
 use Rattle.round_model.specs.After.{after, round_of}
-use Rattle.round_model.specs.TurnSteps.{TurnStep, attempting, entering, looking, over, step_behind_unit, step_to_enter, step_to_wake, turn_step_of, waking, working}
 use Rattle.round_model.specs.Scenes.{Scene, entering_next, has_attempted, has_worked, own_entries, scene_of, waking_next}
-use Rattle.round_model.specs.Serial.{SerialState}
+use Rattle.serial_steps.specs.TurnSteps.{TurnStep, attempting, entering, looking, over}
+use Rattle.serial_steps.specs.TurnSteps.{step_behind_unit, step_to_enter, step_to_wake, turn_step_of, waking, working}
+use Rattle.serial_steps.specs.Serial.{SerialState}
 use Rattle.core_worker.specs.Runs.{Enters, IsLate, OwesLook, OwesUnit, Wakes, turn_step_at}
 
 -- whether no thread is left to enter or to wake

@@ -4,15 +4,15 @@ use Rattle.policy_tree.specs.Meaning.{Meaning}
 use Rattle.policy_eval.specs.declared.env.CoreValues.{CoreValues}
 use Rattle.round_model.specs.declared.entry.Entry.{Entry}
 use Rattle.round_model.specs.declared.entry.Entry.TheVariants as entry
-use Rattle.round_model.specs.declared.past.Arrival.{Arrival}
 use Rattle.round_model.specs.declared.plan.Plan.{Plan}
-use Rattle.round_model.specs.Code.Additions.{arrivals_after}
 use Rattle.round_model.specs.Attempts.{attempt_with, moves_of}
 use Rattle.round_model.specs.Choices.{choice_of}
 use Rattle.round_model.specs.Cores.{Cores}
 use Rattle.round_model.specs.Entries.{ends}
 use Rattle.round_model.specs.Kinds.{is_attempt, is_work}
 use Rattle.round_model.proofs.Outcomes.{choice_other}
+use Rattle.round_judge.specs.declared.past.Arrival.{Arrival}
+use Rattle.round_judge.specs.Additions.{arrivals_after}
 use Rattle.core_moves.proofs.Stealing.{tries}
 
 -- an attempt is one of the core that makes it

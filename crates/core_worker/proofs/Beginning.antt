@@ -11,17 +11,17 @@ use Rattle.round_model.specs.declared.entry.Entry.TheVariants as entry
 use Rattle.round_model.specs.declared.plan.Plan.{Plan}
 use Rattle.round_model.specs.declared.plan.Planned.{Planned}
 use Rattle.round_model.specs.After.{round_of}
-use Rattle.round_model.specs.Code.Past.{arrival_of, arrives_at, is_flagged}
 use Rattle.round_model.specs.Entries.{ends}
 use Rattle.round_model.specs.Fits.{Fits}
 use Rattle.round_model.specs.Legal.{LegalNext, has_ended}
 use Rattle.round_model.specs.Scenes.{has_attempted, has_worked, is_entering}
-use Rattle.round_model.specs.Serial.{SerialState}
-use Rattle.round_model.proofs.Added.{or_nothing}
-use Rattle.round_model.proofs.Begun.{arriving_by}
+use Rattle.round_model.proofs.Acting.{or_nothing}
 use Rattle.round_model.proofs.Grows.{legal_grows}
 use Rattle.round_model.proofs.Longer.{begun_more, own_none, round_of_more}
-use Rattle.round_model.proofs.SerialEnding.{round_room}
+use Rattle.round_judge.specs.Past.{arrival_of, arrives_at, is_flagged}
+use Rattle.round_judge.proofs.Begun.{arriving_by}
+use Rattle.serial_steps.specs.Serial.{SerialState}
+use Rattle.serial_steps.proofs.SerialEnding.{round_room}
 use Rattle.core_moves.specs.Cores.{AreCoresOf}
 use Rattle.core_moves.specs.Moves.{MayMove}
 use Rattle.core_worker.specs.declared.run.Run.{Run}

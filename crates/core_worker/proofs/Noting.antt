@@ -9,26 +9,27 @@ use Rattle.policy_eval.specs.Obligations.{MeetsHandlerObligations}
 use Rattle.round_model.specs.declared.entry.Did.{Did}
 use Rattle.round_model.specs.declared.entry.Did.TheVariants as did
 use Rattle.round_model.specs.declared.entry.Entry.{Entry}
-use Rattle.round_model.specs.declared.past.Turn.{Turn}
 use Rattle.round_model.specs.declared.plan.Plan.{Plan}
 use Rattle.round_model.specs.After.{after}
-use Rattle.round_model.specs.Code.Additions.{arrivals_after, ended_by}
-use Rattle.round_model.specs.Code.Outcomes.{values_at}
-use Rattle.round_model.specs.Code.Past.{Awaits, is_flagged}
+use Rattle.round_model.specs.Outcomes.{values_at}
 use Rattle.round_model.specs.Cores.{seen_of}
 use Rattle.round_model.specs.Entries.{acting_core, acts, ends}
 use Rattle.round_model.specs.Fits.{Fits}
 use Rattle.round_model.specs.Kinds.{is_attempt, is_work}
 use Rattle.round_model.specs.Legal.{LegalNext, has_ended, rounds_begun}
 use Rattle.round_model.specs.Reads.{ReadsFit, round_start, values_of}
-use Rattle.round_model.specs.Serial.{SerialState, step_of, with_entry}
-use Rattle.round_model.specs.SerialMoments.{IsWithinRound}
-use Rattle.round_model.proofs.Added.{no_round, or_nothing, turn_more}
-use Rattle.round_model.proofs.AddedArrivals.{arrivals_added}
+use Rattle.round_model.proofs.Acting.{no_round, or_nothing}
 use Rattle.round_model.proofs.Longer.{begun_more}
 use Rattle.round_model.proofs.Outcomes.{choice_same}
 use Rattle.round_model.proofs.OwedTotals.{room_for}
-use Rattle.round_model.proofs.SerialTurns.{keeps_step}
+use Rattle.round_judge.specs.declared.past.Turn.{Turn}
+use Rattle.round_judge.specs.Additions.{arrivals_after, ended_by}
+use Rattle.round_judge.specs.Past.{Awaits, is_flagged}
+use Rattle.round_judge.proofs.Added.{turn_more}
+use Rattle.round_judge.proofs.AddedArrivals.{arrivals_added}
+use Rattle.serial_steps.specs.Serial.{SerialState, step_of, with_entry}
+use Rattle.serial_steps.specs.SerialMoments.{IsWithinRound}
+use Rattle.serial_steps.proofs.SerialTurns.{keeps_step}
 use Rattle.core_moves.specs.Cores.{AreCoresOf, IsReachedBy}
 use Rattle.core_moves.specs.Moves.{MayMove}
 use Rattle.core_worker.specs.declared.run.Run.{Run}

@@ -7,11 +7,12 @@ use Rattle.round_laws.proofs.MainTheorem.{main_theorem}
 use Rattle.round_model.specs.declared.plan.Plan.{Plan}
 use Rattle.round_model.specs.Fits.{Fits}
 use Rattle.round_model.specs.Legal.{IsDue, is_due}
-use Rattle.round_model.specs.Serial.{SerialState}
-use Rattle.round_model.specs.SerialEnds.{IsFull, RoundFits}
-use Rattle.round_model.specs.SerialRounds.{serial_rounds, with_round}
-use Rattle.round_model.proofs.SerialEnding.{ended_whole, fits_not_full, round_legal, rounds_over, serial_next, stopped_full}
-use Rattle.round_model.proofs.SerialWholes.{next_too}
+use Rattle.serial_steps.specs.Serial.{SerialState}
+use Rattle.serial_steps.specs.SerialEnds.{IsFull, RoundFits}
+use Rattle.serial_steps.specs.SerialRounds.{serial_rounds, with_round}
+use Rattle.serial_steps.proofs.SerialEnding.{ended_whole, fits_not_full, round_legal}
+use Rattle.serial_steps.proofs.SerialEnding.{rounds_over, serial_next, stopped_full}
+use Rattle.serial_steps.proofs.SerialWholes.{next_too}
 use Rattle.core_state.specs.Logs.{LogsOf}
 use Rattle.core_state.specs.Views.{ClosedView}
 use Rattle.core_worker.specs.declared.run.Run.{Run}

@@ -7,34 +7,34 @@ use Rattle.policy_eval.specs.Obligations.{MeetsHandlerObligations}
 use Rattle.round_model.specs.declared.entry.Did.{Did}
 use Rattle.round_model.specs.declared.entry.Entry.{Entry}
 use Rattle.round_model.specs.declared.entry.Entry.TheVariants as entry
-use Rattle.round_model.specs.declared.past.Arrival.{Arrival}
 use Rattle.round_model.specs.declared.plan.Plan.{Plan}
 use Rattle.round_model.specs.declared.plan.Planned.{Planned}
-use Rattle.round_model.specs.declared.turns.NextStep.{NextStep}
-use Rattle.round_model.specs.declared.turns.NextStep.TheVariants as next
 use Rattle.round_model.specs.After.{after, round_of}
 use Rattle.round_model.specs.Attempts.{attempt_of, attempt_with}
 use Rattle.round_model.specs.Choices.{choice_of, target_of}
-use Rattle.round_model.specs.Code.Outcomes.{values_at}
-use Rattle.round_model.specs.Code.Past.{arrives_at}
-use Rattle.round_model.specs.Code.Turns.{IsLateStepOf, placement_by, step_of_dids, with_step}
+use Rattle.round_model.specs.Outcomes.{values_at}
 use Rattle.round_model.specs.Entries.{acting_core}
 use Rattle.round_model.specs.Fits.{Fits}
 use Rattle.round_model.specs.Legal.{LegalNext}
 use Rattle.round_model.specs.Reads.{ReadsFit, round_start}
 use Rattle.round_model.specs.Scenes.{entering_next, has_attempted, own_entries, scene_of}
-use Rattle.round_model.specs.Serial.{SerialState, step_of, with_entry}
-use Rattle.round_model.specs.SerialMoments.{IsWithinRound}
 use Rattle.round_model.specs.Work.{IsOutcomeOfWork}
 use Rattle.round_model.proofs.Bounded.{bounds_law}
 use Rattle.round_model.proofs.Bursts.{have_bursts}
 use Rattle.round_model.proofs.Histories.{open_round}
 use Rattle.round_model.proofs.Keeping.{bounds_hold}
 use Rattle.round_model.proofs.OwedTotals.{room_for}
-use Rattle.round_model.proofs.Pasts.{arriving_next, id_of_arrival}
-use Rattle.round_model.proofs.SerialSteps.{StepIs, adds, fresh_fit, looks, one_word, stays, step_is}
-use Rattle.round_model.proofs.SerialTurns.{keeps_step}
-use Rattle.round_model.proofs.Turning.{enters, is_late, late_entry, late_look, late_over, late_work, wakes}
+use Rattle.round_judge.specs.declared.past.Arrival.{Arrival}
+use Rattle.round_judge.specs.Past.{arrives_at}
+use Rattle.round_judge.proofs.Pasts.{arriving_next, id_of_arrival}
+use Rattle.serial_steps.specs.declared.turns.NextStep.{NextStep}
+use Rattle.serial_steps.specs.declared.turns.NextStep.TheVariants as next
+use Rattle.serial_steps.specs.Turns.{IsLateStepOf, placement_by, step_of_dids, with_step}
+use Rattle.serial_steps.specs.Serial.{SerialState, step_of, with_entry}
+use Rattle.serial_steps.specs.SerialMoments.{IsWithinRound}
+use Rattle.serial_steps.proofs.SerialSteps.{StepIs, adds, fresh_fit, looks, one_word, stays, step_is}
+use Rattle.serial_steps.proofs.SerialTurns.{keeps_step}
+use Rattle.serial_steps.proofs.Turning.{enters, is_late, late_entry, late_look, late_over, late_work, wakes}
 use Rattle.core_moves.proofs.Shown.{shown_count}
 use Rattle.core_moves.specs.Moves.{MayWork}
 use Rattle.core_moves.specs.Sights.{reads_now, values_now}

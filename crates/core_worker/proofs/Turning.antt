@@ -3,9 +3,9 @@ use Rattle.std.proofs.Common.{◌≡◌, ℕ, ◌<◌, List, [], ◌∷◌, ◌+
 use Rattle.std.proofs.lemmas.List.Sums.{fold-append, fold_push}
 use Rattle.policy_tree.specs.Meaning.{Meaning}
 use Rattle.round_model.specs.declared.plan.Plan.{Plan}
-use Rattle.round_model.specs.Serial.{SerialState, step_of}
-use Rattle.round_model.specs.SerialRounds.{most_steps}
-use Rattle.round_model.proofs.SerialEnding.{rest_stays}
+use Rattle.serial_steps.specs.Serial.{SerialState, step_of}
+use Rattle.serial_steps.specs.SerialRounds.{most_steps}
+use Rattle.serial_steps.proofs.SerialEnding.{rest_stays}
 use Rattle.core_worker.specs.declared.run.Run.{Run}
 use Rattle.core_worker.specs.Runs.{IsAt, IsMoment, Moves, Steps}
 

@@ -5,7 +5,7 @@ use Rattle.round_laws.specs.MainTheorem.{KeepsLaws}
 use Rattle.round_model.specs.declared.entry.Entry.{Entry}
 use Rattle.round_model.specs.declared.plan.Plan.{Plan}
 use Rattle.round_model.specs.Cores.{core_numbers}
-use Rattle.round_model.specs.SerialEnds.{EndsWhole, StopsFull}
+use Rattle.serial_steps.specs.SerialEnds.{EndsWhole, StopsFull}
 use Rattle.core_state.specs.Logs.{LogsOf}
 use Rattle.core_state.specs.Views.{ClosedView}
 use Rattle.core_moves.specs.Cores.{core_view}

@@ -8,17 +8,17 @@ use Rattle.round_model.specs.declared.entry.Entry.TheVariants as entry
 use Rattle.round_model.specs.declared.plan.Plan.{Plan}
 use Rattle.round_model.specs.declared.plan.Planned.{Planned}
 use Rattle.round_model.specs.declared.state.Blocked.{Blocked}
-use Rattle.round_model.specs.TurnSteps.{TurnStep, attempting, entering, late_step, looking, turn_step_of, waking}
-use Rattle.round_model.specs.TurnSteps.{working}
 use Rattle.round_model.specs.Choices.{choice_of}
-use Rattle.round_model.specs.Code.Outcomes.{values_at}
-use Rattle.round_model.specs.Code.Past.{Awaits, is_flagged}
+use Rattle.round_model.specs.Outcomes.{values_at}
 use Rattle.round_model.specs.Legal.{Legal, LegalNext, has_ended, rounds_begun}
 use Rattle.round_model.specs.Owed.{owed_total}
 use Rattle.round_model.specs.Reads.{ReadsFit, round_start}
 use Rattle.round_model.specs.Scenes.{has_attempted, has_worked, own_entries, scene_of}
-use Rattle.round_model.specs.Serial.{SerialState, step_of}
-use Rattle.round_model.specs.SerialEnds.{RoundFits}
+use Rattle.round_judge.specs.Past.{Awaits, is_flagged}
+use Rattle.serial_steps.specs.TurnSteps.{TurnStep, attempting, entering, late_step, looking, turn_step_of, waking}
+use Rattle.serial_steps.specs.TurnSteps.{working}
+use Rattle.serial_steps.specs.Serial.{SerialState, step_of}
+use Rattle.serial_steps.specs.SerialEnds.{RoundFits}
 use Rattle.core_moves.specs.Cores.{AreCoresOf}
 use Rattle.core_worker.specs.declared.run.Run.{Run}
 use Rattle.core_worker.specs.declared.turn.Look.{Look}

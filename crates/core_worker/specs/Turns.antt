@@ -1,6 +1,6 @@
 -- How far cores have come in their turns, as the code keeps it.
 use Rattle.std.specs.Prelude.{◌≡◌, ℕ, false, Option, None, slice_index_or}
-use Rattle.round_model.specs.Code.Past.{is_flagged}
+use Rattle.round_judge.specs.Past.{is_flagged}
 use Rattle.core_worker.specs.declared.turn.Look.{Look}
 use Rattle.core_worker.specs.declared.turn.Turns.{Turns}
 

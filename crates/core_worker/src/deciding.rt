@@ -4,11 +4,11 @@ ghost use Rattle.std.specs.Prelude.{◌≡◌, ◌<◌, Some};
 ghost use Rattle.policy_tree.specs.Meaning.{meaning_of};
 ghost use Rattle.policy_eval.specs.Obligations.{MeetsHandlerObligations};
 ghost use Rattle.round_model.specs.Choices.{target_of};
-ghost use Rattle.round_model.specs.Code.Outcomes.{values_at};
-ghost use Rattle.round_model.specs.Code.Turns.{placement_by};
+ghost use Rattle.round_model.specs.Outcomes.{values_at};
 ghost use Rattle.round_model.specs.Fits.{Fits};
 ghost use Rattle.round_model.specs.Limits.{IsWithinLimits};
-ghost use Rattle.round_model.specs.Serial.{SerialState};
+ghost use Rattle.serial_steps.specs.Turns.{placement_by};
+ghost use Rattle.serial_steps.specs.Serial.{SerialState};
 ghost use Rattle.core_moves.specs.Sights.{reads_now};
 ghost use Rattle.core_worker.specs.Runs.{IsAt, IsMoment};
 

@@ -5,8 +5,8 @@ ghost use Rattle.policy_tree.specs.Meaning.{meaning_of};
 ghost use Rattle.policy_eval.specs.Obligations.{MeetsHandlerObligations, MeetsObligations};
 ghost use Rattle.round_model.specs.Fits.{Fits};
 ghost use Rattle.round_model.specs.Limits.{IsWithinLimits};
-ghost use Rattle.round_model.specs.SerialRounds.{with_round};
-ghost use Rattle.round_model.specs.Serial.{SerialState};
+ghost use Rattle.serial_steps.specs.SerialRounds.{with_round};
+ghost use Rattle.serial_steps.specs.Serial.{SerialState};
 ghost use Rattle.core_worker.specs.Played.{IsFaultOf, PlaysWhole};
 ghost use Rattle.core_worker.specs.Runs.{IsRunOf, MayBegin};
 
@@ -15,7 +15,8 @@ use crate::run::Run;
 use core_state::Closed;
 use policy_checker::AcceptedPolicy;
 use policy_tree::Policy;
-use round_model::{Plan, round_fits};
+use round_model::Plan;
+use serial_steps::round_fits;
 use std::alloc::Global;
 
 /// Serial play of the plan under the policy, as far as the plan's limit lets it come.

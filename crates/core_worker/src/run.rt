@@ -4,11 +4,11 @@ ghost use Rattle.std.specs.Prelude.{◌≡◌, ◌==◌, ◌≤◌, [], IfOk, No
 ghost use Rattle.policy_tree.specs.Meaning.{Meaning, meaning_of};
 ghost use Rattle.policy_eval.specs.Obligations.{MeetsHandlerObligations};
 ghost use Rattle.round_model.specs.declared.plan.Planned.{Planned};
-ghost use Rattle.round_model.specs.Code.Past.{arrival_of};
 ghost use Rattle.round_model.specs.Fits.{Fits};
 ghost use Rattle.round_model.specs.Legal.{is_due as is_due_after};
 ghost use Rattle.round_model.specs.Limits.{IsWithinLimits};
-ghost use Rattle.round_model.specs.Serial.{SerialState};
+ghost use Rattle.round_judge.specs.Past.{arrival_of};
+ghost use Rattle.serial_steps.specs.Serial.{SerialState};
 ghost use Rattle.core_worker.specs.Runs.{IsMoment, IsRunOf, MayBegin, opened};
 
 use crate::turn::Turns;
@@ -16,7 +16,8 @@ use core_moves::Cores;
 use core_state::StateMemory;
 use lists::Items;
 use policy_tree::Policy;
-use round_model::{Arrival, Plan, is_due_by};
+use round_judge::{Arrival, is_due_by};
+use round_model::Plan;
 use sched_base::MAX_THREADS;
 use std::alloc::Global;
 

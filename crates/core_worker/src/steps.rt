@@ -3,21 +3,22 @@
 ghost use Rattle.std.specs.Prelude.{◌≡◌, ◌<◌, IsFalse, vec_capacity};
 ghost use Rattle.policy_tree.specs.Meaning.{meaning_of};
 ghost use Rattle.policy_eval.specs.Obligations.{MeetsHandlerObligations};
-ghost use Rattle.round_model.specs.declared.past.Arrival.{Arrival};
-ghost use Rattle.round_model.specs.Code.Additions.{ended_by};
-ghost use Rattle.round_model.specs.Code.Past.{arrives_at};
-ghost use Rattle.round_model.specs.Code.Updates.{IsFirstPlace};
+ghost use Rattle.round_model.specs.Updates.{IsFirstPlace};
 ghost use Rattle.round_model.specs.Fits.{Fits};
 ghost use Rattle.round_model.specs.Limits.{IsWithinLimits};
 ghost use Rattle.round_model.specs.Moves.{without_first};
-ghost use Rattle.round_model.specs.Serial.{SerialState, step_of};
+ghost use Rattle.round_judge.specs.declared.past.Arrival.{Arrival};
+ghost use Rattle.round_judge.specs.Additions.{ended_by};
+ghost use Rattle.round_judge.specs.Past.{arrives_at};
+ghost use Rattle.serial_steps.specs.Serial.{SerialState, step_of};
 ghost use Rattle.core_worker.specs.Runs.{Enters, HasLooked, IsAt, IsLate, IsMoment, OwesLook, OwesUnit, Steps, Wakes};
 
 use crate::run::Run;
 use crate::turn::Look;
 use lists::Items;
 use policy_tree::Policy;
-use round_model::{Arrival, Did, Plan, first_arrival, note_end};
+use round_judge::{Arrival, first_arrival, note_end};
+use round_model::{Did, Plan};
 use sched_base::{CoreId, ThreadId};
 
 impl Run {

@@ -5,13 +5,14 @@ ghost use Rattle.policy_tree.specs.Meaning.{meaning_of};
 ghost use Rattle.policy_eval.specs.Obligations.{MeetsHandlerObligations};
 ghost use Rattle.round_model.specs.Fits.{Fits};
 ghost use Rattle.round_model.specs.Limits.{IsWithinLimits};
-ghost use Rattle.round_model.specs.SerialRounds.{most_steps as most_steps_of, order_of, remaining_turns};
+ghost use Rattle.serial_steps.specs.SerialRounds.{most_steps as most_steps_of, order_of, remaining_turns};
 ghost use Rattle.core_worker.specs.Runs.{IsAt, Moves};
 
 use crate::run::Run;
 use policy_tree::Policy;
-use round_model::{Plan, most_steps, ordered_cores};
+use round_model::Plan;
 use sched_base::CoreId;
+use serial_steps::{most_steps, ordered_cores};
 
 impl Run {
     /// A step of each core in the order that the plan has for the round of that number.

@@ -10,7 +10,7 @@ use Rattle.round_model.specs.declared.plan.Plan.{Plan}
 use Rattle.round_model.specs.declared.plan.Planned.{Planned}
 use Rattle.round_model.specs.Entries.{lets_in}
 use Rattle.round_model.specs.Scenes.{entering_next}
-use Rattle.round_model.specs.TurnSteps.{TurnStep, entering}
+use Rattle.serial_steps.specs.TurnSteps.{TurnStep, entering}
 use Rattle.core_table.specs.declared.views.View.{View}
 use Rattle.core_table.specs.Told.{Agrees, IsKnown}
 use Rattle.steal_phase.specs.Attempts.{own_entries_in}

@@ -10,7 +10,7 @@ use Rattle.round_model.specs.declared.plan.Planned.{Planned}
 use Rattle.round_model.specs.Entries.{lets_in, reads_of}
 use Rattle.round_model.specs.Kinds.{is_attempt, is_work}
 use Rattle.round_model.specs.Scenes.{has_attempted, has_worked}
-use Rattle.round_model.specs.TurnSteps.{TurnStep, attempting, entering, looking, over, waking, working}
+use Rattle.serial_steps.specs.TurnSteps.{TurnStep, attempting, entering, looking, over, waking, working}
 use Rattle.core_state.specs.declared.logged.Logged.{Logged}
 use Rattle.core_table.specs.declared.views.View.{View}
 use Rattle.select_phase.specs.declared.looks.Look.{Look}

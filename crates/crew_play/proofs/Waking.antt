@@ -17,8 +17,9 @@ use Rattle.round_model.specs.Kinds.{is_work}
 use Rattle.round_model.specs.Legal.{Legal, LegalNext}
 use Rattle.round_model.specs.Rows.{LegalWake, Row}
 use Rattle.round_model.specs.Scenes.{entering_next, own_entries, scene_of, waking_next}
-use Rattle.round_model.specs.TurnSteps.{TurnStep, attempting, entering, looking, over, step_to_enter, step_to_wake, turn_step_of, waking, working}
 use Rattle.round_model.proofs.Grows.{legal_grows}
+use Rattle.serial_steps.specs.TurnSteps.{TurnStep, attempting, entering, looking, over}
+use Rattle.serial_steps.specs.TurnSteps.{step_to_enter, step_to_wake, turn_step_of, waking, working}
 use Rattle.core_state.specs.declared.logged.Logged.{Logged}
 use Rattle.core_table.specs.declared.views.View.{View}
 use Rattle.core_table.specs.Told.{Agrees, IsKnown, IsTrueRole}

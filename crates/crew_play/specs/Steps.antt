@@ -5,7 +5,7 @@ use Rattle.round_model.specs.declared.entry.Entry.{Entry}
 use Rattle.round_model.specs.declared.entry.Entry.TheVariants as entry
 use Rattle.round_model.specs.Entries.{reads_of}
 use Rattle.round_model.specs.Kinds.{is_attempt}
-use Rattle.round_model.specs.TurnSteps.{TurnStep, attempting, entering, looking, over, waking, working}
+use Rattle.serial_steps.specs.TurnSteps.{TurnStep, attempting, entering, looking, over, waking, working}
 use Rattle.core_table.specs.declared.views.View.{View}
 use Rattle.core_table.specs.Told.{Agrees}
 use Rattle.core_calls.specs.Calls.{LooksAt}

@@ -5,13 +5,14 @@ ghost use Rattle.policy_tree.specs.Meaning.{meaning_of};
 ghost use Rattle.policy_eval.specs.Obligations.{MeetsHandlerObligations, MeetsObligations};
 ghost use Rattle.round_model.specs.Fits.{Fits};
 ghost use Rattle.round_model.specs.Limits.{IsWithinLimits};
-ghost use Rattle.round_model.specs.Code.Past.{StandsFor};
+ghost use Rattle.round_judge.specs.Past.{StandsFor};
 ghost use Rattle.round_laws.specs.MainTheorem.{KeepsLaws};
 ghost use Rattle.history_judge.specs.Judgement.{IsJudgement, MustBeWhole, StopsLegal};
 
 use crate::judgement::{ReplayFault, Replayed};
 use policy_tree::Policy;
-use round_model::{Entry, History, Past, Plan, round_due, step, step_ok};
+use round_judge::{Past, round_due, step, step_ok};
+use round_model::{Entry, History, Plan};
 use sched_base::MAX_ENTRIES;
 use std::alloc::Global;
 

@@ -21,8 +21,8 @@ use Rattle.trace_play.specs.declared.cores.PlayedCores.TheVariants as cores
 use Rattle.history_replay.specs.declared.answer.HistoryAnswer.{HistoryAnswer}
 use Rattle.history_replay.specs.declared.answer.HistoryAnswer.TheVariants as judged
 use Rattle.history_replay.specs.declared.refusal.HistoryRefusal.TheVariants as no_history
-use Rattle.round_model.specs.declared.serial.Played.{Played}
-use Rattle.round_model.specs.declared.serial.Played.TheVariants as played
+use Rattle.serial_steps.specs.declared.serial.Played.{Played}
+use Rattle.serial_steps.specs.declared.serial.Played.TheVariants as played
 use Rattle.trace_simulation.specs.declared.answer.PlayedWaste.TheVariants as wasted
 use Rattle.trace_simulation.specs.declared.answer.SimulationAnswer.{SimulationAnswer}
 use Rattle.trace_simulation.specs.declared.answer.SimulationAnswer.TheVariants as simulation

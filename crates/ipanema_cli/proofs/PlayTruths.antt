@@ -6,9 +6,9 @@ use Rattle.sched_io.specs.Written.{Adds}
 use Rattle.policy_tree.specs.Meaning.{Meaning}
 use Rattle.round_model.specs.declared.entry.Entry.{Entry}
 use Rattle.round_model.specs.declared.plan.Plan.{Plan}
-use Rattle.round_model.specs.declared.serial.Played.TheVariants as played
-use Rattle.round_model.specs.SerialEnds.{EndsWhole, IsFull, StopsFull}
-use Rattle.round_model.specs.SerialRounds.{serial_rounds}
+use Rattle.serial_steps.specs.declared.serial.Played.TheVariants as played
+use Rattle.serial_steps.specs.SerialEnds.{EndsWhole, IsFull, StopsFull}
+use Rattle.serial_steps.specs.SerialRounds.{serial_rounds}
 use Rattle.round_laws.proofs.MainTheorem.{main_theorem}
 use Rattle.sched_history.specs.Spelling.{text_of_history}
 use Rattle.core_state.specs.Views.{ClosedView}

@@ -7,10 +7,10 @@ use Rattle.policy_eval.proofs.Statements.{handler_obligations}
 use Rattle.policy_tree.specs.Meaning.{Meaning}
 use Rattle.round_model.specs.declared.entry.Entry.{Entry}
 use Rattle.round_model.specs.declared.plan.Plan.{Plan}
-use Rattle.round_model.specs.declared.serial.Played.TheVariants as played
 use Rattle.round_model.specs.Legal.{Whole, rounds_begun}
-use Rattle.round_model.specs.Room.{HasRoomForRounds}
-use Rattle.round_model.proofs.EntryBounds.{room_suffices}
+use Rattle.serial_steps.specs.declared.serial.Played.TheVariants as played
+use Rattle.serial_steps.specs.Room.{HasRoomForRounds}
+use Rattle.serial_steps.proofs.EntryBounds.{room_suffices}
 use Rattle.round_laws.proofs.MainTheorem.{main_theorem}
 use Rattle.sched_history.specs.Spelling.{text_of_history}
 use Rattle.history_merge.specs.Merged.{merged}

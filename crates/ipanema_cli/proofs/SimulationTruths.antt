@@ -20,12 +20,12 @@ use Rattle.policy_check.specs.declared.answer.CheckAnswer.{CheckAnswer}
 use Rattle.policy_check.specs.declared.answer.CheckAnswer.TheVariants as checked
 use Rattle.round_model.specs.declared.entry.Entry.{Entry}
 use Rattle.round_model.specs.declared.plan.Plan.{Plan}
-use Rattle.round_model.specs.declared.serial.Played.{Played}
-use Rattle.round_model.specs.declared.serial.Played.TheVariants as played
 use Rattle.round_model.specs.Legal.{Legal}
 use Rattle.round_model.specs.OnePlace.{OnePlace}
-use Rattle.round_model.specs.SerialEnds.{EndsWhole, IsFull, IsPlayed, StopsFull}
-use Rattle.round_model.specs.SerialRounds.{serial_rounds}
+use Rattle.serial_steps.specs.declared.serial.Played.{Played}
+use Rattle.serial_steps.specs.declared.serial.Played.TheVariants as played
+use Rattle.serial_steps.specs.SerialEnds.{EndsWhole, IsFull, IsPlayed, StopsFull}
+use Rattle.serial_steps.specs.SerialRounds.{serial_rounds}
 use Rattle.round_laws.specs.MainTheorem.{KeepsLaws}
 use Rattle.round_laws.proofs.MainTheorem.{main_theorem}
 use Rattle.round_laws.proofs.OnePlace.{one_place_law}

@@ -24,8 +24,8 @@ use Rattle.policy_check.specs.declared.verifying.VerifyAnswer.TheVariants as ver
 use Rattle.trace_play.specs.declared.answer.PlayAnswer.{PlayAnswer}
 use Rattle.trace_play.specs.declared.answer.PlayAnswer.TheVariants as play_answer
 use Rattle.trace_play.specs.declared.cores.PlayedCores.TheVariants as cores
-use Rattle.round_model.specs.declared.serial.Played.{Played}
-use Rattle.round_model.specs.declared.serial.Played.TheVariants as played
+use Rattle.serial_steps.specs.declared.serial.Played.{Played}
+use Rattle.serial_steps.specs.declared.serial.Played.TheVariants as played
 use Rattle.trace_simulation.specs.declared.answer.PlayedWaste.TheVariants as wasted
 use Rattle.trace_simulation.specs.declared.answer.SimulationAnswer.{SimulationAnswer}
 use Rattle.trace_simulation.specs.declared.answer.SimulationAnswer.TheVariants as simulation

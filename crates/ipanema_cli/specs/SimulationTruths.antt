@@ -9,8 +9,8 @@ use Rattle.policy_checker.specs.Laws.{HasUncertainHandler}
 use Rattle.round_model.specs.declared.entry.Entry.{Entry}
 use Rattle.round_model.specs.declared.plan.Plan.{Plan}
 use Rattle.round_model.specs.OnePlace.{OnePlace}
-use Rattle.round_model.specs.SerialEnds.{EndsWhole, IsFull, StopsFull}
-use Rattle.round_model.specs.SerialRounds.{serial_rounds}
+use Rattle.serial_steps.specs.SerialEnds.{EndsWhole, IsFull, StopsFull}
+use Rattle.serial_steps.specs.SerialRounds.{serial_rounds}
 use Rattle.round_laws.specs.MainTheorem.{KeepsLaws}
 use Rattle.job_trace.specs.declared.trace.Numbered.{Numbered}
 use Rattle.job_trace.specs.Plans.{SpellsPlan}

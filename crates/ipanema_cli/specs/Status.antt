@@ -18,8 +18,8 @@ use Rattle.policy_check.specs.declared.reading.Refusal.{Refusal}
 use Rattle.policy_check.specs.declared.reading.Refusal.TheVariants as refusal
 use Rattle.policy_check.specs.declared.verifying.VerifyAnswer.{VerifyAnswer}
 use Rattle.policy_check.specs.declared.verifying.VerifyAnswer.TheVariants as verify
-use Rattle.round_model.specs.declared.serial.Played.{Played}
-use Rattle.round_model.specs.declared.serial.Played.TheVariants as played
+use Rattle.serial_steps.specs.declared.serial.Played.{Played}
+use Rattle.serial_steps.specs.declared.serial.Played.TheVariants as played
 use Rattle.trace_simulation.specs.declared.answer.PlayedWaste.TheVariants as wasted
 use Rattle.trace_simulation.specs.declared.answer.SimulationAnswer.{SimulationAnswer}
 use Rattle.trace_simulation.specs.declared.answer.SimulationAnswer.TheVariants as simulation

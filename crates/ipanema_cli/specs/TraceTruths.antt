@@ -9,14 +9,14 @@ use Rattle.round_model.specs.declared.plan.Plan.{Plan}
 use Rattle.round_model.specs.Fits.{Fits}
 use Rattle.round_model.specs.Legal.{Whole}
 use Rattle.round_model.specs.Limits.{IsWithinLimits}
-use Rattle.round_model.specs.SerialRounds.{serial_rounds}
+use Rattle.serial_steps.specs.SerialRounds.{serial_rounds}
 use Rattle.round_laws.specs.MainTheorem.{KeepsLaws}
 use Rattle.job_trace.specs.declared.trace.Numbered.{Numbered}
 use Rattle.job_trace.specs.Plans.{SpellsPlan}
 use Rattle.job_trace.specs.TraceText.{SpellsTrace}
 use Rattle.sched_history.specs.Spelling.{text_of_history}
-use Rattle.round_model.specs.Room.{HasRoomForRounds}
-use Rattle.round_model.specs.SerialEnds.{EndsWhole, IsFull, StopsFull}
+use Rattle.serial_steps.specs.Room.{HasRoomForRounds}
+use Rattle.serial_steps.specs.SerialEnds.{EndsWhole, IsFull, StopsFull}
 use Rattle.trace_play.specs.declared.fault.LineFault.{LineFault}
 use Rattle.parallel_play.specs.Runs.{HadRoom}
 use Rattle.trace_run.specs.Runs.{GatedEnds, GatedStops}

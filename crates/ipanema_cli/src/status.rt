@@ -8,7 +8,7 @@ ghost use Rattle.ipanema_cli.specs.Status.{refusal_status, simulation_status, ve
 use history_replay::{HistoryAnswer, HistoryRefusal};
 use policy_check::{BoundAnswer, CheckAnswer, ExplainAnswer, Refusal, RestAnswer, VerifyAnswer};
 use policy_checker::{LeastGap, Outcome, Verdict};
-use round_model::Played;
+use serial_steps::Played;
 use trace_simulation::{PlayedWaste, SimulationAnswer};
 
 /// How the program ends, for the shell a number.

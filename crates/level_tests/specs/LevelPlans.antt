@@ -5,7 +5,7 @@ use Rattle.round_model.specs.declared.plan.Ending.TheVariants as ending
 use Rattle.round_model.specs.declared.plan.OrderLine.{OrderLine}
 use Rattle.round_model.specs.declared.plan.Plan.{Plan}
 use Rattle.round_model.specs.declared.plan.Planned.{Planned}
-use Rattle.round_model.specs.SerialRounds.{serial_history}
+use Rattle.serial_steps.specs.SerialRounds.{serial_history}
 use Rattle.level_policy.specs.Compiled.{compiled}
 use Rattle.level_tests.specs.LevelPolicies.{numa, overlapping, seen}
 

@@ -12,10 +12,10 @@ use Rattle.round_model.specs.Moves.{core_after_event, handed, handed_all, receiv
 use Rattle.round_model.specs.Rows.{Row}
 use Rattle.round_model.specs.Scenes.{entering_next, scene_of, waking_next}
 use Rattle.round_model.specs.Work.{worked}
-use Rattle.round_model.specs.TurnSteps.{turn_step_of}
-use Rattle.round_model.specs.Serial.{step_of}
-use Rattle.round_model.specs.SerialRounds.{with_round}
 use Rattle.round_model.specs.Spread.{spread}
+use Rattle.serial_steps.specs.TurnSteps.{turn_step_of}
+use Rattle.serial_steps.specs.Serial.{step_of}
+use Rattle.serial_steps.specs.SerialRounds.{with_round}
 use Rattle.model_tests.specs.BatchRows.{BatchMisses, BatchesOfThreads, BatchesOfWeights}
 
 pub batches_of_threads : BatchesOfThreads

@@ -11,10 +11,10 @@ use Rattle.round_model.specs.Legal.{is_complete, is_due}
 use Rattle.round_model.specs.Moves.{core_after_event, handed_all, received_all, released}
 use Rattle.round_model.specs.Scenes.{entering_next, scene_of, waking_next}
 use Rattle.round_model.specs.Work.{worked}
-use Rattle.round_model.specs.TurnSteps.{turn_step_of}
-use Rattle.round_model.specs.Serial.{step_of}
-use Rattle.round_model.specs.SerialRounds.{with_round}
 use Rattle.round_model.specs.Spread.{spread}
+use Rattle.serial_steps.specs.TurnSteps.{turn_step_of}
+use Rattle.serial_steps.specs.Serial.{step_of}
+use Rattle.serial_steps.specs.SerialRounds.{with_round}
 use Rattle.model_tests.specs.SerialRows.{EightThreadsSpread, FairBlocksAndWakes, OneCoreTwoUnits, StaleReadFails, TwoCoresOneSteal}
 
 pub one_core_two_units : OneCoreTwoUnits

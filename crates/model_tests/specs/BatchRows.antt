@@ -5,7 +5,7 @@ use Rattle.policy_eval.specs.Obligations.{MeetsObligations}
 use Rattle.policy_eval.specs.Resolved.{IsResolved}
 use Rattle.round_model.specs.declared.plan.Plan.{Plan}
 use Rattle.round_model.specs.Legal.{LegalNext}
-use Rattle.round_model.specs.SerialRounds.{serial_history}
+use Rattle.serial_steps.specs.SerialRounds.{serial_history}
 use Rattle.model_tests.specs.Histories.{seven_front, seven_steal, six_front, six_steal, three_history}
 use Rattle.model_tests.specs.Plans.{seven_threads, six_threads, six_weights, three_weights}
 use Rattle.model_tests.specs.Policies.{basic, in_batches, weighted}

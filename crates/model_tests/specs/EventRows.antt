@@ -16,7 +16,7 @@ use Rattle.round_model.specs.After.{after}
 use Rattle.round_model.specs.Choices.{target_of}
 use Rattle.round_model.specs.Cores.{tasks_of}
 use Rattle.round_model.specs.Legal.{LegalNext}
-use Rattle.round_model.specs.SerialRounds.{serial_history}
+use Rattle.serial_steps.specs.SerialRounds.{serial_history}
 use Rattle.model_tests.specs.Histories.{stale_read_history}
 use Rattle.model_tests.specs.Plans.{in_order, endless, one_core, plan_of, run, thread}
 use Rattle.fair_policy.specs.Fair.{fair_meaning as fair}

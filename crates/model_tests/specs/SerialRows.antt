@@ -2,8 +2,8 @@
 use Rattle.std.specs.Prelude.{◌≡◌, ℕ, List, [], ◌∷◌, map, length, take}
 use Rattle.round_model.specs.After.{after}
 use Rattle.round_model.specs.Cores.{core_numbers, load_of}
-use Rattle.round_model.specs.SerialRounds.{serial_history}
 use Rattle.round_model.specs.Spread.{spread}
+use Rattle.serial_steps.specs.SerialRounds.{serial_history}
 use Rattle.model_tests.specs.Histories.{block_and_wake_history, eight_threads_history, one_core_history}
 use Rattle.model_tests.specs.Histories.{stale_read_history, two_cores_history}
 use Rattle.model_tests.specs.Plans.{block_and_wake, eight_threads, one_core, stale_read, two_cores}

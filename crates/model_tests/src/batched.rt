@@ -3,7 +3,7 @@
 ghost use Rattle.std.specs.Prelude.{◌≡◌, ◌≤◌, IfOk, length};
 ghost use Rattle.sched_base.specs.declared.limits.TheConstants.{MAX_ENTRIES, MAX_STOLEN};
 ghost use Rattle.policy_tree.specs.Meaning.{meaning_of};
-ghost use Rattle.round_model.specs.SerialEnds.{IsPlayed};
+ghost use Rattle.serial_steps.specs.SerialEnds.{IsPlayed};
 ghost use Rattle.model_tests.specs.Batched.{plan_in, policy_in};
 ghost use Rattle.model_tests.specs.Plans.{six_threads as six_threads_plan, six_weights as six_weights_plan};
 ghost use Rattle.model_tests.specs.Plans.{seven_threads as seven_threads_plan};
@@ -14,8 +14,9 @@ use crate::builders::{batched_policy, weighted_policy};
 use crate::plans::{endless, on_two_cores, weighing};
 use crate::steps::legal_length;
 use policy_tree::Policy;
-use round_model::{Entry, ModelMemory, Plan, Played};
+use round_model::{Entry, ModelMemory, Plan};
 use serial_play::play_rounds;
+use serial_steps::Played;
 use std::alloc::{AllocError, Global};
 
 /// Which threads stand on two cores. No thread has an end.

@@ -3,15 +3,15 @@
 ghost use Rattle.std.specs.Prelude.{◌≡◌, ◌<◌, ◌^◌, [], IfOk, IsTrue, ◌↔◌, vec_len};
 ghost use Rattle.policy_tree.specs.Meaning.{meaning_of};
 ghost use Rattle.round_model.specs.Legal.{LegalNext};
-ghost use Rattle.round_model.specs.Code.Past.{IsPastOf, StandsFor};
+ghost use Rattle.round_judge.specs.Past.{IsPastOf, StandsFor};
 ghost use Rattle.model_tests.specs.Plans.{endless as endless_thread, plan_of, two_cores as two_cores_plan};
 ghost use Rattle.model_tests.specs.Plans.{weighing as weighing_thread};
 ghost use Rattle.model_tests.specs.Policies.{basic};
 
 use policy_tree::Policy;
+use round_judge::{Past, step_ok};
 use round_model::{
-    Burst, BurstList, ConstList, Ending, Entry, ModelMemory, OrderList, Past, Plan, Planned,
-    PlannedList, step_ok,
+    Burst, BurstList, ConstList, Ending, Entry, ModelMemory, OrderList, Plan, Planned, PlannedList,
 };
 use sched_base::{MAX_ATTRIBUTES, ThreadId};
 use std::alloc::{AllocError, Global};

@@ -2,13 +2,14 @@
 
 ghost use Rattle.std.specs.Prelude.{◌≡◌, IfOk};
 ghost use Rattle.policy_tree.specs.Meaning.{meaning_of};
-ghost use Rattle.round_model.specs.SerialEnds.{IsPlayed};
+ghost use Rattle.serial_steps.specs.SerialEnds.{IsPlayed};
 ghost use Rattle.model_tests.specs.Plans.{two_cores};
 ghost use Rattle.model_tests.specs.Policies.{basic};
 
 use policy_tree::Policy;
-use round_model::{ModelMemory, Plan, Played};
+use round_model::{ModelMemory, Plan};
 use serial_play::play_rounds;
+use serial_steps::Played;
 use std::alloc::Global;
 
 /// Serial play under the basic policy, with two cores and two threads without end.

@@ -10,7 +10,8 @@ ghost use Rattle.model_tests.specs.Policies.{basic};
 ghost use Rattle.model_tests.specs.Steps.{IsLegalLength};
 
 use policy_tree::Policy;
-use round_model::{Entry, ModelMemory, Past, Plan, step, step_ok};
+use round_judge::{Past, step, step_ok};
+use round_model::{Entry, ModelMemory, Plan};
 use sched_base::MAX_ENTRIES;
 use std::alloc::Global;
 

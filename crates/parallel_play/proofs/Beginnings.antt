@@ -9,8 +9,8 @@ use Rattle.round_model.specs.declared.plan.Plan.{Plan}
 use Rattle.round_model.specs.Kinds.{is_round}
 use Rattle.round_model.specs.Legal.{Legal, LegalNext, Whole, is_due}
 use Rattle.round_model.specs.Reads.{round_start, start_from}
-use Rattle.round_model.specs.SerialEnds.{IsFull, RoundFits}
 use Rattle.round_model.proofs.Grows.{at_end}
+use Rattle.serial_steps.specs.SerialEnds.{IsFull, RoundFits}
 use Rattle.parallel_play.specs.Runs.{HadRoom}
 
 -- the start of a round is no earlier than those before it

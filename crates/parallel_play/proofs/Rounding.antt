@@ -22,9 +22,9 @@ use Rattle.round_model.specs.Entries.{ends}
 use Rattle.round_model.specs.Fits.{Fits}
 use Rattle.round_model.specs.Legal.{IsComplete, Legal, has_ended, is_complete, is_due, rounds_begun}
 use Rattle.round_model.specs.Scenes.{has_attempted, own_entries}
-use Rattle.round_model.specs.SerialEnds.{RoundFits}
 use Rattle.round_model.proofs.Between.{has_ended_split}
 use Rattle.round_model.proofs.Histories.{open_round}
+use Rattle.serial_steps.specs.SerialEnds.{RoundFits}
 use Rattle.core_state.specs.declared.logged.Logged.{Logged}
 use Rattle.core_state.specs.Views.{ClosedView}
 use Rattle.core_table.specs.declared.views.Role.TheVariants as role

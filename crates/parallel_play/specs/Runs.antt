@@ -9,7 +9,7 @@ use Rattle.round_model.specs.declared.entry.Entry.TheVariants as entry
 use Rattle.round_model.specs.declared.plan.Plan.{Plan}
 use Rattle.round_model.specs.After.{after}
 use Rattle.round_model.specs.Legal.{IsComplete, Legal, Whole, rounds_begun}
-use Rattle.round_model.specs.SerialEnds.{IsFull, RoundFits}
+use Rattle.serial_steps.specs.SerialEnds.{IsFull, RoundFits}
 use Rattle.core_state.specs.Logs.{LogsOf}
 use Rattle.core_state.specs.Views.{ClosedView, CoreView}
 use Rattle.parallel_play.specs.declared.fault.RunFault.{RunFault}

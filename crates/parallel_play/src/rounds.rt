@@ -17,8 +17,9 @@ use core_state::Closed;
 use core_table::{Seat, Table};
 use policy_checker::AcceptedPolicy;
 use policy_tree::Policy;
-use round_model::{Plan, round_fits};
+use round_model::Plan;
 use sched_io::Gate;
+use serial_steps::round_fits;
 use std::sync::Wait;
 use std::thread::Threads;
 

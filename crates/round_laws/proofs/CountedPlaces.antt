@@ -17,9 +17,9 @@ use Rattle.policy_eval.proofs.Kept.{outcome_kept}
 use Rattle.round_model.specs.declared.state.Blocked.{Blocked}
 use Rattle.round_model.specs.declared.state.ModelCore.{ModelCore}
 use Rattle.round_model.specs.Cores.{tasks_of}
-use Rattle.round_model.specs.Code.Kept.{Holds}
+use Rattle.round_model.specs.Kept.{Holds}
 use Rattle.round_model.specs.Moves.{admitted, blocked_of, core_after_event, handed_all, is_blocked_task, is_task, received_all, released, taken_from, with_outcome, with_task}
-use Rattle.round_model.proofs.BegunBounds.{counted}
+use Rattle.round_model.proofs.Counting.{counted}
 use Rattle.round_model.proofs.Counting.{count_without}
 use Rattle.round_model.proofs.Standing.{one_outcome}
 use Rattle.round_model.proofs.Takings.{sum-taken}

@@ -20,7 +20,7 @@ use Rattle.round_model.specs.FailsExplained.{FailExplained, FailedStealsLaw}
 use Rattle.round_model.specs.Fits.{Fits}
 use Rattle.round_model.specs.Kinds.{is_steal}
 use Rattle.round_model.specs.Legal.{Legal}
-use Rattle.round_model.specs.Code.Outcomes.{values_at}
+use Rattle.round_model.specs.Outcomes.{values_at}
 use Rattle.round_model.specs.Reads.{IsReadOf, round_start, value_read, values_of}
 use Rattle.round_model.specs.Rounds.{disturbs}
 use Rattle.round_model.proofs.Grows.{legal_prefix}

@@ -27,7 +27,7 @@ use Rattle.round_model.specs.Entries.{acts}
 use Rattle.round_model.specs.Fits.{Fits}
 use Rattle.round_model.specs.Kinds.{is_attempt, is_steal}
 use Rattle.round_model.specs.Legal.{Legal, LegalNext}
-use Rattle.round_model.specs.Code.Outcomes.{values_at}
+use Rattle.round_model.specs.Outcomes.{values_at}
 use Rattle.round_model.specs.Reads.{ReadsFit, round_start, value_read, values_of}
 use Rattle.round_model.specs.Rounds.{Attempts, BeginsAt, IsBad, disturbs, is_leaving, round_at}
 use Rattle.round_laws.specs.IdleBound.{idle_at, takes_off}

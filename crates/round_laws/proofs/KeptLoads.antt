@@ -24,7 +24,7 @@ use Rattle.round_model.specs.declared.state.ModelCore.{ModelCore}
 use Rattle.round_model.specs.After.{after, moved, round_of}
 use Rattle.round_model.specs.Cores.{seen_of}
 use Rattle.round_model.specs.Fits.{Fits}
-use Rattle.round_model.specs.Code.Kept.{Holds}
+use Rattle.round_model.specs.Kept.{Holds}
 use Rattle.round_model.specs.Kinds.{is_steal}
 use Rattle.round_model.specs.Legal.{Legal, LegalNext}
 use Rattle.round_model.specs.Moves.{core_after_event, with_outcome, with_task}
@@ -32,7 +32,7 @@ use Rattle.round_model.specs.Programs.{Meeting, blocking, burst_of, ending_now, 
 use Rattle.round_model.specs.Rounds.{disturbs, is_leaving}
 use Rattle.round_model.specs.StillRounds.{StillKeepsLoads}
 use Rattle.round_model.specs.Work.{IsOutcomeOfWork, after_meeting, after_unit, before, core_after_work, did_of, elected, elected_over, met, run_over, with_current, worked}
-use Rattle.round_model.proofs.Added.{legal_said}
+use Rattle.round_model.proofs.Acting.{legal_said}
 use Rattle.round_model.proofs.Bounded.{stays}
 use Rattle.round_model.proofs.Counting.{Split, best_split}
 use Rattle.round_model.proofs.Grows.{legal_prefix}

@@ -14,8 +14,8 @@ use Rattle.round_model.specs.declared.state.ModelCore.{ModelCore}
 use Rattle.round_model.specs.After.{after, moved, round_of}
 use Rattle.round_model.specs.Attempts.{further_moves, goes_on, moves_after, moves_of, moves_with, next_of}
 use Rattle.round_model.specs.Choices.{may_steal}
-use Rattle.round_model.specs.Code.Outcomes.{values_at}
-use Rattle.round_model.specs.Code.Updates.{updated}
+use Rattle.round_model.specs.Outcomes.{values_at}
+use Rattle.round_model.specs.Updates.{updated}
 use Rattle.round_model.specs.Cores.{Cores, seen_of}
 use Rattle.round_model.specs.Fits.{Fits}
 use Rattle.round_model.specs.Kinds.{is_steal}

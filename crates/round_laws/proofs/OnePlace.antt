@@ -14,16 +14,16 @@ use Rattle.round_model.specs.After.{after, after_from, moved, round_of}
 use Rattle.round_model.specs.BoundsLaws.{is_awaited}
 use Rattle.round_model.specs.Cores.{Cores, core_numbers, opening_state}
 use Rattle.round_model.specs.Fits.{Fits}
-use Rattle.round_model.specs.Code.Kept.{Holds}
+use Rattle.round_model.specs.Kept.{Holds}
 use Rattle.round_model.specs.Legal.{Legal, LegalNext}
 use Rattle.round_model.specs.Moves.{is_blocked_task}
 use Rattle.round_model.specs.OnePlace.{OnePlaceLaw}
 use Rattle.round_model.specs.Phases.{Stands, blocked_places_of, outside, phase_after, phase_of, places_of}
 use Rattle.round_model.specs.Rows.{Row}
-use Rattle.round_model.specs.Code.Steps.{AreThere}
+use Rattle.round_model.specs.Fitting.{AreThere}
 use Rattle.round_model.specs.Scenes.{entering_next, is_due_blocked, is_entering, own_entries, scene_of, waking_next}
 use Rattle.round_model.proofs.Awaited.{let_in_awaited}
-use Rattle.round_model.proofs.BegunBounds.{counted}
+use Rattle.round_model.proofs.Counting.{counted}
 use Rattle.round_model.proofs.Bounded.{bounds_law}
 use Rattle.round_model.proofs.Directories.{is_thread}
 use Rattle.round_model.proofs.Finding.{find-passes}

@@ -15,7 +15,7 @@ use Rattle.round_model.specs.declared.entry.Entry.TheVariants as entry
 use Rattle.round_model.specs.declared.plan.Plan.{Plan}
 use Rattle.round_model.specs.After.{after}
 use Rattle.round_model.specs.Attempts.{present_values}
-use Rattle.round_model.specs.Code.Outcomes.{values_at}
+use Rattle.round_model.specs.Outcomes.{values_at}
 use Rattle.round_model.specs.Cores.{Cores, load_of, seen_of, thread_count}
 use Rattle.round_model.specs.Fits.{Fits}
 use Rattle.round_model.specs.Kinds.{is_steal}

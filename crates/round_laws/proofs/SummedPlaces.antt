@@ -13,10 +13,10 @@ use Rattle.round_model.specs.declared.state.ModelCore.{ModelCore}
 use Rattle.round_model.specs.After.{moved}
 use Rattle.round_model.specs.Cores.{Cores}
 use Rattle.round_model.specs.Fits.{Fits}
-use Rattle.round_model.specs.Code.Kept.{Holds}
+use Rattle.round_model.specs.Kept.{Holds}
 use Rattle.round_model.specs.Moves.{admitted, blocked_of, handed_all, is_blocked_task, is_task, received_all, released, taken_from}
 use Rattle.round_model.specs.Programs.{entering_task, planned_of}
-use Rattle.round_model.specs.Code.Updates.{updated}
+use Rattle.round_model.specs.Updates.{updated}
 use Rattle.round_model.specs.Work.{IsOutcomeOfWork, core_after_work}
 use Rattle.round_model.proofs.Directories.{is_thread}
 use Rattle.round_model.proofs.Finding.{find-All, find-passes}

@@ -6,7 +6,7 @@ use Rattle.round_model.specs.declared.entry.Did.TheVariants as did
 use Rattle.round_model.specs.declared.entry.Entry.{Entry}
 use Rattle.round_model.specs.declared.entry.Entry.TheVariants as entry
 use Rattle.round_model.specs.Phases.{Phase, Stands, live, outside, over, phase_after, phase_after_work, waiting}
-use Rattle.round_model.proofs.BegunBounds.{counted}
+use Rattle.round_model.proofs.Counting.{counted}
 
 -- one, if these are the same number
 abbrev pub one_of : ℕ → ℕ → ℕ

@@ -15,7 +15,7 @@ use Rattle.round_model.specs.Legal.{Legal, LegalNext}
 use Rattle.round_model.specs.Rows.{Row}
 use Rattle.round_model.specs.Scenes.{entering_next, is_entering, own_entries, scene_of}
 use Rattle.round_model.proofs.Awaited.{entered_more, fresh, let_in_awaited}
-use Rattle.round_model.proofs.BegunBounds.{counted}
+use Rattle.round_model.proofs.Counting.{counted}
 use Rattle.round_model.proofs.Counting.{count_fewer, count_one_fewer}
 use Rattle.round_model.proofs.Finding.{find-All, find-passes}
 use Rattle.round_model.proofs.Gaining.{named_comes}

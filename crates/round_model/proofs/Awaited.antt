@@ -17,8 +17,8 @@ use Rattle.round_model.specs.Kinds.{is_round}
 use Rattle.round_model.specs.Legal.{Legal, LegalNext}
 use Rattle.round_model.specs.Rows.{Row}
 use Rattle.round_model.specs.Scenes.{entering_next, is_entering, own_entries, scene_of}
-use Rattle.round_model.proofs.Added.{acts_is, or_nothing}
-use Rattle.round_model.proofs.AddedArrivals.{entering_more}
+use Rattle.round_model.proofs.Acting.{acts_is, or_nothing}
+use Rattle.round_model.proofs.Longer.{entering_more}
 use Rattle.round_model.proofs.Entering.{as_planned, entering_parts}
 use Rattle.round_model.proofs.Histories.{legal_induction, open_round}
 use Rattle.round_model.proofs.Longer.{round_of_more}

@@ -19,7 +19,7 @@ use Rattle.round_model.specs.Kinds.{is_round}
 use Rattle.round_model.specs.Legal.{LegalNext, has_ended}
 use Rattle.round_model.specs.Reads.{round_start}
 use Rattle.round_model.specs.Scenes.{own_entries}
-use Rattle.round_model.proofs.Added.{no_round}
+use Rattle.round_model.proofs.Acting.{no_round}
 use Rattle.round_model.proofs.Entering.{acting}
 use Rattle.round_model.proofs.Grows.{untouched}
 use Rattle.round_model.proofs.Histories.{legal_induction}

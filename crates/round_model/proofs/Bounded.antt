@@ -14,14 +14,14 @@ use Rattle.round_model.specs.Bounds.{standing_count, standing_total}
 use Rattle.round_model.specs.BoundsLaws.{BoundsLaw, has_entered, is_awaited, named_count, named_total}
 use Rattle.round_model.specs.Cores.{Cores, core_numbers, opening_state, tasks_of}
 use Rattle.round_model.specs.Fits.{Fits}
-use Rattle.round_model.specs.Code.Kept.{Holds}
+use Rattle.round_model.specs.Kept.{Holds}
 use Rattle.round_model.specs.Legal.{Legal, LegalNext}
 use Rattle.round_model.specs.Moves.{is_blocked_task, is_task}
 use Rattle.round_model.specs.Phases.{blocked_places_of, places_of}
-use Rattle.round_model.proofs.AddedBounds.{holds_bounds}
+use Rattle.round_model.proofs.InBounds.{holds_bounds}
 use Rattle.round_model.proofs.Arrived.{entered_grows, entered_name, entered_or_awaited}
 use Rattle.round_model.proofs.Awaited.{fresh}
-use Rattle.round_model.proofs.BegunBounds.{counted}
+use Rattle.round_model.proofs.Counting.{counted}
 use Rattle.round_model.proofs.Gaining.{AllGain, moved_gains, named_comes}
 use Rattle.round_model.proofs.Grows.{one_more}
 use Rattle.round_model.proofs.Histories.{legal_induction}

@@ -18,7 +18,7 @@ use Rattle.round_model.specs.Moves.{admitted, blocked_of, handed_all, is_blocked
 use Rattle.round_model.specs.OwedLaws.{NoneFallsDueLaw}
 use Rattle.round_model.specs.Programs.{entering_task, planned_of}
 use Rattle.round_model.specs.Scenes.{is_due_blocked}
-use Rattle.round_model.proofs.BegunBounds.{counted}
+use Rattle.round_model.proofs.Counting.{counted}
 use Rattle.round_model.proofs.Grows.{one_more}
 use Rattle.round_model.proofs.Waking.{Change, grows, leaves, stays, unblocked_admitted, work_change}
 

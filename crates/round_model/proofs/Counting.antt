@@ -6,8 +6,11 @@ use Rattle.std.proofs.lemmas.List.Sums.{sum_by-cons, sum_by-le-sum_by}
 use Rattle.policy_eval.specs.Orders.{best_and_rest, better_and_rest}
 use Rattle.round_model.specs.declared.plan.Planned.{Planned}
 use Rattle.round_model.specs.Moves.{without_first}
-use Rattle.round_model.proofs.BegunBounds.{counted}
 use Rattle.round_model.proofs.Keeping.{All-append, All-one}
+
+-- a test of order, counted
+abbrev pub counted : Bool → ℕ
+counted b = cond b 1 0
 
 fewer_here : (a b : Bool) → (a ≡ true → b ≡ true) → counted a ≤ counted b
 fewer_here true b implies = let is = ap counted (implies refl) in omega arith

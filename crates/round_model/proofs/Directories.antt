@@ -9,7 +9,7 @@ use Rattle.policy_tree.specs.Meaning.{Meaning}
 use Rattle.round_model.specs.declared.plan.Plan.{Plan}
 use Rattle.round_model.specs.declared.plan.Planned.{Planned}
 use Rattle.round_model.specs.Fits.{Fits, ThreadFits}
-use Rattle.round_model.specs.Code.Lists.{Lists, place_in}
+use Rattle.round_model.specs.Lists.{Lists, place_in}
 use Rattle.round_model.proofs.Elections.{drop_here}
 use Rattle.round_model.proofs.Finding.{All-at}
 

@@ -3,7 +3,7 @@ use Rattle.std.proofs.Common.{◌≡◌, ℕ, zero, suc, ◌+◌, ◌<◌, Bool,
 use Rattle.sched_base.specs.declared.task.Task.{Task}
 use Rattle.policy_tree.specs.Meaning.{KeyTree}
 use Rattle.policy_eval.specs.Orders.{best_and_rest, best_of, better_and_rest, better_of}
-use Rattle.round_model.specs.Code.UnitSteps.{IsBestPlace}
+use Rattle.round_model.specs.UnitSteps.{IsBestPlace}
 use Rattle.round_model.specs.Work.{before}
 
 -- of the items from `at` on the best stands in the place b of the list

@@ -18,13 +18,13 @@ use Rattle.round_model.specs.After.{entered, moved}
 use Rattle.round_model.specs.BoundsLaws.{named_count}
 use Rattle.round_model.specs.Cores.{Cores}
 use Rattle.round_model.specs.Fits.{Fits}
-use Rattle.round_model.specs.Code.Kept.{Holds}
+use Rattle.round_model.specs.Kept.{Holds}
 use Rattle.round_model.specs.Moves.{admitted, blocked_of, core_after_event, handed_all, is_blocked_task, received_all, released, taken_from}
 use Rattle.round_model.specs.Programs.{entering_task, planned_of}
-use Rattle.round_model.specs.Code.Steps.{AreThere}
-use Rattle.round_model.specs.Code.Updates.{updated}
+use Rattle.round_model.specs.Fitting.{AreThere}
+use Rattle.round_model.specs.Updates.{updated}
 use Rattle.round_model.specs.Work.{core_after_work}
-use Rattle.round_model.proofs.BegunBounds.{counted}
+use Rattle.round_model.proofs.Counting.{counted}
 use Rattle.round_model.proofs.Directories.{is_thread}
 use Rattle.round_model.proofs.Finding.{find-All, find-passes}
 use Rattle.round_model.proofs.Keeping.{entering_fits, holds_released, stays_after, updated_other}

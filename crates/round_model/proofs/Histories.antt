@@ -1,5 +1,5 @@
 -- Induction over legal histories, and the number of the open round.
-use Rattle.std.proofs.Common.{◌≡◌, List, [], ◌∷◌, ◌++◌, length, take, refl, sym, ◌∙◌, subst, arith, take_all}
+use Rattle.std.proofs.Common.{◌≡◌, List, [], ◌∷◌, ◌++◌, length, take, refl, sym, ◌∙◌, subst, arith, take_all, IsTrue, nat_lt, ◌<◌, ◌&&◌, not, Bool, true, false}
 use Rattle.std.proofs.lemmas.List.{append-nil, append_assoc, take-append-le}
 use mathlib.Core.Option.{some}
 use lib.ListN.{get_elem?}
@@ -9,10 +9,12 @@ use Rattle.round_model.specs.declared.entry.Entry.TheVariants as entry
 use Rattle.round_model.specs.declared.plan.Plan.{Plan}
 use Rattle.round_model.specs.After.{round_of}
 use Rattle.round_model.specs.BoundsLaws.{OpenRoundLaw}
-use Rattle.round_model.specs.Legal.{Legal, LegalNext, rounds_begun}
+use Rattle.round_model.specs.Legal.{Legal, LegalNext, rounds_begun, IsDue, has_ended, is_due}
 use Rattle.round_model.proofs.Grows.{legal_grows}
 use Rattle.round_model.proofs.Longer.{begun_more, round_of_more}
 use Rattle.round_model.proofs.Walks.{nothing_legal}
+use Rattle.std.specs.List.{list_any}
+use Rattle.std.proofs.lemmas.Bool.Decides.{nat_tests}
 
 -- the entry after those
 behind : {A : Type 0} (h : List A) (e : A) (es : List A) → get_elem? (h ++ e ∷ es) (length h) ≡ some e
@@ -45,3 +47,12 @@ module _ (p : Meaning) (plan : Plan) where
 
 pub open_round : OpenRoundLaw
 open_round p plan h legal = legal_induction p plan (λ g. round_of g ≡ rounds_begun g) refl (λ g e so_far next same. counted_on p plan g e next same) h legal
+
+-- a round that is due is within the plan's
+pub due_within : (plan : Plan) (h : List Entry) → IsDue plan h → rounds_begun h < plan.rounds
+unfolding is_due
+due_within plan h due = within (nat_lt (rounds_begun h) plan.rounds) refl due
+  where
+    within : (b : Bool) → nat_lt (rounds_begun h) plan.rounds ≡ b → IsTrue (b && list_any (λ t. not (has_ended h t)) plan.threads) → rounds_begun h < plan.rounds
+    within true e due = grind (arith, nat_tests)
+    within false e due = absurd (cc)

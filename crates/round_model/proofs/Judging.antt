@@ -4,8 +4,8 @@ use Rattle.std.specs.Option.{option_eq}
 use Rattle.std.proofs.lemmas.Bool.{false≢true}
 use Rattle.std.proofs.lemmas.Bool.Decides.{nat_tests}
 use Rattle.policy_tree.specs.Meaning.{Meaning}
-use Rattle.round_model.specs.declared.attempts.Attempt.{Attempt}
-use Rattle.round_model.specs.declared.attempts.Attempt.TheVariants as attempt
+use Rattle.round_model.specs.declared.attempt.Attempt.{Attempt}
+use Rattle.round_model.specs.declared.attempt.Attempt.TheVariants as attempt
 use Rattle.round_model.specs.declared.entry.Did.{Did}
 use Rattle.round_model.specs.declared.entry.Entry.{Entry}
 use Rattle.round_model.specs.declared.entry.Entry.TheVariants as entry
@@ -15,8 +15,8 @@ use Rattle.round_model.specs.declared.state.Blocked.{Blocked}
 use Rattle.round_model.specs.After.{after, round_of}
 use Rattle.round_model.specs.Choices.{target_of}
 use Rattle.round_model.specs.Legal.{LegalInRound, rounds_begun}
-use Rattle.round_model.specs.Code.Outcomes.{IsAttemptBy, IsPlacedBy, entry_of_attempt, values_at}
-use Rattle.round_model.specs.Code.Progress.{HasLetIn, OwesAttempt, OwesUnit}
+use Rattle.round_model.specs.Outcomes.{IsAttemptBy, IsPlacedBy, entry_of_attempt, values_at}
+use Rattle.round_model.specs.Progress.{HasLetIn, OwesAttempt, OwesUnit}
 use Rattle.round_model.specs.Rows.{LegalAttempt, LegalEnter, LegalWake, LegalWork, PlacementReads, Row}
 use Rattle.round_model.specs.Scenes.{entering_next, own_entries, scene_of, waking_next}
 use Rattle.round_model.specs.Work.{IsOutcomeOfWork}

@@ -1,5 +1,5 @@
 -- What one entry more makes of the open round: its start, its number, and each core's own entries.
-use Rattle.std.proofs.Common.{◌≡◌, ℕ, suc, ◌+◌, ◌≤◌, ◌||◌, ◌&&◌, Bool, true, false, cond, List, [], ◌∷◌, ◌++◌, drop, filter, length, refl, ap, ◌∙◌, arith}
+use Rattle.std.proofs.Common.{◌≡◌, ℕ, suc, ◌+◌, ◌≤◌, ◌||◌, ◌&&◌, Bool, true, false, cond, List, [], ◌∷◌, ◌++◌, drop, filter, length, refl, ap, ◌∙◌, arith, ◌==◌, not}
 use Rattle.std.specs.List.{list_any}
 use Rattle.std.proofs.Math.Seq.{drop-append-add}
 use Rattle.std.proofs.lemmas.List.{drop-append-le}
@@ -8,11 +8,12 @@ use Rattle.std.proofs.lemmas.List.Folds.{list_any-append}
 use Rattle.std.proofs.lemmas.List.Sums.{fold-append, sum_by-append, sum_by-cons}
 use Rattle.round_model.specs.declared.entry.Entry.{Entry}
 use Rattle.round_model.specs.After.{round_after, round_of}
-use Rattle.round_model.specs.Entries.{acts}
+use Rattle.round_model.specs.Entries.{acts, lets_in}
 use Rattle.round_model.specs.Kinds.{is_round}
 use Rattle.round_model.specs.Legal.{rounds_begun}
 use Rattle.round_model.specs.Reads.{round_start, start_from}
-use Rattle.round_model.specs.Scenes.{own_entries}
+use Rattle.round_model.specs.Scenes.{own_entries, is_entering}
+use Rattle.round_model.specs.declared.plan.Planned.{Planned}
 
 start_from-push : (k start : ℕ) (h : List Entry) (e : Entry) → start_from k start (h ++ e ∷ []) ≡ cond (is_round e) (k + length h + 1) (start_from k start h)
 start_from-push k start [] e = ap (λ (n : ℕ). cond (is_round e) n start) (omega arith)
@@ -71,3 +72,16 @@ begun_more h e =
 
 pub round_of_more : (h : List Entry) (e : Entry) → round_of (h ++ e ∷ []) ≡ round_after (round_of h) e
 round_of_more h e = fold-append round_after 0 h (e ∷ [])
+
+-- who has yet to enter, with one entry more
+pub entering_more : (h : List Entry) (e : Entry) (a : ℕ) (t : Planned) → is_round e ≡ false
+    → is_entering (round_of h) a (own_entries (h ++ e ∷ []) a) t ≡ (is_entering (round_of h) a (own_entries h a) t && not (acts a e && lets_in t.id e))
+entering_more h e a t inner =
+    ap (λ (own : List Entry). is_entering (round_of h) a own t) (own_more h e a inner)
+    ∙ (ap (λ b. (t.core == a) && (t.round == round_of h) && not b) (done_more (lets_in t.id) (own_entries h a) e a)
+    ∙ split ((t.core == a) && (t.round == round_of h)) (list_any (lets_in t.id) (own_entries h a)) (acts a e && lets_in t.id e))
+  where
+    split : (first second third : Bool) → (first && not (second || third)) ≡ ((first && not second) && not third)
+    split true true third = refl
+    split true false third = refl
+    split false second third = refl

@@ -19,7 +19,7 @@ use Rattle.round_model.specs.Cores.{Cores}
 use Rattle.round_model.specs.Entries.{touches}
 use Rattle.round_model.specs.Moves.{admitted, blocked_of, core_after_event, handed_all, is_blocked_task, received_all, released, taken_from, with_outcome, with_task}
 use Rattle.round_model.specs.Programs.{planned_of}
-use Rattle.round_model.specs.Code.Updates.{updated}
+use Rattle.round_model.specs.Updates.{updated}
 use Rattle.round_model.specs.Work.{core_after_work}
 use Rattle.round_model.proofs.Finding.{find-All, find-append, find-passes, without_first-append}
 

@@ -6,7 +6,7 @@ use Rattle.sched_base.specs.declared.task.Task.{Task}
 use Rattle.policy_eval.specs.declared.env.CoreValues.{CoreValues}
 use Rattle.round_model.specs.declared.plan.Plan.{Plan}
 use Rattle.round_model.specs.declared.state.ModelCore.{ModelCore}
-use Rattle.round_model.specs.Code.Batches.{with_fewer, with_more}
+use Rattle.round_model.specs.Batches.{with_fewer, with_more}
 use Rattle.round_model.specs.Cores.{load_of, seen_of, thread_count}
 use Rattle.round_model.specs.Moves.{handed, handed_all, is_task, queued_of, received, received_all, taken_from, without_first}
 use Rattle.round_model.specs.Reads.{values_of}

@@ -10,7 +10,7 @@ use Rattle.round_model.specs.declared.entry.Entry.{Entry}
 use Rattle.round_model.specs.declared.plan.Plan.{Plan}
 use Rattle.round_model.specs.declared.state.ModelCore.{ModelCore}
 use Rattle.round_model.specs.After.{after}
-use Rattle.round_model.specs.Code.Batches.{QueuesStandOnce, is_named, unnamed}
+use Rattle.round_model.specs.Batches.{QueuesStandOnce, is_named, unnamed}
 use Rattle.round_model.specs.Cores.{tasks_of}
 use Rattle.round_model.specs.Fits.{Fits}
 use Rattle.round_model.specs.Legal.{Legal}

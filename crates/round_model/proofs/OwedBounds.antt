@@ -15,7 +15,7 @@ use Rattle.round_model.specs.Legal.{rounds_begun}
 use Rattle.round_model.specs.Owed.{owed}
 use Rattle.round_model.specs.OwedLaws.{OwedBoundLaw}
 use Rattle.round_model.specs.Scenes.{has_attempted, has_worked, is_due_blocked, is_entering, own_entries, scene_of}
-use Rattle.round_model.proofs.BegunBounds.{counted}
+use Rattle.round_model.proofs.Counting.{counted}
 use Rattle.round_model.proofs.Bounded.{bounds_law}
 use Rattle.round_model.proofs.Entering.{entering_parts}
 use Rattle.round_model.proofs.Owing.{sum_owed}

@@ -16,8 +16,8 @@ use Rattle.round_model.specs.Kinds.{is_round}
 use Rattle.round_model.specs.Legal.{LegalNext, rounds_begun}
 use Rattle.round_model.specs.Owed.{owed}
 use Rattle.round_model.specs.Scenes.{has_attempted, has_worked, is_due_blocked, is_entering, own_entries, scene_of}
-use Rattle.round_model.proofs.Added.{acts_is, no_round, round_stays}
-use Rattle.round_model.proofs.BegunBounds.{counted}
+use Rattle.round_model.proofs.Acting.{acts_is, no_round, round_stays}
+use Rattle.round_model.proofs.Counting.{counted}
 use Rattle.round_model.proofs.Changed.{enter_leaves, fail_leaves, pass_leaves, steal_leaves, wake_others, work_others}
 use Rattle.round_model.proofs.Grows.{one_more}
 use Rattle.round_model.proofs.Longer.{begun_more, own_more, round_of_more}

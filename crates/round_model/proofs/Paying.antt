@@ -21,10 +21,10 @@ use Rattle.round_model.specs.Moves.{blocked_of, is_blocked_task, without_first}
 use Rattle.round_model.specs.OwedLaws.{OwedLaw}
 use Rattle.round_model.specs.Rows.{Row}
 use Rattle.round_model.specs.Scenes.{entering_next, has_attempted, has_worked, is_due_blocked, is_entering, own_entries, scene_of, waking_next}
-use Rattle.round_model.proofs.Added.{acts_is, no_round}
-use Rattle.round_model.proofs.AddedArrivals.{entering_more}
+use Rattle.round_model.proofs.Acting.{acts_is, no_round}
+use Rattle.round_model.proofs.Longer.{entering_more}
 use Rattle.round_model.proofs.Awaited.{or_cases}
-use Rattle.round_model.proofs.BegunBounds.{counted}
+use Rattle.round_model.proofs.Counting.{counted}
 use Rattle.round_model.proofs.Bounded.{bounds_law}
 use Rattle.round_model.proofs.Changed.{enter_leaves, none_falls_due, wake_own}
 use Rattle.round_model.proofs.Counting.{count_left, count_same, count_without}

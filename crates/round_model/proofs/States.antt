@@ -7,7 +7,7 @@ use Rattle.std.proofs.lemmas.Option.{get_or_from_slice_get}
 use Rattle.std.proofs.lemmas.List.FromFn.{fill_by_all, get_or-map-range_with_len, length-map-range_with_len}
 use Rattle.round_model.specs.declared.state.ModelCore.{ModelCore}
 use Rattle.round_model.specs.Cores.{Cores, listed}
-use Rattle.round_model.specs.Code.Updates.{updated}
+use Rattle.round_model.specs.Updates.{updated}
 
 -- the core in a place of the list is the core of that number
 pub listed_at : (n : ℕ) (m : Cores) (state : List ModelCore) (c : ℕ) (core : ModelCore) → state ≡ listed n m → slice_get state c ≡ Some core → c < n → core ≡ m c

@@ -10,8 +10,8 @@ use Rattle.round_model.specs.declared.plan.Plan.{Plan}
 use Rattle.round_model.specs.declared.state.ModelCore.{ModelCore}
 use Rattle.round_model.specs.After.{moved}
 use Rattle.round_model.specs.Cores.{Cores}
-use Rattle.round_model.specs.Code.Kept.{Holds}
-use Rattle.round_model.specs.Code.Updates.{updated}
+use Rattle.round_model.specs.Kept.{Holds}
+use Rattle.round_model.specs.Updates.{updated}
 use Rattle.round_model.specs.Moves.{handed, handed_all, is_task, queued_of, received, received_all, taken_from, without_first}
 use Rattle.round_model.proofs.Finding.{find-All}
 use Rattle.round_model.proofs.Keeping.{All-append, All-one, All-without}

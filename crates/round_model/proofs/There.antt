@@ -12,7 +12,7 @@ use Rattle.round_model.specs.Legal.{LegalNext}
 use Rattle.round_model.specs.Reads.{read_values}
 use Rattle.round_model.specs.Rows.{Row}
 use Rattle.round_model.specs.Scenes.{scene_of}
-use Rattle.round_model.specs.Code.Steps.{AreThere}
+use Rattle.round_model.specs.Fitting.{AreThere}
 use Rattle.round_model.proofs.Outcomes.{choice_other, target_there}
 
 -- the core that acts

@@ -3,7 +3,7 @@
 ghost use Rattle.std.specs.Prelude.{◌≡◌, ◌<◌, ◌^◌, All, MatchOption, Some, [], length, slice_get};
 ghost use Rattle.policy_tree.specs.Meaning.{order_tree};
 ghost use Rattle.policy_eval.specs.Evaluable.{IsEvaluableOrder};
-ghost use Rattle.round_model.specs.Code.UnitSteps.{IsBestPlace, IsSeenTask};
+ghost use Rattle.round_model.specs.UnitSteps.{IsBestPlace, IsSeenTask};
 ghost use Rattle.round_model.specs.Work.{before as comes_before};
 
 use policy_eval::comes_first;
@@ -11,7 +11,7 @@ use policy_tree::Order;
 use sched_base::Task;
 
 /// The place of the best task by the keys, of equals the earliest. `None` where there is no task.
-pub(crate) fn best_place(order: &Order, tasks: &[Task]) -> Option<u32>
+pub fn best_place(order: &Order, tasks: &[Task]) -> Option<u32>
     requires order { IsEvaluableOrder (order_tree order.now) }
     requires tasks { All IsSeenTask tasks.now }
     requires few { length tasks.now < 2 ^ 32 }

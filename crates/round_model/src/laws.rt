@@ -7,8 +7,6 @@ ghost use Rattle.round_model.specs.Laws.{ActingLaw, ConstantsLaw, EnteringLaw, L
 ghost use Rattle.round_model.specs.Laws.{PrefixLaw, UntouchedLaw};
 ghost use Rattle.round_model.specs.Local.{LocalLaw};
 ghost use Rattle.round_model.specs.OwedLaws.{NoneFallsDueLaw, OwedBoundLaw, OwedLaw};
-ghost use Rattle.round_model.specs.Room.{EntryBoundLaw, RoomSufficesLaw};
-ghost use Rattle.round_model.specs.SerialLaws.{SerialRoundsLaw, SerialWholeLaw, StopsFullLaw};
 
 /// The state after a longer history is what its last entry makes of the state before it.
 pub fn law_one_more()
@@ -94,30 +92,4 @@ pub fn law_none_falls_due()
 /// No more is ever owed than an entry for each thread and two for each core.
 pub fn law_owed_bound()
     ensures { OwedBoundLaw }
-{}
-
-/// A legal history has no more entries than its rounds may have.
-pub fn law_entry_bound()
-    ensures { EntryBoundLaw }
-{}
-
-/// In a plan with room for its rounds no round comes due that might not fit.
-pub fn law_room_suffices()
-    ensures { RoomSufficesLaw }
-{}
-
-/// So many rounds of serial play are complete, legal, and a beginning of the serial history.
-pub fn law_serial_rounds()
-    ensures { SerialRoundsLaw }
-{}
-
-/// The serial history of a plan is whole.
-pub fn law_serial_whole()
-    ensures { SerialWholeLaw }
-{}
-
-/// What is left where play stops before a round that might not fit begins the serial history, and has fewer rounds
-/// than the plan.
-pub fn law_stops_full()
-    ensures { StopsFullLaw }
 {}

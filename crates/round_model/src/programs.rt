@@ -3,7 +3,7 @@
 ghost use Rattle.std.specs.Prelude.{◌≡◌, ◌<◌, ◌≤◌, MatchOption, None, Some};
 ghost use Rattle.round_model.specs.Programs.{burst_of, is_endless as has_no_end, is_last_unit as is_last};
 ghost use Rattle.round_model.specs.Programs.{meeting_of as meeting_at, place_after as next_place, planned_of};
-ghost use Rattle.round_model.specs.Code.UnitSteps.{IsMeeting};
+ghost use Rattle.round_model.specs.UnitSteps.{IsMeeting};
 
 use crate::plan::{Burst, Ending, Plan, Planned};
 use sched_base::{MAX_BURSTS, Place, Task, ThreadId};

@@ -62,7 +62,7 @@ impl ModelCore {
     ghost use Rattle.round_model.specs.Cores.{seen_of, thread_count};
 
     /// A core without threads.
-    pub(crate) fn idle(alloc: Global, consts: [i32; MAX_ATTRIBUTES]) -> ModelCore
+    pub fn idle(alloc: Global, consts: [i32; MAX_ATTRIBUTES]) -> ModelCore
         ensures { result ≡ record { current = None; queue = []; blocked = []; consts = consts } }
     {
         ModelCore {

@@ -8,8 +8,9 @@ ghost use Rattle.row_tests.specs.declared.batches.TheConstants.{CORES};
 use crate::reports::sink;
 use history_reader::{HistoryFault, read_history};
 use model_tests::batched::{BatchRow, legal_length_in, play_in};
-use round_model::{Entry, History, ModelMemory, Played};
+use round_model::{Entry, History, ModelMemory};
 use sched_history::put_history;
+use serial_steps::Played;
 use std::alloc::{AllocError, Global};
 
 // How many cores the machine has.

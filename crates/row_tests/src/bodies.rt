@@ -2,9 +2,8 @@
 
 use model_tests::builders::{basic_choice, basic_policy};
 use model_tests::plans::{may_come_first, no_past, two_cores};
-use round_model::{
-    Did, Entry, History, ModelMemory, Past, opening, reads_fit, round_due, round_start, spread_of,
-};
+use round_judge::{Past, opening, round_due};
+use round_model::{Did, Entry, History, ModelMemory, reads_fit, round_start, spread_of};
 use sched_base::Reads;
 use std::alloc::{AllocError, Global};
 

@@ -5,8 +5,9 @@ use model_tests::builders::basic_policy;
 use model_tests::plans::two_cores;
 use model_tests::plays::play_of_two;
 use model_tests::steps::legal_length_of_two;
-use round_model::{Entry, History, ModelMemory, Played};
+use round_model::{Entry, History, ModelMemory};
 use sched_base::Stolen;
+use serial_steps::Played;
 use std::alloc::Global;
 
 /// How many entries the round has with its steal.

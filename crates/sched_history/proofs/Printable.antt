@@ -34,7 +34,7 @@ use Rattle.round_model.specs.Reads.{ReadsFit, read_values, round_start}
 use Rattle.round_model.specs.Rows.{PlacementReads, Row}
 use Rattle.round_model.specs.Scenes.{Scene, entering_next, is_due_blocked, is_entering, own_entries, scene_of, waking_next}
 use Rattle.round_model.specs.Work.{after_meeting, after_unit, before, did_of, elected, run_over, worked}
-use Rattle.round_model.proofs.Begun.{due_within}
+use Rattle.round_model.proofs.Histories.{due_within}
 use Rattle.round_model.proofs.Bursts.{elects_burst, have_bursts}
 use Rattle.round_model.proofs.Directories.{is_thread}
 use Rattle.round_model.proofs.Finding.{find-All, find-passes}

@@ -16,8 +16,8 @@ use Rattle.round_model.specs.Kinds.{is_round}
 use Rattle.round_model.specs.Legal.{Legal, rounds_begun}
 use Rattle.round_model.specs.Rounds.{BeginsAt, round_at}
 use Rattle.round_model.proofs.Histories.{open_round}
-use Rattle.round_model.proofs.Keeping.{slice_get_last}
 use Rattle.round_model.proofs.Longer.{begun_more}
+use Rattle.round_judge.proofs.Keeping.{slice_get_last}
 use Rattle.round_laws.proofs.Positions.{entry_more}
 use Rattle.round_laws.proofs.RoundNumbers.{begun_before, counted_at, entry_inside, opens_next}
 use Rattle.sched_report.specs.RoundRows.{round_row, round_rows, row_at, row_of}

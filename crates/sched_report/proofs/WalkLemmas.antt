@@ -11,17 +11,17 @@ use lib.ListN.{get_elem?}
 use Rattle.policy_tree.specs.Meaning.{Meaning}
 use Rattle.round_model.specs.declared.entry.Entry.{Entry}
 use Rattle.round_model.specs.declared.entry.Entry.TheVariants as entry
-use Rattle.round_model.specs.declared.past.Past.{Past}
 use Rattle.round_model.specs.declared.plan.Plan.{Plan}
 use Rattle.round_model.specs.declared.state.ModelCore.{ModelCore}
 use Rattle.round_model.specs.After.{after}
-use Rattle.round_model.specs.Code.Past.{IsKeptPosition, IsPastOf, StandsFor}
 use Rattle.round_model.specs.Cores.{Cores, listed}
 use Rattle.round_model.specs.Explains.{Explains}
 use Rattle.round_model.specs.Fits.{Fits}
 use Rattle.round_model.specs.Kinds.{is_round}
 use Rattle.round_model.specs.Legal.{Legal}
 use Rattle.round_model.specs.Reads.{IsReadOf, round_start}
+use Rattle.round_judge.specs.declared.past.Past.{Past}
+use Rattle.round_judge.specs.Past.{IsKeptPosition, IsPastOf, StandsFor}
 use Rattle.round_laws.proofs.Choosing.{legal_fail}
 use Rattle.round_laws.proofs.Positions.{entry_more, seen_before}
 use Rattle.sched_report.specs.CauseRows.{IsCause}

@@ -5,13 +5,14 @@ ghost use Rattle.policy_tree.specs.Meaning.{Meaning};
 ghost use Rattle.sched_base.specs.declared.limits.TheConstants.{MAX_ENTRIES};
 ghost use Rattle.round_model.specs.declared.entry.Entry.{Entry};
 ghost use Rattle.round_model.specs.declared.plan.Plan.{Plan};
-ghost use Rattle.round_model.specs.Code.Past.{IsKeptPosition, IsWindow, StandsFor};
+ghost use Rattle.round_judge.specs.Past.{IsKeptPosition, IsWindow, StandsFor};
 ghost use Rattle.sched_report.specs.Code.Causes.{AddsFail, AreKept, Changes, IsCauseIn, IsFailTold};
 ghost use Rattle.sched_report.specs.Code.Causes.{MayBeTold};
 
 use crate::rows::{CauseRow, CauseRows};
+use round_judge::Past;
+use round_model::Entry;
 use round_model::state::CountAndLoad;
-use round_model::{Entry, Past};
 use sched_base::{CoreId, MAX_CORES, Pos, Reads};
 use std::alloc::AllocError;
 

@@ -5,8 +5,8 @@ ghost use Rattle.std.specs.Prelude.{option_to_list, take};
 ghost use Rattle.std.specs.List.{list_any};
 ghost use Rattle.sched_base.specs.declared.limits.TheConstants.{MAX_ENTRIES};
 ghost use Rattle.round_model.specs.declared.state.ModelCore.{ModelCore};
-ghost use Rattle.round_model.specs.Code.Outcomes.{IsCountable};
 ghost use Rattle.round_model.specs.Cores.{load_of, thread_count};
+ghost use Rattle.round_judge.specs.Readable.{IsCountable};
 ghost use Rattle.sched_report.specs.Code.Openings.{IsLight, idle_in, row_in, row_told};
 
 use crate::rows::{RoundRow, RoundRows};

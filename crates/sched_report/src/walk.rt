@@ -14,7 +14,8 @@ use crate::openings::note_round;
 use crate::rows::{CauseRows, RoundRows};
 use crate::stretches::{Flags, note_still};
 use policy_tree::Policy;
-use round_model::{Entry, Past, Plan, step};
+use round_judge::{Past, step};
+use round_model::{Entry, Plan};
 use sched_base::MAX_ENTRIES;
 use std::alloc::Global;
 

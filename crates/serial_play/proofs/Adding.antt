@@ -3,12 +3,12 @@ use Rattle.std.proofs.Common.{◌≡◌, ℕ, false, List, [], ◌∷◌, ◌++�
 use Rattle.std.proofs.lemmas.List.{length-append}
 use Rattle.policy_tree.specs.Meaning.{Meaning}
 use Rattle.round_model.specs.declared.entry.Entry.{Entry}
-use Rattle.round_model.specs.declared.past.Past.{Past}
 use Rattle.round_model.specs.declared.plan.Plan.{Plan}
 use Rattle.round_model.specs.Kinds.{is_round}
-use Rattle.round_model.specs.Code.Outcomes.{ReadIn}
-use Rattle.round_model.specs.Code.Past.{StandsFor}
 use Rattle.round_model.proofs.Longer.{start_stays}
+use Rattle.round_judge.specs.declared.past.Past.{Past}
+use Rattle.round_judge.specs.Readable.{ReadIn}
+use Rattle.round_judge.specs.Past.{StandsFor}
 
 -- reads of the round stay such
 pub read_stays : (p : Meaning) (plan : Plan) (old new : Past) (h : List Entry) (e : Entry) (reads : List ℕ) → is_round e ≡ false → StandsFor p plan old h → StandsFor p plan new (h ++ e ∷ [])

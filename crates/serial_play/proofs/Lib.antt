@@ -1,4 +1,5 @@
 pub mod Adding
+pub mod NextSteps
+pub mod Playing
 pub mod Stepping
 pub mod Turning
-pub mod Playing

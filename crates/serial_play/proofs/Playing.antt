@@ -10,13 +10,13 @@ use Rattle.round_model.specs.Entries.{touches}
 use Rattle.round_model.specs.Fits.{Fits}
 use Rattle.round_model.specs.FreshReads.{touched_from}
 use Rattle.round_model.specs.Legal.{IsDue, Legal}
-use Rattle.round_model.specs.SerialEnds.{RoundFits}
-use Rattle.round_model.specs.Code.Past.{IsPastOf, StandsFor}
 use Rattle.round_model.specs.Reads.{round_start}
-use Rattle.round_model.specs.Serial.{SerialState, step_of}
-use Rattle.round_model.specs.SerialRounds.{order_of, remaining_turns, with_round}
 use Rattle.round_model.proofs.Longer.{start_of_round}
-use Rattle.round_model.proofs.SerialEnding.{round_room}
+use Rattle.round_judge.specs.Past.{IsPastOf, StandsFor}
+use Rattle.serial_steps.specs.SerialEnds.{RoundFits}
+use Rattle.serial_steps.specs.Serial.{SerialState, step_of}
+use Rattle.serial_steps.specs.SerialRounds.{order_of, remaining_turns, with_round}
+use Rattle.serial_steps.proofs.SerialEnding.{round_room}
 use Rattle.serial_play.specs.declared.play.Play.{Play}
 use Rattle.serial_play.specs.Plays.{HasRoom, IsPlay, look_of}
 use Rattle.serial_play.specs.Rounds.{Begins, Moves, PlaysRound}

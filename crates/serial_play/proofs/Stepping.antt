@@ -7,23 +7,23 @@ use Rattle.policy_tree.specs.Meaning.{Meaning}
 use Rattle.policy_eval.specs.Obligations.{MeetsHandlerObligations}
 use Rattle.round_model.specs.declared.entry.Entry.{Entry}
 use Rattle.round_model.specs.declared.plan.Plan.{Plan}
-use Rattle.round_model.specs.declared.turns.NextStep.{NextStep}
-use Rattle.round_model.specs.declared.turns.NextStep.TheVariants as next
 use Rattle.round_model.specs.Entries.{acting_core}
 use Rattle.round_model.specs.FreshReads.{fresh_reads, touched_from}
 use Rattle.round_model.specs.Fits.{Fits}
 use Rattle.round_model.specs.Legal.{LegalNext, rounds_begun}
-use Rattle.round_model.specs.Code.Outcomes.{ReadIn}
 use Rattle.round_model.specs.Owed.{owed_total}
 use Rattle.round_model.specs.Reads.{round_start}
 use Rattle.round_model.specs.Scenes.{scene_of}
-use Rattle.round_model.specs.Serial.{SerialState, step_of}
-use Rattle.round_model.specs.Code.Turns.{IsStepOf, with_step}
-use Rattle.round_model.proofs.Added.{no_round}
+use Rattle.round_model.proofs.Acting.{no_round}
 use Rattle.round_model.proofs.Keeping.{some_at}
 use Rattle.round_model.proofs.Longer.{begun_more, start_within}
 use Rattle.round_model.proofs.OwedTotals.{reserve_kept}
 use Rattle.round_model.proofs.Touched.{touched_within}
+use Rattle.round_judge.specs.Readable.{ReadIn}
+use Rattle.serial_steps.specs.declared.turns.NextStep.{NextStep}
+use Rattle.serial_steps.specs.declared.turns.NextStep.TheVariants as next
+use Rattle.serial_steps.specs.Serial.{SerialState, step_of}
+use Rattle.serial_steps.specs.Turns.{IsStepOf, with_step}
 use Rattle.serial_play.specs.declared.play.Play.{Play}
 use Rattle.serial_play.specs.Plays.{Advances, HasAdded, IsPlay, IsStateOf, fresh_of, look_of}
 

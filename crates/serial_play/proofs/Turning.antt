@@ -3,10 +3,10 @@ use Rattle.std.proofs.Common.{ℕ, ◌<◌, Bool, false, List, [], ◌∷◌, �
 use Rattle.std.proofs.lemmas.List.Sums.{fold-append, fold_push}
 use Rattle.policy_tree.specs.Meaning.{Meaning}
 use Rattle.round_model.specs.declared.plan.Plan.{Plan}
-use Rattle.round_model.specs.Serial.{step_of}
-use Rattle.round_model.proofs.SerialEnding.{rest_stays}
+use Rattle.serial_steps.specs.Serial.{step_of}
+use Rattle.serial_steps.proofs.SerialEnding.{rest_stays}
 use Rattle.serial_play.specs.declared.play.Play.{Play}
-use Rattle.round_model.specs.SerialRounds.{most_steps}
+use Rattle.serial_steps.specs.SerialRounds.{most_steps}
 use Rattle.serial_play.specs.Plays.{Advances, IsPlay, IsStateOf}
 use Rattle.serial_play.specs.Rounds.{Moves}
 

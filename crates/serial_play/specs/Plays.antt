@@ -8,11 +8,11 @@ use Rattle.round_model.specs.declared.plan.Plan.{Plan}
 use Rattle.round_model.specs.Cores.{core_numbers}
 use Rattle.round_model.specs.FreshReads.{touched_from}
 use Rattle.round_model.specs.Legal.{rounds_begun}
-use Rattle.round_model.specs.Code.Outcomes.{ReadIn}
 use Rattle.round_model.specs.Owed.{owed_total}
-use Rattle.round_model.specs.Code.Past.{IsPastOf, StandsFor}
 use Rattle.round_model.specs.Reads.{round_start}
-use Rattle.round_model.specs.Serial.{SerialState, step_of}
+use Rattle.round_judge.specs.Readable.{ReadIn}
+use Rattle.round_judge.specs.Past.{IsPastOf, StandsFor}
+use Rattle.serial_steps.specs.Serial.{SerialState, step_of}
 use Rattle.serial_play.specs.declared.play.Play.{Play}
 
 -- the look of a core

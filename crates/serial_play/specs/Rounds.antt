@@ -5,8 +5,8 @@ use Rattle.round_model.specs.declared.entry.Entry.TheVariants as entry
 use Rattle.round_model.specs.declared.plan.Plan.{Plan}
 use Rattle.round_model.specs.Legal.{rounds_begun}
 use Rattle.round_model.specs.Owed.{owed_total}
-use Rattle.round_model.specs.Serial.{SerialState, step_of}
-use Rattle.round_model.specs.SerialRounds.{with_round}
+use Rattle.serial_steps.specs.Serial.{SerialState, step_of}
+use Rattle.serial_steps.specs.SerialRounds.{with_round}
 use Rattle.serial_play.specs.declared.play.Play.{Play}
 use Rattle.serial_play.specs.Plays.{IsPlay, IsStateOf, look_of}
 

@@ -3,6 +3,8 @@
 
 mod play;
 mod rounds;
+mod steps;
 mod turns;
 
 pub use crate::rounds::play_rounds;
+pub use crate::steps::next_step;

@@ -8,12 +8,15 @@ ghost use Rattle.round_model.specs.Entries.{touches};
 ghost use Rattle.round_model.specs.Fits.{Fits};
 ghost use Rattle.round_model.specs.Kinds.{is_round};
 ghost use Rattle.round_model.specs.Legal.{LegalNext};
-ghost use Rattle.round_model.specs.Code.Past.{IsPastOf, StandsFor};
+ghost use Rattle.round_judge.specs.Past.{IsPastOf, StandsFor};
 ghost use Rattle.serial_play.specs.Plays.{Advances, HasAdded, HasRoom, IsPlay, fresh_of};
 
+use crate::steps::next_step;
 use policy_tree::Policy;
-use round_model::{Entry, History, ModelMemory, NextStep, Past, Plan, next_step, step};
+use round_judge::{Past, step};
+use round_model::{Entry, History, ModelMemory, Plan};
 use sched_base::{CoreId, MAX_CORES, MAX_ENTRIES, Pos, Reads};
+use serial_steps::NextStep;
 use std::alloc::Global;
 
 /// How far serial play has come.

@@ -7,15 +7,17 @@ ghost use Rattle.round_model.specs.declared.entry.Entry.TheVariants as entry;
 ghost use Rattle.round_model.specs.Fits.{Fits};
 ghost use Rattle.round_model.specs.Legal.{LegalNext};
 ghost use Rattle.round_model.specs.Limits.{IsWithinLimits};
-ghost use Rattle.round_model.specs.SerialEnds.{IsPlayed, RoundFits};
+ghost use Rattle.serial_steps.specs.SerialEnds.{IsPlayed, RoundFits};
 ghost use Rattle.serial_play.specs.Plays.{IsPlay};
 ghost use Rattle.serial_play.specs.Rounds.{Begins, PlaysRound};
 
 use crate::play::{Play, append};
 use crate::turns::{end_turns, take_ordered};
 use policy_tree::Policy;
-use round_model::{Entry, History, ModelMemory, Past, Plan, Played, round_due, round_fits};
+use round_judge::{Past, round_due};
+use round_model::{Entry, History, ModelMemory, Plan};
 use sched_base::{MAX_CORES, MAX_ENTRIES, MAX_THREADS, Reads};
+use serial_steps::{Played, round_fits};
 use std::alloc::Global;
 
 /// Serial play of the plan under the policy, as far as the plan's limit lets it come.

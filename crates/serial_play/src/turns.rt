@@ -4,14 +4,15 @@ ghost use Rattle.std.specs.Prelude.{◌<◌, All, OnOk, replicate};
 ghost use Rattle.policy_tree.specs.Meaning.{meaning_of};
 ghost use Rattle.policy_eval.specs.Obligations.{MeetsHandlerObligations};
 ghost use Rattle.round_model.specs.Fits.{Fits};
-ghost use Rattle.round_model.specs.SerialRounds.{most_steps as most_steps_of, order_of, remaining_turns};
+ghost use Rattle.serial_steps.specs.SerialRounds.{most_steps as most_steps_of, order_of, remaining_turns};
 ghost use Rattle.serial_play.specs.Plays.{HasRoom, IsPlay};
 ghost use Rattle.serial_play.specs.Rounds.{Moves};
 
 use crate::play::{Play, advance};
 use policy_tree::Policy;
-use round_model::{ModelMemory, Plan, most_steps, ordered_cores};
+use round_model::{ModelMemory, Plan};
 use sched_base::CoreId;
+use serial_steps::{most_steps, ordered_cores};
 use std::alloc::Global;
 
 /// A step of each of these cores, one after the other.

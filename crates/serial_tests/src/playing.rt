@@ -8,7 +8,8 @@ ghost use Rattle.round_model.specs.Limits.{IsWithinLimits};
 use history_merge::merge;
 use policy_checker::AcceptedPolicy;
 use policy_tree::Policy;
-use round_model::{History, Plan, Played};
+use round_model::{History, Plan};
+use serial_steps::Played;
 use std::alloc::Global;
 
 /// The whole history that plain lists come to.

@@ -15,7 +15,7 @@ use Rattle.round_model.specs.declared.plan.Plan.{Plan}
 use Rattle.round_model.specs.declared.plan.Planned.{Planned}
 use Rattle.round_model.specs.Fits.{Fits, IsProgram, ThreadFits}
 use Rattle.round_model.specs.Limits.{IsWithinLimits}
-use Rattle.round_model.specs.SerialEnds.{RoundFits}
+use Rattle.serial_steps.specs.SerialEnds.{RoundFits}
 use Rattle.fair_policy.specs.Fair.{fair_meaning}
 use Rattle.fair_policy.proofs.FairMeets.{fair_handlers_meet}
 use Rattle.fair_policy.proofs.FairResolved.{fair_resolved}

@@ -9,7 +9,7 @@ use Rattle.round_model.specs.Cores.{core_numbers}
 use Rattle.round_model.specs.Fits.{Fits}
 use Rattle.round_model.specs.Legal.{Legal}
 use Rattle.round_model.specs.Limits.{IsWithinLimits}
-use Rattle.round_model.specs.SerialEnds.{EndsWhole, StopsFull}
+use Rattle.serial_steps.specs.SerialEnds.{EndsWhole, StopsFull}
 use Rattle.core_state.specs.Logs.{LogsOf}
 use Rattle.core_state.specs.Views.{ClosedView, CoreView}
 use Rattle.core_worker.specs.Played.{PlaysFull, PlaysWhole}

@@ -11,9 +11,9 @@ use Rattle.job_trace.specs.declared.trace.Numbered.{Numbered}
 use Rattle.job_trace.specs.Faults.{IsBroken}
 use Rattle.job_trace.specs.Plans.{IsForeign, SpellsPlan}
 use Rattle.job_trace.specs.TraceText.{SpellsTrace}
-use Rattle.round_model.specs.declared.serial.Played.{Played}
-use Rattle.round_model.specs.declared.serial.Played.TheVariants as played
-use Rattle.round_model.specs.SerialEnds.{IsPlayed}
+use Rattle.serial_steps.specs.declared.serial.Played.{Played}
+use Rattle.serial_steps.specs.declared.serial.Played.TheVariants as played
+use Rattle.serial_steps.specs.SerialEnds.{IsPlayed}
 use Rattle.core_state.specs.Views.{ClosedView}
 use Rattle.history_merge.specs.Merged.{CanBeWritten, merged, text_lines}
 use Rattle.sched_history.specs.Spelling.{text_of_history}

@@ -4,7 +4,7 @@ ghost use Rattle.std.specs.Prelude.{◌<◌, ◌≡◌, IfOk, length};
 ghost use Rattle.policy_tree.specs.Meaning.{meaning_of};
 ghost use Rattle.round_model.specs.Fits.{Fits};
 ghost use Rattle.round_model.specs.Limits.{IsWithinLimits};
-ghost use Rattle.round_model.specs.SerialEnds.{IsPlayed};
+ghost use Rattle.serial_steps.specs.SerialEnds.{IsPlayed};
 ghost use Rattle.history_merge.specs.Merged.{CanBeWritten};
 ghost use Rattle.trace_play.specs.Plays.{IsPlayOf, IsShown, closed_of, played_by};
 
@@ -14,7 +14,8 @@ use crate::planning::{PlanStop, plan_text};
 use core_worker::{PlayFault, play_rounds};
 use history_merge::{HistoryMemory, merge};
 use policy_checker::AcceptedPolicy;
-use round_model::{Plan, Played};
+use round_model::Plan;
+use serial_steps::Played;
 use std::alloc::Global;
 
 /// Why a trace wasn't played.

@@ -4,12 +4,12 @@ use Rattle.sched_base.specs.declared.limits.TheConstants.{MAX_WORKERS}
 use Rattle.policy_tree.specs.Meaning.{Meaning}
 use Rattle.round_model.specs.declared.entry.Entry.{Entry}
 use Rattle.round_model.specs.declared.plan.Plan.{Plan}
-use Rattle.round_model.specs.declared.serial.Played.{Played}
-use Rattle.round_model.specs.declared.serial.Played.TheVariants as played
 use Rattle.round_model.specs.Fits.{Fits}
 use Rattle.round_model.specs.Legal.{IsComplete, Legal, Whole, rounds_begun}
 use Rattle.round_model.specs.Limits.{IsWithinLimits}
-use Rattle.round_model.specs.SerialEnds.{IsFull}
+use Rattle.serial_steps.specs.declared.serial.Played.{Played}
+use Rattle.serial_steps.specs.declared.serial.Played.TheVariants as played
+use Rattle.serial_steps.specs.SerialEnds.{IsFull}
 use Rattle.parallel_play.specs.Runs.{AllPassed, HadRoom}
 use Rattle.parallel_play.specs.declared.fault.RunFault.{RunFault}
 use Rattle.parallel_play.specs.declared.fault.RunFault.TheVariants as fault

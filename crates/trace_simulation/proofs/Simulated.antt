@@ -2,11 +2,11 @@
 use Rattle.std.proofs.Common.{ℕ, List, arith}
 use Rattle.policy_tree.specs.Meaning.{Meaning}
 use Rattle.round_model.specs.declared.plan.Plan.{Plan}
-use Rattle.round_model.specs.declared.serial.Played.{Played}
-use Rattle.round_model.specs.declared.serial.Played.TheVariants as played
 use Rattle.round_model.specs.Fits.{Fits}
 use Rattle.round_model.specs.Limits.{IsWithinLimits}
-use Rattle.round_model.specs.SerialEnds.{IsPlayed}
+use Rattle.serial_steps.specs.declared.serial.Played.{Played}
+use Rattle.serial_steps.specs.declared.serial.Played.TheVariants as played
+use Rattle.serial_steps.specs.SerialEnds.{IsPlayed}
 use Rattle.sched_history.specs.Ranges.{CanBePrinted}
 use Rattle.sched_history.proofs.Printable.{legal_is_printable}
 use Rattle.trace_play.specs.Plays.{history_of}

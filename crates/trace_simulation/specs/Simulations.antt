@@ -3,9 +3,9 @@ use Rattle.std.specs.Prelude.{ℕ, List}
 use Rattle.policy_tree.specs.Meaning.{Meaning}
 use Rattle.round_model.specs.declared.entry.Entry.{Entry}
 use Rattle.round_model.specs.declared.plan.Plan.{Plan}
-use Rattle.round_model.specs.declared.serial.Played.{Played}
-use Rattle.round_model.specs.declared.serial.Played.TheVariants as played
-use Rattle.round_model.specs.SerialEnds.{EndsWhole, IsPlayed, StopsFull}
+use Rattle.serial_steps.specs.declared.serial.Played.{Played}
+use Rattle.serial_steps.specs.declared.serial.Played.TheVariants as played
+use Rattle.serial_steps.specs.SerialEnds.{EndsWhole, IsPlayed, StopsFull}
 use Rattle.sched_history.specs.Ranges.{CanBePrinted}
 use Rattle.sched_report.specs.Wastes.{IsWaste}
 use Rattle.sched_report.specs.declared.rows.WasteReport.{WasteReport}

@@ -7,10 +7,11 @@ ghost use Rattle.trace_play.specs.Plays.{history_of};
 ghost use Rattle.trace_simulation.specs.Lines.{lines_of, lines_of_plan, report_of};
 ghost use Rattle.trace_simulation.specs.Simulations.{IsShown};
 
-use round_model::{History, Plan, Played};
+use round_model::{History, Plan};
 use sched_history::put_history;
 use sched_io::{PutFault, Sink, put_all};
 use sched_report::{WasteReport, print_waste};
+use serial_steps::Played;
 use trace_play::LineFault;
 
 /// What a trace comes to that is simulated.

@@ -6,7 +6,7 @@ ghost use Rattle.policy_eval.specs.Obligations.{MeetsHandlerObligations};
 ghost use Rattle.policy_eval.specs.Resolved.{IsResolved};
 ghost use Rattle.round_model.specs.Fits.{Fits};
 ghost use Rattle.round_model.specs.Limits.{IsWithinLimits};
-ghost use Rattle.round_model.specs.SerialEnds.{IsPlayed};
+ghost use Rattle.serial_steps.specs.SerialEnds.{IsPlayed};
 ghost use Rattle.trace_play.specs.Plays.{IsPlanStop};
 ghost use Rattle.trace_simulation.specs.Simulations.{IsPlayedPlan, IsShown, IsSimulationOf, IsWasteOf, WastesPlayed};
 
@@ -14,9 +14,10 @@ use crate::answer::{PlayedPlan, PlayedWaste, SimulationAnswer};
 use crate::memory::SimulationMemory;
 use policy_checker::PlayablePolicy;
 use policy_tree::Policy;
-use round_model::{ModelMemory, Played};
+use round_model::ModelMemory;
 use sched_report::waste;
 use serial_play::play_rounds;
+use serial_steps::Played;
 use std::alloc::Global;
 use trace_play::{PlanStop, plan_text};
 

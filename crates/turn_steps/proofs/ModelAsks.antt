@@ -10,7 +10,8 @@ use Rattle.round_model.specs.declared.state.Blocked.{Blocked}
 use Rattle.round_model.specs.After.{after, round_of}
 use Rattle.round_model.specs.Kinds.{is_attempt, is_work}
 use Rattle.round_model.specs.Scenes.{Scene, entering_next, has_attempted, has_worked, own_entries, scene_of, waking_next}
-use Rattle.round_model.specs.TurnSteps.{TurnStep, attempting, entering, looking, over, step_behind_unit, step_to_enter, step_to_wake, turn_step_of, waking, working}
+use Rattle.serial_steps.specs.TurnSteps.{TurnStep, attempting, entering, looking, over}
+use Rattle.serial_steps.specs.TurnSteps.{step_behind_unit, step_to_enter, step_to_wake, turn_step_of, waking, working}
 use Rattle.core_state.specs.declared.logged.Logged.{Logged}
 use Rattle.core_table.specs.declared.views.View.{View}
 use Rattle.core_table.specs.Told.{Agrees, IsTrueRole}

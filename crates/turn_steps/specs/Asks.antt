@@ -3,8 +3,8 @@ use Rattle.std.specs.Prelude.{◌≡◌, ◌↔◌, List, option_map, IsSomeAnd}
 use Rattle.round_model.specs.declared.entry.Entry.{Entry}
 use Rattle.round_model.specs.declared.plan.Plan.{Plan}
 use Rattle.round_model.specs.Scenes.{scene_of}
-use Rattle.round_model.specs.TurnSteps.{TurnStep, attempting, entering, looking, over, turn_step_of}
-use Rattle.round_model.specs.TurnSteps.{waking, working}
+use Rattle.serial_steps.specs.TurnSteps.{TurnStep, attempting, entering, looking, over, turn_step_of}
+use Rattle.serial_steps.specs.TurnSteps.{waking, working}
 use Rattle.core_table.specs.declared.views.View.{View}
 use Rattle.core_table.specs.Told.{Agrees}
 use Rattle.core_table.specs.Views.{meaning_in}

@@ -5,13 +5,13 @@ use Rattle.policy_tree.specs.Meaning.{Meaning, meaning_of}
 use Rattle.policy_eval.specs.Obligations.{MeetsHandlerObligations}
 use Rattle.round_model.specs.declared.entry.Entry.{Entry}
 use Rattle.round_model.specs.declared.entry.Entry.TheVariants as entry
-use Rattle.round_model.specs.declared.past.Past.{Past}
 use Rattle.round_model.specs.declared.plan.Plan.{Plan}
-use Rattle.round_model.specs.Code.Past.{IsPastOf, StandsFor}
 use Rattle.round_model.specs.Fits.{Fits}
 use Rattle.round_model.specs.Legal.{LegalNext, LegalRound, rounds_begun}
 use Rattle.round_model.proofs.Longer.{begun_more}
-use Rattle.round_model.proofs.SerialEnding.{round_room}
+use Rattle.round_judge.specs.declared.past.Past.{Past}
+use Rattle.round_judge.specs.Past.{IsPastOf, StandsFor}
+use Rattle.serial_steps.proofs.SerialEnding.{round_room}
 use Rattle.core_table.proofs.Histories.{own_begins}
 use Rattle.core_table.proofs.Opening.{first_agrees}
 use Rattle.turn_tests.specs.declared.memory_calls.MemoryCalls.{MemoryCalls}

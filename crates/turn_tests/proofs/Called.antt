@@ -8,16 +8,16 @@ use Rattle.round_model.specs.declared.entry.Entry.{Entry}
 use Rattle.round_model.specs.declared.entry.Entry.TheVariants as entry
 use Rattle.round_model.specs.declared.plan.Plan.{Plan}
 use Rattle.round_model.specs.declared.state.Blocked.{Blocked}
-use Rattle.round_model.specs.declared.turns.NextStep.{NextStep}
-use Rattle.round_model.specs.declared.turns.NextStep.TheVariants as next
 use Rattle.round_model.specs.After.{after, round_of}
-use Rattle.round_model.specs.Code.Turns.{ActsBy, HasWoken, MayAdd}
 use Rattle.round_model.specs.Entries.{acting_core}
 use Rattle.round_model.specs.Legal.{LegalNext}
 use Rattle.round_model.specs.Rows.{Row}
 use Rattle.round_model.specs.Scenes.{scene_of, waking_next}
-use Rattle.round_model.proofs.Added.{acts_is, no_round}
+use Rattle.round_model.proofs.Acting.{acts_is, no_round}
 use Rattle.round_model.proofs.OwedTotals.{room_for}
+use Rattle.serial_steps.specs.declared.turns.NextStep.{NextStep}
+use Rattle.serial_steps.specs.declared.turns.NextStep.TheVariants as next
+use Rattle.serial_steps.specs.Turns.{ActsBy, HasWoken, MayAdd}
 use Rattle.core_state.specs.Logs.{logged}
 use Rattle.core_table.specs.Logs.{own_log}
 use Rattle.core_table.proofs.Histories.{own_grows}

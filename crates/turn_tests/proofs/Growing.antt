@@ -9,20 +9,20 @@ use Rattle.policy_eval.specs.Obligations.{MeetsHandlerObligations}
 use Rattle.round_model.specs.declared.entry.Entry.{Entry}
 use Rattle.round_model.specs.declared.plan.Plan.{Plan}
 use Rattle.round_model.specs.After.{after, round_of}
-use Rattle.round_model.specs.Code.Turns.{HasWoken}
 use Rattle.round_model.specs.Entries.{acting_core}
 use Rattle.round_model.specs.Fits.{Fits}
 use Rattle.round_model.specs.Legal.{Legal, LegalNext, rounds_begun}
 use Rattle.round_model.specs.Limits.{IsWithinLimits}
 use Rattle.round_model.specs.Owed.{owed_total}
 use Rattle.round_model.specs.Scenes.{is_due_blocked, waking_next}
-use Rattle.round_model.proofs.Added.{acts_is, no_round, round_stays}
-use Rattle.round_model.proofs.BegunBounds.{counted}
+use Rattle.round_model.proofs.Acting.{acts_is, no_round, round_stays}
+use Rattle.round_model.proofs.Counting.{counted}
 use Rattle.round_model.proofs.Changed.{none_falls_due}
 use Rattle.round_model.proofs.Grows.{legal_grows}
 use Rattle.round_model.proofs.Longer.{begun_more, round_of_more, start_stays}
 use Rattle.round_model.proofs.OwedTotals.{reserve_kept, room_for}
 use Rattle.round_model.proofs.Owing.{none_found}
+use Rattle.serial_steps.specs.Turns.{HasWoken}
 use Rattle.core_state.specs.Logs.{logged}
 use Rattle.core_table.specs.Logs.{own_log}
 use Rattle.core_table.specs.Told.{Agrees}

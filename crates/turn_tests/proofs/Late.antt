@@ -10,17 +10,17 @@ use Rattle.round_model.specs.declared.entry.Entry.TheVariants as entry
 use Rattle.round_model.specs.declared.plan.Plan.{Plan}
 use Rattle.round_model.specs.declared.plan.Planned.{Planned}
 use Rattle.round_model.specs.After.{round_of}
-use Rattle.round_model.specs.Code.Progress.{HasLetIn}
-use Rattle.round_model.specs.Code.Turns.{HasWoken}
+use Rattle.round_model.specs.Progress.{HasLetIn}
 use Rattle.round_model.specs.Entries.{acting_core, acts, lets_in}
 use Rattle.round_model.specs.Fits.{Fits}
 use Rattle.round_model.specs.Kinds.{is_attempt, is_round, is_work}
 use Rattle.round_model.specs.Legal.{Legal, LegalNext}
 use Rattle.round_model.specs.Rows.{Row}
 use Rattle.round_model.specs.Scenes.{entering_next, has_attempted, has_worked, is_entering, own_entries, scene_of}
-use Rattle.round_model.proofs.Added.{no_round}
+use Rattle.round_model.proofs.Acting.{no_round}
 use Rattle.round_model.proofs.Grows.{legal_grows, legal_prefix}
 use Rattle.round_model.proofs.Longer.{done_more, own_more, own_none}
+use Rattle.serial_steps.specs.Turns.{HasWoken}
 use Rattle.core_table.proofs.Histories.{by_last, early}
 use Rattle.turn_tests.proofs.Growing.{due_stays, round_same}
 

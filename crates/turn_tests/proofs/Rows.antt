@@ -7,11 +7,8 @@ use mathlib.Core.Option.{some, some-ne-none, some-injective}
 use lib.ListN.{get_elem?}
 use Rattle.policy_tree.specs.Meaning.{Meaning}
 use Rattle.round_model.specs.declared.entry.Entry.{Entry}
-use Rattle.round_model.specs.declared.past.Past.{Past}
 use Rattle.round_model.specs.declared.plan.Plan.{Plan}
 use Rattle.round_model.specs.After.{after}
-use Rattle.round_model.specs.Code.Outcomes.{ReadIn}
-use Rattle.round_model.specs.Code.Past.{StandsFor}
 use Rattle.round_model.specs.Cores.{core_numbers, seen_of}
 use Rattle.round_model.specs.Entries.{touches}
 use Rattle.round_model.specs.FreshReads.{touched_from}
@@ -19,6 +16,9 @@ use Rattle.round_model.specs.Kinds.{is_round}
 use Rattle.round_model.specs.Reads.{round_start, value_read}
 use Rattle.round_model.proofs.Longer.{start_stays, start_within}
 use Rattle.round_model.proofs.Touched.{touched_within}
+use Rattle.round_judge.specs.declared.past.Past.{Past}
+use Rattle.round_judge.specs.Readable.{ReadIn}
+use Rattle.round_judge.specs.Past.{StandsFor}
 use Rattle.core_table.specs.declared.views.Note.{Note}
 use Rattle.core_table.specs.Told.{Each, IsTrueNote}
 use Rattle.core_table.specs.Views.{noted}

@@ -9,24 +9,25 @@ use Rattle.round_model.specs.declared.entry.Entry.TheVariants as entry
 use Rattle.round_model.specs.declared.plan.Plan.{Plan}
 use Rattle.round_model.specs.declared.plan.Planned.{Planned}
 use Rattle.round_model.specs.declared.state.Blocked.{Blocked}
-use Rattle.round_model.specs.declared.turns.NextStep.{NextStep}
-use Rattle.round_model.specs.declared.turns.NextStep.TheVariants as next
 use Rattle.round_model.specs.After.{after, round_of}
 use Rattle.round_model.specs.Attempts.{attempt_of, attempt_with}
 use Rattle.round_model.specs.Choices.{choice_of}
-use Rattle.round_model.specs.Code.Outcomes.{ReadIn, values_at}
-use Rattle.round_model.specs.Code.Turns.{HasWoken, IsLateStepOf, placement_by, step_of_dids, with_step}
+use Rattle.round_model.specs.Outcomes.{values_at}
 use Rattle.round_model.specs.FreshReads.{fresh_reads}
 use Rattle.round_model.specs.Reads.{values_of}
 use Rattle.round_model.specs.Scenes.{entering_next, has_attempted, has_worked, own_entries, scene_of, waking_next}
-use Rattle.round_model.specs.Serial.{SerialState, step_of, with_entry}
 use Rattle.round_model.specs.Work.{worked}
 use Rattle.round_model.proofs.Bounded.{bounds_law}
 use Rattle.round_model.proofs.Bursts.{have_bursts}
 use Rattle.round_model.proofs.Keeping.{bounds_hold}
 use Rattle.round_model.proofs.Outcomes.{choice_same}
-use Rattle.round_model.proofs.SerialSteps.{one_word, target_some}
-use Rattle.round_model.proofs.Turning.{enters, is_late, late_entry, late_work, wakes}
+use Rattle.round_judge.specs.Readable.{ReadIn}
+use Rattle.serial_steps.specs.declared.turns.NextStep.{NextStep}
+use Rattle.serial_steps.specs.declared.turns.NextStep.TheVariants as next
+use Rattle.serial_steps.specs.Turns.{HasWoken, IsLateStepOf, placement_by, step_of_dids, with_step}
+use Rattle.serial_steps.specs.Serial.{SerialState, step_of, with_entry}
+use Rattle.serial_steps.proofs.SerialSteps.{one_word, target_some}
+use Rattle.serial_steps.proofs.Turning.{enters, is_late, late_entry, late_work, wakes}
 use Rattle.core_table.specs.declared.views.Role.{Role}
 use Rattle.core_table.specs.declared.views.Role.TheVariants as role
 use Rattle.core_table.specs.declared.views.View.{View}

@@ -4,14 +4,14 @@ use Rattle.policy_tree.specs.Meaning.{Meaning}
 use Rattle.round_model.specs.declared.entry.Entry.{Entry}
 use Rattle.round_model.specs.declared.entry.Entry.TheVariants as entry
 use Rattle.round_model.specs.declared.plan.Plan.{Plan}
-use Rattle.round_model.specs.declared.turns.NextStep.{NextStep}
-use Rattle.round_model.specs.declared.turns.NextStep.TheVariants as next
 use Rattle.round_model.specs.After.{after}
 use Rattle.round_model.specs.Attempts.{attempt_with, moves_of, steal_or_fail}
-use Rattle.round_model.specs.Code.Turns.{ActsBy, MayAdd}
 use Rattle.round_model.specs.Cores.{Cores}
 use Rattle.round_model.proofs.Grows.{legal_grows}
 use Rattle.round_model.proofs.OwedTotals.{room_for}
+use Rattle.serial_steps.specs.declared.turns.NextStep.{NextStep}
+use Rattle.serial_steps.specs.declared.turns.NextStep.TheVariants as next
+use Rattle.serial_steps.specs.Turns.{ActsBy, MayAdd}
 use Rattle.core_table.specs.declared.views.View.{View}
 use Rattle.core_table.proofs.Positions.{above}
 use Rattle.core_calls.specs.Calls.{Tries}

@@ -6,7 +6,6 @@ use Rattle.policy_tree.specs.Meaning.{Meaning, meaning_of}
 use Rattle.policy_eval.specs.Obligations.{MeetsHandlerObligations}
 use Rattle.round_model.specs.declared.entry.Entry.{Entry}
 use Rattle.round_model.specs.declared.entry.Entry.TheVariants as entry
-use Rattle.round_model.specs.declared.past.Past.{Past}
 use Rattle.round_model.specs.declared.plan.Plan.{Plan}
 use Rattle.round_model.specs.After.{round_of}
 use Rattle.round_model.specs.Cores.{core_numbers}
@@ -15,8 +14,9 @@ use Rattle.round_model.specs.FreshReads.{touched_from}
 use Rattle.round_model.specs.Legal.{LegalNext, LegalRound, rounds_begun}
 use Rattle.round_model.specs.Owed.{owed_total}
 use Rattle.round_model.specs.Reads.{round_start, value_read}
-use Rattle.round_model.specs.SerialEnds.{RoundFits}
-use Rattle.round_model.specs.Code.Past.{IsPastOf, StandsFor}
+use Rattle.round_judge.specs.declared.past.Past.{Past}
+use Rattle.round_judge.specs.Past.{IsPastOf, StandsFor}
+use Rattle.serial_steps.specs.SerialEnds.{RoundFits}
 use Rattle.core_table.specs.declared.views.Note.{Note}
 use Rattle.core_table.specs.declared.views.Role.TheVariants as role
 use Rattle.core_table.specs.declared.views.View.{View}

@@ -3,10 +3,10 @@ use Rattle.std.specs.Prelude.{◌≡◌, ℕ, List, Option, Some, None}
 use Rattle.round_model.specs.declared.entry.Did.{Did}
 use Rattle.round_model.specs.declared.entry.Entry.{Entry}
 use Rattle.round_model.specs.declared.entry.Entry.TheVariants as entry
-use Rattle.round_model.specs.declared.turns.NextStep.{NextStep}
-use Rattle.round_model.specs.declared.turns.NextStep.TheVariants as next
-use Rattle.round_model.specs.Serial.{SerialState, step_of}
-use Rattle.round_model.specs.Code.Turns.{with_step}
+use Rattle.serial_steps.specs.declared.turns.NextStep.{NextStep}
+use Rattle.serial_steps.specs.declared.turns.NextStep.TheVariants as next
+use Rattle.serial_steps.specs.Serial.{SerialState, step_of}
+use Rattle.serial_steps.specs.Turns.{with_step}
 use Rattle.steal_phase.specs.declared.outcome.Outcome.{Outcome}
 use Rattle.steal_phase.specs.declared.outcome.Outcome.TheVariants as outcome
 use Rattle.turn_tests.specs.declared.memory_calls.MemoryCalls.{MemoryCalls}

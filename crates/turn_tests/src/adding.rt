@@ -5,13 +5,14 @@ ghost use Rattle.policy_tree.specs.Meaning.{meaning_of};
 ghost use Rattle.policy_eval.specs.Obligations.{MeetsHandlerObligations};
 ghost use Rattle.round_model.specs.Fits.{Fits};
 ghost use Rattle.round_model.specs.Legal.{LegalNext};
-ghost use Rattle.round_model.specs.Code.Past.{IsPastOf, OfEach, StandsFor};
-ghost use Rattle.round_model.specs.Code.Steps.{IsNextAfter};
+ghost use Rattle.round_judge.specs.Past.{IsPastOf, OfEach, StandsFor};
+ghost use Rattle.round_judge.specs.Steps.{IsNextAfter};
 ghost use Rattle.turn_tests.specs.Memory.{HasGrown, IsKept, MayGrow, history_of};
 
 use crate::memory_calls::MemoryCalls;
 use policy_tree::Policy;
-use round_model::{Entry, History, Past, Plan, step};
+use round_judge::{Past, step};
+use round_model::{Entry, History, Plan};
 use sched_base::Pos;
 use std::alloc::Global;
 use std::sync::Wait;

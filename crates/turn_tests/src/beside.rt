@@ -7,7 +7,8 @@ ghost use Rattle.turn_steps.specs.declared.asking.Ask.TheVariants as ask;
 ghost use Rattle.turn_tests.specs.Memory.{IsReady, view_of};
 
 use crate::memory_calls::MemoryCalls;
-use round_model::{Entry, NextStep};
+use round_model::Entry;
+use serial_steps::NextStep;
 use turn_steps::Ask;
 
 impl MemoryCalls<'_> {

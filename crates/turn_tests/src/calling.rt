@@ -10,10 +10,11 @@ use crate::outcomes::outcome;
 use crate::reads::fresh_reads;
 use crate::steps::{did, woken};
 use core_calls::CoreCalls;
-use round_model::{Did, Entry, NextStep, choice};
+use round_model::{Did, Entry, choice};
 use sched_base::{Pos, ThreadId};
 use sched_io::Gate;
 use select_phase::Look;
+use serial_steps::NextStep;
 use std::sync::Wait;
 use steal_phase::Outcome;
 

@@ -13,8 +13,10 @@ ghost use Rattle.turn_tests.specs.Memory.{meaning_in_memory, plan_of, policy_of}
 
 use crate::memory_calls::MemoryCalls;
 use policy_tree::Policy;
-use round_model::{Entry, History, ModelMemory, Past, Plan, round_due, round_fits};
+use round_judge::{Past, round_due};
+use round_model::{Entry, History, ModelMemory, Plan};
 use sched_base::CoreId;
+use serial_steps::round_fits;
 use std::alloc::Global;
 use std::sync::Wait;
 

@@ -1,7 +1,8 @@
 //! A core of a history in memory.
 
 use policy_tree::Policy;
-use round_model::{History, Past, Plan};
+use round_judge::Past;
+use round_model::{History, Plan};
 use sched_base::CoreId;
 use std::alloc::Global;
 

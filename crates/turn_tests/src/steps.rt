@@ -1,15 +1,17 @@
 //! What the core does next in its turn, as serial play has it.
 
 ghost use Rattle.std.specs.Prelude.{◌≡◌, IfSome};
-ghost use Rattle.round_model.specs.Code.Outcomes.{ReadIn};
-ghost use Rattle.round_model.specs.Code.Turns.{ActsBy, MayAdd};
+ghost use Rattle.round_judge.specs.Readable.{ReadIn};
+ghost use Rattle.serial_steps.specs.Turns.{ActsBy, MayAdd};
 ghost use Rattle.turn_tests.specs.Memory.{IsReady, core_of, history_of, meaning_in_memory, past_of, plan_of};
 ghost use Rattle.turn_tests.specs.Steps.{IsNextStep, did_in, woken_in};
 
 use crate::memory_calls::MemoryCalls;
 use crate::reads::fresh_reads;
-use round_model::{Did, Entry, NextStep, next_step};
+use round_model::{Did, Entry};
 use sched_base::Reads;
+use serial_play::next_step;
+use serial_steps::NextStep;
 
 impl MemoryCalls<'_> {
     /// The step that serial play takes for the core, where it keeps that look or none.

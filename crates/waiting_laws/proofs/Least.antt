@@ -17,12 +17,12 @@ use Rattle.round_model.specs.declared.plan.Plan.{Plan}
 use Rattle.round_model.specs.declared.state.ModelCore.{ModelCore}
 use Rattle.round_model.specs.After.{after, after_from, round_of}
 use Rattle.round_model.specs.Cores.{Cores, opening_state}
-use Rattle.round_model.specs.Code.Kept.{Holds}
+use Rattle.round_model.specs.Kept.{Holds}
 use Rattle.round_model.specs.Fits.{Fits}
 use Rattle.round_model.specs.Legal.{Legal}
 use Rattle.round_model.specs.Moves.{taken_from}
 use Rattle.round_model.specs.Work.{before}
-use Rattle.round_model.proofs.Added.{legal_said}
+use Rattle.round_model.proofs.Acting.{legal_said}
 use Rattle.round_model.proofs.Takings.{sum-taken}
 use Rattle.waiting_laws.specs.Least.{BringsTo, ElectsLeast, IsRaised, IsValued, LeastLaw, NoneComes, WaitsWith, lag, lags}
 use Rattle.waiting_laws.specs.Slices.{value_in}

@@ -24,7 +24,7 @@ use Rattle.round_model.specs.declared.plan.Plan.{Plan}
 use Rattle.round_model.specs.declared.state.Blocked.{Blocked}
 use Rattle.round_model.specs.declared.state.ModelCore.{ModelCore}
 use Rattle.round_model.specs.After.{effect, moved, woken}
-use Rattle.round_model.specs.Code.Kept.{Holds}
+use Rattle.round_model.specs.Kept.{Holds}
 use Rattle.round_model.specs.Cores.{Cores}
 use Rattle.round_model.specs.Entries.{touches}
 use Rattle.round_model.specs.Moves.{admitted, blocked_of, core_after_event, handed_all, received_all, released, taken_from, with_outcome, with_task}

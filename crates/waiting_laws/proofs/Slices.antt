@@ -16,10 +16,10 @@ use Rattle.round_model.specs.declared.plan.Plan.{Plan}
 use Rattle.round_model.specs.declared.state.ModelCore.{ModelCore}
 use Rattle.round_model.specs.After.{after, after_from, round_of}
 use Rattle.round_model.specs.Cores.{Cores, opening_state}
-use Rattle.round_model.specs.Code.Kept.{Holds}
+use Rattle.round_model.specs.Kept.{Holds}
 use Rattle.round_model.specs.Fits.{Fits}
 use Rattle.round_model.specs.Legal.{Legal}
-use Rattle.round_model.proofs.Added.{legal_said}
+use Rattle.round_model.proofs.Acting.{legal_said}
 use Rattle.waiting_laws.specs.Slices.{HasLeft, KeepsInSlices, SlicesLaw, value_in}
 use Rattle.waiting_laws.specs.Waiting.{IsInPlace, IsUnstolen, RunsIn, WaitsAt, units_of}
 use Rattle.round_laws.proofs.Positions.{state_behind}

@@ -14,7 +14,7 @@ use Rattle.round_model.specs.After.{after, after_from, round_of}
 use Rattle.round_model.specs.Cores.{Cores, opening_state}
 use Rattle.round_model.specs.Fits.{Fits}
 use Rattle.round_model.specs.Legal.{Legal}
-use Rattle.round_model.proofs.Added.{legal_said}
+use Rattle.round_model.proofs.Acting.{legal_said}
 use Rattle.waiting_laws.specs.Waiting.{IsInPlace, IsUnstolen, QueuesAlways, RunsIn, RunsInRounds, RunsInTurn, UnitsBringAhead, WaitingLaw, WaitsAt, units_of}
 use Rattle.round_laws.proofs.Positions.{state_behind}
 use Rattle.round_laws.proofs.RoundNumbers.{EntryAt, entry_at, past_end, which_entry}

@@ -12,7 +12,7 @@ use Rattle.round_model.specs.declared.plan.Planned.{Planned}
 use Rattle.round_model.specs.declared.state.Blocked.{Blocked}
 use Rattle.round_model.specs.declared.state.ModelCore.{ModelCore}
 use Rattle.round_model.specs.After.{effect, entered, moved, woken}
-use Rattle.round_model.specs.Code.Steps.{MayBeSaid}
+use Rattle.round_model.specs.Fitting.{MayBeSaid}
 use Rattle.round_model.specs.Cores.{Cores}
 use Rattle.round_model.specs.Entries.{touches}
 use Rattle.round_model.specs.Moves.{admitted, blocked_of, handed_all, received_all, released, taken_from}

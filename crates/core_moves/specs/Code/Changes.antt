@@ -8,7 +8,7 @@ use Rattle.round_model.specs.declared.plan.Plan.{Plan}
 use Rattle.round_model.specs.declared.state.ModelCore.{ModelCore}
 use Rattle.round_model.specs.Bounds.{CoreInBounds}
 use Rattle.round_model.specs.Bursts.{HaveBursts}
-use Rattle.round_model.specs.Code.Updates.{updated}
+use Rattle.round_model.specs.Updates.{updated}
 use Rattle.round_model.specs.Cores.{Cores, load_of, thread_count}
 use Rattle.round_model.specs.Entries.{touches}
 use Rattle.core_state.specs.Logs.{after_last, logged}

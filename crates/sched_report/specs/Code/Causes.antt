@@ -4,10 +4,10 @@ use Rattle.sched_base.specs.declared.limits.TheConstants.{MAX_CORES}
 use Rattle.policy_tree.specs.Meaning.{Meaning}
 use Rattle.round_model.specs.declared.entry.Entry.{Entry}
 use Rattle.round_model.specs.declared.entry.Entry.TheVariants as entry
-use Rattle.round_model.specs.declared.past.Past.{Past}
 use Rattle.round_model.specs.declared.plan.Plan.{Plan}
-use Rattle.round_model.specs.Code.Past.{IsKeptPosition, IsWindow, StandsFor}
 use Rattle.round_model.specs.Explains.{ChangesSeen}
+use Rattle.round_judge.specs.declared.past.Past.{Past}
+use Rattle.round_judge.specs.Past.{IsKeptPosition, IsWindow, StandsFor}
 use Rattle.sched_report.specs.declared.rows.CauseRow.{CauseRow}
 
 -- the entry at the position, at or after the read of a core, changes what was read of it

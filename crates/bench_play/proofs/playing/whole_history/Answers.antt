@@ -1,8 +1,8 @@
 use Rattle.std.proofs.Common.{sym, subst}
 use Rattle.policy_tree.specs.Meaning.{meaning_of}
 use Rattle.policy_eval.specs.Obligations.{MeetsHandlerObligations}
-use Rattle.round_model.specs.SerialEnds.{IsPlayed, StopsFull}
-use Rattle.round_model.proofs.EntryBounds.{room_suffices}
+use Rattle.serial_steps.specs.SerialEnds.{IsPlayed, StopsFull}
+use Rattle.serial_steps.proofs.EntryBounds.{room_suffices}
 use Rattle.fair_policy.proofs.FairMeets.{fair_handlers_meet}
 use Rattle.bench_play.proofs.playing.whole_history.Goals as goal
 

@@ -1,7 +1,7 @@
 use Rattle.std.proofs.Common.{◌≡◌, ◌==◌, ◌≤◌, map, filter, take}
 use Rattle.std.specs.Prelude.{vec_capacity, vec_len}
 use Rattle.round_model.specs.declared.plan.Planned.{Planned}
-use Rattle.round_model.specs.Code.Past.{arrival_of}
+use Rattle.round_judge.specs.Past.{arrival_of}
 use Rattle.core_worker.proofs.run.await_all.Given as goal
 
 -- the arrivals among the threads passed over

@@ -1,6 +1,6 @@
 use Rattle.std.proofs.Common.{sym, ap, ◌∙◌}
 use Rattle.std.proofs.lemmas.Option.{get_or_from_slice_get}
-use Rattle.round_model.specs.declared.past.Arrival.{Arrival}
+use Rattle.round_judge.specs.declared.past.Arrival.{Arrival}
 use Rattle.run_queue.proofs.Places.{item_at}
 use Rattle.core_worker.proofs.Asking.{first_arrives}
 use Rattle.core_worker.proofs.steps.first_place.Goals as goal

@@ -1,6 +1,6 @@
 use Rattle.std.proofs.Common.{◌≡◌, ◌++◌, drop, take, find}
 use Rattle.round_model.specs.Moves.{without_first}
-use Rattle.round_model.specs.Code.Past.{arrives_at}
+use Rattle.round_judge.specs.Past.{arrives_at}
 use Rattle.core_worker.proofs.steps.first_place.Given as goal
 
 -- the arrivals passed over come by other cores

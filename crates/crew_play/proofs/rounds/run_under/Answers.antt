@@ -1,7 +1,7 @@
 use Rattle.std.proofs.Common.{◌≡◌, ◌+◌, ap, ◌∙◌, sym, subst, arith}
 use Rattle.policy_tree.specs.Meaning.{meaning_of}
 use Rattle.round_model.specs.declared.plan.Plan.{Plan}
-use Rattle.round_model.specs.SerialEnds.{RoundFits}
+use Rattle.serial_steps.specs.SerialEnds.{RoundFits}
 use Rattle.core_table.specs.Public.{view_of}
 use Rattle.core_table.specs.Views.{meaning_in}
 use Rattle.parallel_play.specs.Playing.{HavePassed}

@@ -2,8 +2,8 @@ use Rattle.std.proofs.Common.{◌+◌, take, Some, refl, sym, ap, subst, ◌∙�
 use Rattle.std.proofs.lemmas.Bool.{false≢true}
 use Rattle.std.proofs.lemmas.List.{take_all}
 use Rattle.policy_tree.specs.Meaning.{meaning_of}
-use Rattle.round_model.specs.Code.Past.{StandsFor}
 use Rattle.round_model.proofs.Keeping.{some_at}
+use Rattle.round_judge.specs.Past.{StandsFor}
 use Rattle.history_judge.specs.Judgement.{IsFirstIllegal}
 use Rattle.history_judge.proofs.Judged.{illegal_at, take_next}
 use Rattle.history_judge.proofs.judging.legal_past.Goals as goal

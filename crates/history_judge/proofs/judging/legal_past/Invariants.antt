@@ -1,6 +1,6 @@
 use Rattle.std.proofs.Common.{◌≡◌, take}
 use Rattle.policy_tree.specs.Meaning.{meaning_of}
-use Rattle.round_model.specs.Code.Past.{IsPastOf, StandsFor}
+use Rattle.round_judge.specs.Past.{IsPastOf, StandsFor}
 use Rattle.history_judge.proofs.judging.legal_past.Given as goal
 
 -- the past is that of the entries passed over

@@ -4,7 +4,7 @@ use Rattle.policy_eval.specs.Obligations.{MeetsHandlerObligations}
 use Rattle.round_model.specs.declared.plan.Plan.{Plan}
 use Rattle.round_model.specs.Fits.{Fits}
 use Rattle.round_model.specs.Limits.{IsWithinLimits}
-use Rattle.round_model.specs.SerialEnds.{IsPlayed}
+use Rattle.serial_steps.specs.SerialEnds.{IsPlayed}
 use Rattle.model_tests.specs.Batched.{plan_in, policy_in}
 use Rattle.model_tests.proofs.BatchPolicies.{batch_fits, batch_handlers, batch_within}
 use Rattle.model_tests.proofs.batched.play_in.Goals as goal

@@ -2,7 +2,7 @@ use Rattle.std.proofs.Common.{[], sym, subst}
 use Rattle.round_model.specs.declared.plan.Plan.{Plan}
 use Rattle.round_model.specs.Fits.{Fits}
 use Rattle.round_model.specs.Limits.{IsWithinLimits}
-use Rattle.round_model.specs.Code.Past.{IsPastOf, StandsFor}
+use Rattle.round_judge.specs.Past.{IsPastOf, StandsFor}
 use Rattle.model_tests.specs.Policies.{basic}
 use Rattle.model_tests.proofs.PolicyRows.{two_cores_fit, two_cores_within}
 use Rattle.model_tests.proofs.plans.no_past.Goals as goal

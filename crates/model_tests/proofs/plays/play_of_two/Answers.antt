@@ -4,7 +4,7 @@ use Rattle.policy_eval.specs.Obligations.{MeetsHandlerObligations}
 use Rattle.round_model.specs.declared.plan.Plan.{Plan}
 use Rattle.round_model.specs.Fits.{Fits}
 use Rattle.round_model.specs.Limits.{IsWithinLimits}
-use Rattle.round_model.specs.SerialEnds.{IsPlayed}
+use Rattle.serial_steps.specs.SerialEnds.{IsPlayed}
 use Rattle.model_tests.specs.Policies.{basic}
 use Rattle.model_tests.specs.Plans.{two_cores}
 use Rattle.model_tests.proofs.PolicyRows.{basic_handlers, two_cores_fit, two_cores_within}

@@ -1,8 +1,8 @@
 use Rattle.std.proofs.Common.{◌+◌, take, Some, refl, sym, ap, subst, ◌∙◌, arith}
 use Rattle.std.proofs.lemmas.Bool.{false≢true}
 use Rattle.policy_tree.specs.Meaning.{meaning_of}
-use Rattle.round_model.specs.Code.Past.{StandsFor}
 use Rattle.round_model.proofs.Keeping.{some_at}
+use Rattle.round_judge.specs.Past.{StandsFor}
 use Rattle.model_tests.specs.Steps.{IsLegalLength}
 use Rattle.model_tests.proofs.Counting.{stops_at, stops_behind, take_next}
 use Rattle.model_tests.proofs.steps.legal_length.Goals as goal

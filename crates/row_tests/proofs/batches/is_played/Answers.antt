@@ -1,7 +1,7 @@
 use Rattle.std.proofs.Common.{◌≡◌, ◌≤◌, ℕ, List, length, refl, subst, sym, arith}
 use Rattle.sched_base.specs.declared.limits.TheConstants.{MAX_ENTRIES}
 use Rattle.round_model.specs.declared.entry.Entry.{Entry}
-use Rattle.round_model.specs.SerialEnds.{EndsWhole, IsPlayed}
+use Rattle.serial_steps.specs.SerialEnds.{EndsWhole, IsPlayed}
 use Rattle.sched_history.specs.Ranges.{CanBePrinted}
 use Rattle.sched_history.proofs.Printable.{legal_is_printable}
 use Rattle.model_tests.specs.declared.batched.BatchRow.{BatchRow}

@@ -1,6 +1,6 @@
 use Rattle.std.proofs.Common.{◌≡◌, ◌<◌, ◌∙◌, length, sym, subst, arith}
 use Rattle.round_model.specs.declared.plan.Plan.{Plan}
-use Rattle.round_model.specs.SerialEnds.{RoundFits}
+use Rattle.serial_steps.specs.SerialEnds.{RoundFits}
 use Rattle.model_tests.specs.Plans.{two_cores}
 use Rattle.core_table.specs.Public.{view_of}
 use Rattle.core_table.proofs.FirstRound.{begins_at_0, may_begin_first}

@@ -3,7 +3,7 @@ use Rattle.std.proofs.Common.{ℕ, ◌<◌, List}
 use Rattle.policy_tree.specs.Meaning.{Meaning}
 use Rattle.round_model.specs.declared.entry.Entry.{Entry}
 use Rattle.round_model.specs.declared.plan.Plan.{Plan}
-use Rattle.round_model.specs.Code.Past.{StandsFor}
+use Rattle.round_judge.specs.Past.{StandsFor}
 use Rattle.sched_report.specs.Code.Causes.{Causes}
 use Rattle.sched_report.proofs.causes.first_cause.Given as goal
 

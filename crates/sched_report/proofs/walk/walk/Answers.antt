@@ -3,7 +3,7 @@ use Rattle.std.proofs.Common.{sym, ap, subst, ◌∙◌, arith, add-one, take}
 use Rattle.std.proofs.lemmas.List.{length-take}
 use mathlib.Core.Option.{some}
 use Rattle.policy_tree.specs.Meaning.{meaning_of}
-use Rattle.round_model.specs.Code.Past.{StandsFor}
+use Rattle.round_judge.specs.Past.{StandsFor}
 use Rattle.round_laws.proofs.Positions.{entry_more}
 use Rattle.sched_report.specs.Code.Walks.{IsTallySoFar}
 use Rattle.sched_report.proofs.FlagLemmas.{disturbed_in_round}

@@ -1,7 +1,7 @@
 -- The past is that of the entries passed over, and the tally is theirs.
 use Rattle.std.proofs.Common.{take}
 use Rattle.policy_tree.specs.Meaning.{meaning_of}
-use Rattle.round_model.specs.Code.Past.{IsPastOf, StandsFor}
+use Rattle.round_judge.specs.Past.{IsPastOf, StandsFor}
 use Rattle.sched_report.specs.Code.Walks.{IsTallySoFar}
 use Rattle.sched_report.proofs.walk.walk.Given as goal
 

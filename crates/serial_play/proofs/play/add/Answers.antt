@@ -2,10 +2,10 @@ use Rattle.std.proofs.Common.{◌≡◌, ◌∙◌, ◌++◌, ◌∷◌, [], ℕ
 use Rattle.policy_tree.specs.Meaning.{meaning_of}
 use Rattle.round_model.specs.Entries.{touches}
 use Rattle.round_model.specs.FreshReads.{touched_from}
-use Rattle.round_model.specs.Code.Past.{StandsFor}
 use Rattle.round_model.specs.Reads.{round_start}
 use Rattle.round_model.proofs.Longer.{start_stays}
 use Rattle.round_model.proofs.Touched.{touched_more}
+use Rattle.round_judge.specs.Past.{StandsFor}
 use Rattle.serial_play.proofs.Adding.{read_stays}
 use Rattle.serial_play.proofs.play.add.Goals as goal
 

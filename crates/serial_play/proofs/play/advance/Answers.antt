@@ -1,8 +1,8 @@
 use Rattle.std.proofs.Common.{◌∙◌, ℕ, List, Option, Some, true, get_or, set, subst, sym, arith}
 use Rattle.policy_tree.specs.Meaning.{meaning_of}
-use Rattle.round_model.specs.declared.turns.NextStep.TheVariants as next
-use Rattle.round_model.specs.Code.Outcomes.{ReadIn}
-use Rattle.round_model.specs.Code.Turns.{ActsBy, IsStepOf, MayAdd}
+use Rattle.round_judge.specs.Readable.{ReadIn}
+use Rattle.serial_steps.specs.declared.turns.NextStep.TheVariants as next
+use Rattle.serial_steps.specs.Turns.{ActsBy, IsStepOf, MayAdd}
 use Rattle.sched_base.specs.declared.limits.TheConstants.{MAX_ENTRIES}
 use Rattle.round_model.proofs.OwedTotals.{room_for}
 use Rattle.serial_play.specs.Plays.{Advances, fresh_of}

@@ -1,9 +1,10 @@
 use Rattle.std.proofs.Common.{◌≡◌, ◌∙◌, sym, arith}
 use Rattle.policy_tree.specs.Meaning.{meaning_of}
-use Rattle.round_model.specs.SerialEnds.{IsFull}
-use Rattle.round_model.specs.SerialRounds.{serial_rounds}
-use Rattle.round_model.proofs.SerialEnding.{ended_whole, fits_not_full, round_legal, rounds_over, serial_next, stopped_full}
-use Rattle.round_model.proofs.SerialWholes.{next_too}
+use Rattle.serial_steps.specs.SerialEnds.{IsFull}
+use Rattle.serial_steps.specs.SerialRounds.{serial_rounds}
+use Rattle.serial_steps.proofs.SerialEnding.{ended_whole, fits_not_full, round_legal}
+use Rattle.serial_steps.proofs.SerialEnding.{rounds_over, serial_next, stopped_full}
+use Rattle.serial_steps.proofs.SerialWholes.{next_too}
 use Rattle.serial_play.proofs.rounds.play_rounds.Goals as goal
 
 pub loop-begun-init : goal.loop-begun-init

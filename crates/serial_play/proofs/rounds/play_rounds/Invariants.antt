@@ -1,7 +1,7 @@
 use Rattle.std.proofs.Common.{◌≡◌, ◌<◌, ℕ}
 use Rattle.policy_tree.specs.Meaning.{meaning_of}
-use Rattle.round_model.specs.SerialEnds.{IsFull}
-use Rattle.round_model.specs.SerialRounds.{serial_rounds}
+use Rattle.serial_steps.specs.SerialEnds.{IsFull}
+use Rattle.serial_steps.specs.SerialRounds.{serial_rounds}
 use Rattle.serial_play.specs.Plays.{IsPlay}
 use Rattle.serial_play.proofs.rounds.play_rounds.Given as goal
 

@@ -1,6 +1,6 @@
 use Rattle.std.proofs.Common.{◌≡◌, Bool, ℕ, false, replicate, subst, arith}
 use Rattle.policy_tree.specs.Meaning.{meaning_of}
-use Rattle.round_model.specs.SerialRounds.{most_steps}
+use Rattle.serial_steps.specs.SerialRounds.{most_steps}
 use Rattle.serial_play.specs.Plays.{Advances}
 use Rattle.serial_play.specs.Rounds.{Moves}
 use Rattle.serial_play.proofs.Turning.{ended_early, moved_none}

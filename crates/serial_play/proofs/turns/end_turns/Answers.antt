@@ -1,7 +1,7 @@
 use Rattle.std.proofs.Common.{◌≡◌, ℕ, List, replicate, sym, subst, arith}
 use Rattle.policy_tree.specs.Meaning.{meaning_of}
-use Rattle.round_model.specs.SerialRounds.{most_steps}
-use Rattle.round_model.proofs.SerialWholes.{turns_more, turns_of}
+use Rattle.serial_steps.specs.SerialRounds.{most_steps}
+use Rattle.serial_steps.proofs.SerialWholes.{turns_more, turns_of}
 use Rattle.serial_play.specs.Rounds.{Moves}
 use Rattle.serial_play.proofs.Turning.{moved_both, moved_none}
 use Rattle.serial_play.proofs.turns.end_turns.Goals as goal

@@ -1,5 +1,5 @@
 use Rattle.policy_tree.specs.Meaning.{meaning_of}
-use Rattle.round_model.proofs.SerialWholes.{turns_of}
+use Rattle.serial_steps.proofs.SerialWholes.{turns_of}
 use Rattle.serial_play.specs.Rounds.{Moves}
 use Rattle.serial_play.proofs.turns.end_turns.Given as goal
 

@@ -1,6 +1,6 @@
 use Rattle.std.proofs.Common.{All, ◌<◌, sym, subst}
 use Rattle.policy_tree.specs.Meaning.{meaning_of}
-use Rattle.round_model.proofs.SerialWholes.{ordered_there}
+use Rattle.serial_steps.proofs.SerialWholes.{ordered_there}
 use Rattle.serial_play.proofs.turns.take_ordered.Goals as goal
 
 pub take_steps-requires-clause-cores : goal.take_steps-requires-clause-cores

@@ -1,6 +1,6 @@
 use Rattle.std.proofs.Common.{◌≡◌, ◌+◌, ap, ◌∙◌, sym, subst, arith}
 use Rattle.round_model.specs.declared.plan.Plan.{Plan}
-use Rattle.round_model.specs.SerialEnds.{RoundFits}
+use Rattle.serial_steps.specs.SerialEnds.{RoundFits}
 use Rattle.core_table.specs.Public.{view_of}
 use Rattle.parallel_play.specs.Tallies.{due_by}
 use Rattle.parallel_play.proofs.Rounding.{first_between, may_begin, next_between}

@@ -1,7 +1,7 @@
 -- The history that is merged is that of the cores.
 use Rattle.std.proofs.Common.{subst}
 use Rattle.policy_tree.specs.Meaning.{meaning_of}
-use Rattle.round_model.specs.SerialEnds.{EndsWhole, IsPlayed, StopsFull}
+use Rattle.serial_steps.specs.SerialEnds.{EndsWhole, IsPlayed, StopsFull}
 use Rattle.trace_play.specs.Plays.{played_by}
 use Rattle.trace_play.proofs.Merged.{merged_list}
 use Rattle.trace_play.proofs.playing.play_plan.Goals as goal

@@ -1,7 +1,7 @@
 use Rattle.std.proofs.Common.{List, ℕ, sym, ap, ap₂, subst, ◌∙◌, vec_capacity}
 use Rattle.round_model.specs.declared.state.Blocked.{Blocked}
 use Rattle.round_model.specs.Moves.{is_blocked_task, released}
-use Rattle.round_model.specs.Code.Updates.{IsFirstAt, IsFirstPlace}
+use Rattle.round_model.specs.Updates.{IsFirstAt, IsFirstPlace}
 use Rattle.core_state.specs.Views.{CoreView}
 use Rattle.core_state.proofs.Placing.{viewed}
 use Rattle.core_state.proofs.state.CoreState.release_blocked.Goals as goal

@@ -3,12 +3,13 @@ use Rattle.policy_tree.specs.Meaning.{meaning_of}
 use Rattle.round_model.specs.declared.entry.Entry.{Entry}
 use Rattle.round_model.specs.After.{after}
 use Rattle.round_model.specs.Attempts.{attempt_with}
-use Rattle.round_model.specs.Code.Outcomes.{values_at}
-use Rattle.round_model.specs.Code.Past.{is_flagged}
+use Rattle.round_model.specs.Outcomes.{values_at}
 use Rattle.round_model.specs.Entries.{acts}
 use Rattle.round_model.specs.Kinds.{is_attempt}
-use Rattle.round_model.proofs.Added.{acts_is, flag_set, or_nothing}
+use Rattle.round_model.proofs.Acting.{acts_is, or_nothing}
 use Rattle.round_model.proofs.Owing.{none_by}
+use Rattle.round_judge.specs.Past.{is_flagged}
+use Rattle.round_judge.proofs.Added.{flag_set}
 use Rattle.core_worker.proofs.Attempting.{attempts, chosen_apart, ends_nobody, leaves_arrivals, no_work}
 use Rattle.core_worker.proofs.Noting.{may_move, moment_added, reached_by, within_of}
 use Rattle.core_worker.proofs.Stepping.{added_legal, attempt_step}

@@ -1,6 +1,6 @@
 use Rattle.std.proofs.Common.{◌≡◌, replicate, subst, arith}
 use Rattle.policy_tree.specs.Meaning.{meaning_of}
-use Rattle.round_model.specs.SerialRounds.{most_steps}
+use Rattle.serial_steps.specs.SerialRounds.{most_steps}
 use Rattle.core_worker.specs.Runs.{Moves}
 use Rattle.core_worker.proofs.Turning.{ended_early, still_at}
 use Rattle.core_worker.proofs.run.Run.end_turn.Goals as goal

@@ -1,7 +1,7 @@
 use Rattle.std.proofs.Common.{◌≡◌, replicate, sym, subst, arith}
 use Rattle.policy_tree.specs.Meaning.{meaning_of}
-use Rattle.round_model.specs.SerialRounds.{most_steps}
-use Rattle.round_model.proofs.SerialWholes.{turns_more, turns_of}
+use Rattle.serial_steps.specs.SerialRounds.{most_steps}
+use Rattle.serial_steps.proofs.SerialWholes.{turns_more, turns_of}
 use Rattle.core_worker.specs.Runs.{Moves}
 use Rattle.core_worker.proofs.Turning.{moved_both, still_at}
 use Rattle.core_worker.proofs.run.Run.end_turns.Goals as goal

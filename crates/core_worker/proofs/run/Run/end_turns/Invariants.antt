@@ -1,5 +1,5 @@
 use Rattle.policy_tree.specs.Meaning.{meaning_of}
-use Rattle.round_model.proofs.SerialWholes.{turns_of}
+use Rattle.serial_steps.proofs.SerialWholes.{turns_of}
 use Rattle.core_worker.specs.Runs.{Moves}
 use Rattle.core_worker.proofs.run.Run.end_turns.Given as goal
 

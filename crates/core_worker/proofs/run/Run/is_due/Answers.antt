@@ -1,6 +1,6 @@
 use Rattle.std.proofs.Common.{◌∙◌, ◌&&◌, ap₂, nat_lt}
 use Rattle.round_model.specs.Legal.{is_due}
-use Rattle.round_model.proofs.Pasts.{list_any-ended}
+use Rattle.round_judge.proofs.Pasts.{list_any-ended}
 use Rattle.core_worker.proofs.run.Run.is_due.Goals as goal
 
 pub returns : goal.returns

@@ -1,7 +1,7 @@
 use Rattle.std.proofs.Common.{◌∙◌, ◌≡◌, false, true, sym, subst, arith}
 use Rattle.std.proofs.lemmas.List.{get_or_default}
 use Rattle.policy_tree.specs.Meaning.{meaning_of}
-use Rattle.round_model.specs.Code.Past.{is_flagged}
+use Rattle.round_judge.specs.Past.{is_flagged}
 use Rattle.core_worker.specs.Runs.{IsMoment}
 use Rattle.core_worker.proofs.Stepping.{over_step}
 use Rattle.core_worker.proofs.run.Run.late_step.Goals as goal

@@ -1,7 +1,7 @@
 use Rattle.std.proofs.Common.{◌∙◌, ℕ, List, ap}
 use Rattle.policy_tree.specs.Meaning.{meaning_of, place_tree}
 use Rattle.round_model.specs.Choices.{target_by, target_of}
-use Rattle.round_model.specs.Code.Outcomes.{values_at}
+use Rattle.round_model.specs.Outcomes.{values_at}
 use Rattle.round_model.specs.Scenes.{scene_of}
 use Rattle.core_worker.proofs.run.Run.placement.Goals as goal
 

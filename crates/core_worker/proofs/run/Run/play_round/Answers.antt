@@ -1,8 +1,8 @@
 use Rattle.std.proofs.Common.{◌++◌, cond, fold, ap, sym}
 use Rattle.policy_tree.specs.Meaning.{meaning_of}
 use Rattle.round_model.specs.Legal.{LegalNext}
-use Rattle.round_model.specs.Serial.{step_of}
-use Rattle.round_model.specs.SerialRounds.{order_of, remaining_turns, with_round}
+use Rattle.serial_steps.specs.Serial.{step_of}
+use Rattle.serial_steps.specs.SerialRounds.{order_of, remaining_turns, with_round}
 use Rattle.core_worker.specs.Runs.{opened}
 use Rattle.core_worker.proofs.Turning.{moved_both, still_at}
 use Rattle.core_worker.proofs.run.Run.play_round.Goals as goal

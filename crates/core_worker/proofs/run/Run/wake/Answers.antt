@@ -1,10 +1,10 @@
 use Rattle.std.proofs.Common.{refl, sym}
 use Rattle.policy_tree.specs.Meaning.{meaning_of}
 use Rattle.round_model.specs.declared.entry.Entry.TheVariants as entry
-use Rattle.round_model.specs.Code.Past.{is_flagged}
 use Rattle.round_model.specs.Entries.{acts}
-use Rattle.round_model.proofs.Added.{or_nothing}
+use Rattle.round_model.proofs.Acting.{or_nothing}
 use Rattle.round_model.proofs.Owing.{none_by}
+use Rattle.round_judge.specs.Past.{is_flagged}
 use Rattle.core_worker.proofs.Noting.{may_move, moment_added, within_of}
 use Rattle.core_worker.proofs.Stepping.{added_legal, wake_step}
 use Rattle.core_worker.proofs.run.Run.wake.Goals as goal

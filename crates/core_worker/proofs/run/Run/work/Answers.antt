@@ -1,10 +1,11 @@
 use Rattle.std.proofs.Common.{◌∙◌, ◌≡◌, length, ◌&&◌, ◌||◌, Bool, true, false, ap, refl, sym, arith}
 use Rattle.policy_tree.specs.Meaning.{meaning_of}
 use Rattle.round_model.specs.declared.entry.Entry.TheVariants as entry
-use Rattle.round_model.specs.Code.Past.{is_flagged}
 use Rattle.round_model.specs.Entries.{acts}
-use Rattle.round_model.proofs.Added.{acts_is, flag_by, flag_set}
+use Rattle.round_model.proofs.Acting.{acts_is}
 use Rattle.round_model.proofs.Owing.{none_by}
+use Rattle.round_judge.specs.Past.{is_flagged}
+use Rattle.round_judge.proofs.Added.{flag_by, flag_set}
 use Rattle.core_worker.proofs.Noting.{flags_long, moment_added, within_of}
 use Rattle.core_worker.proofs.Stepping.{added_legal, may_work, work_step}
 use Rattle.core_worker.proofs.run.Run.work.Goals as goal

@@ -1,6 +1,6 @@
 use Rattle.std.proofs.Common.{◌≡◌, ◌<◌, ℕ, None, false, length}
 use Rattle.sched_base.specs.declared.limits.TheConstants.{MAX_CORES}
-use Rattle.round_model.specs.Code.Past.{is_flagged}
+use Rattle.round_judge.specs.Past.{is_flagged}
 use Rattle.core_worker.specs.Turns.{look_of}
 use Rattle.core_worker.proofs.turn.Turns.begin.Given as goal
 

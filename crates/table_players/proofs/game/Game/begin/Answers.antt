@@ -1,6 +1,6 @@
 use Rattle.std.proofs.Common.{◌≡◌, ◌<◌, length, sym, subst, arith}
 use Rattle.round_model.specs.declared.plan.Plan.{Plan}
-use Rattle.round_model.specs.SerialEnds.{RoundFits}
+use Rattle.serial_steps.specs.SerialEnds.{RoundFits}
 use Rattle.core_table.specs.Public.{plan_of, view_of}
 use Rattle.core_table.proofs.FirstRound.{may_begin_first}
 use Rattle.table_players.proofs.Fitting.{crowd_round}

@@ -1,8 +1,8 @@
 use Rattle.std.proofs.Common.{◌∙◌, List, ℕ, sym, ap, subst, refl}
-use Rattle.round_model.specs.Code.Outcomes.{ReadIn}
+use Rattle.round_judge.specs.Readable.{ReadIn}
 use Rattle.turn_tests.specs.Memory.{core_of, history_of, meaning_in_memory, plan_of}
 use Rattle.turn_tests.specs.Steps.{moment_of}
-use Rattle.round_model.specs.Code.Turns.{with_step}
+use Rattle.serial_steps.specs.Turns.{with_step}
 use Rattle.turn_tests.proofs.Rows.{fresh_read}
 use Rattle.turn_tests.proofs.Stepping.{fresh_same}
 use Rattle.turn_tests.proofs.memory_calls.MemoryCalls.next.Goals as goal

@@ -1,6 +1,6 @@
 use Rattle.std.proofs.Common.{sym, subst, arith}
 use Rattle.turn_tests.specs.Memory.{history_of, meaning_in_memory, plan_of}
-use Rattle.round_model.specs.Code.Outcomes.{ReadIn}
+use Rattle.round_judge.specs.Readable.{ReadIn}
 use Rattle.turn_tests.proofs.Reading.{glanced}
 use Rattle.turn_tests.proofs.Rows.{fresh_read}
 use Rattle.turn_tests.proofs.memory_calls.MemoryCalls.values_read.Goals as goal

@@ -1,0 +1,15 @@
+pub mod Added
+pub mod AddedArrivals
+pub mod AddedBounds
+pub mod AddedRows
+pub mod AddedStands
+pub mod Beginnings
+pub mod Begun
+pub mod BegunBounds
+pub mod Free
+pub mod Judged
+pub mod Keeping
+pub mod Pasts
+pub mod Sightings
+pub mod Units
+pub mod Unnamed

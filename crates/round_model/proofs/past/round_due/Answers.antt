@@ -1,6 +1,0 @@
-use Rattle.std.proofs.Common.{◌∙◌}
-use Rattle.round_model.proofs.Pasts.{due_by_flags}
-use Rattle.round_model.proofs.past.round_due.Goals as goal
-
-pub returns : goal.returns
-returns c p history stands = c.is_due_by.ensures ∙ due_by_flags p c.args.plan.now c.args.past.now history stands

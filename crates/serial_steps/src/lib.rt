@@ -1,0 +1,9 @@
+//! Serial play: what it asks of a core next, how it ends, and the laws of it.
+#![tactic(auto)]
+
+pub mod laws;
+pub mod serial;
+pub mod turns;
+
+pub use crate::serial::{Played, most_steps, ordered_cores, round_fits};
+pub use crate::turns::NextStep;
