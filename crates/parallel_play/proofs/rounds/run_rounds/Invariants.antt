@@ -1,7 +1,7 @@
 use Rattle.core_table.specs.Public.{IsOf, view_of}
 use Rattle.parallel_play.specs.Runs.{AllPassed}
 use Rattle.parallel_play.proofs.Rounding.{IsBetween}
-use Rattle.parallel_play.proofs.rounds.run_under.Given as goal
+use Rattle.parallel_play.proofs.rounds.run_rounds.Given as goal
 
 -- so many rounds are over
 abbrev pub invariant-loop-begun : goal.invariant-loop-begun
