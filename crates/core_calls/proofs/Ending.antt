@@ -22,7 +22,7 @@ use Rattle.turn_steps.specs.States.{TurnState, entering_by}
 use Rattle.turn_steps.specs.Views.{Counts, own_in}
 use Rattle.turn_steps.proofs.NextToEnter.{enters_next}
 use Rattle.turn_steps.proofs.Telling.{any_drawn, any_of, attempts, tells_attempt}
-use Rattle.crew_play.specs.Steps.{IsPlaying}
+use Rattle.core_calls.specs.Stepping.{IsPlaying}
 
 behind_all : {X : Type 0} (xs : List X) (n : ℕ) → n ≡ length xs → slice_get xs n ≡ None
 behind_all [] n is = refl

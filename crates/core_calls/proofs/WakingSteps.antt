@@ -45,8 +45,8 @@ use Rattle.turn_steps.specs.Views.{IsAsTold, own_in, told_of}
 use Rattle.turn_steps.proofs.ModelAsks.{to_enter}
 use Rattle.turn_steps.proofs.NextToEnter.{enters_next}
 use Rattle.turn_steps.proofs.Telling.{any_drawn, any_of, tells_work, works}
-use Rattle.crew_play.specs.Steps.{AddsAsked, IsEntryFor, IsPlaying}
-use Rattle.crew_play.proofs.Growing.{worked_playing, woke_playing}
+use Rattle.core_calls.specs.Stepping.{AddsAsked, IsEntryFor, IsPlaying}
+use Rattle.core_calls.proofs.Growing.{worked_playing, woke_playing}
 
 nothing : {X : Type 0} (o : Option X) → IsNone o → o ≡ None
 nothing None is = refl

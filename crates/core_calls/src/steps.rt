@@ -8,10 +8,10 @@ ghost use Rattle.turn_steps.specs.declared.reached.Reached.TheVariants as reache
 ghost use Rattle.turn_steps.specs.Answers.{Awaits};
 ghost use Rattle.turn_steps.specs.Asks.{AsksAsModel};
 ghost use Rattle.turn_steps.specs.States.{state_of};
-ghost use Rattle.crew_play.specs.Steps.{AddsAsked, HasLooked, IsPlaying, IsSameTurn, IsToldMore};
-ghost use Rattle.crew_play.specs.Steps.{LooksAsked};
+ghost use Rattle.core_calls.specs.Stepping.{AddsAsked, HasLooked, IsPlaying, IsSameTurn, IsToldMore};
+ghost use Rattle.core_calls.specs.Stepping.{LooksAsked};
 
-use core_calls::CoreCalls;
+use crate::calls::CoreCalls;
 use sched_base::ThreadId;
 use sched_io::Gate;
 use select_phase::Look;

@@ -3,10 +3,10 @@
 ghost use Rattle.std.specs.Prelude.{◌≡◌, ◌↔◌, false, IsTrue};
 ghost use Rattle.turn_steps.specs.Reaches.{IsOver};
 ghost use Rattle.turn_steps.specs.States.{state_of};
-ghost use Rattle.crew_play.specs.Steps.{HasLooked, IsPlaying, IsSameTurn, IsToldMore, Steps};
+ghost use Rattle.core_calls.specs.Stepping.{HasLooked, IsPlaying, IsSameTurn, IsToldMore, Steps};
 
+use crate::calls::CoreCalls;
 use crate::steps::{enter, look_behind_gate, try_by, wake_or_work, work};
-use core_calls::CoreCalls;
 use round_model::Plan;
 use sched_io::Gate;
 use std::sync::Wait;

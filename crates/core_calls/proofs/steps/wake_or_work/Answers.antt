@@ -7,11 +7,11 @@ use Rattle.turn_steps.specs.Answers.{with_told}
 use Rattle.turn_steps.specs.Asks.{AsksAsModel}
 use Rattle.turn_steps.specs.States.{TurnState, state_of}
 use Rattle.turn_steps.proofs.ModelAsks.{model_of_unit}
-use Rattle.crew_play.specs.Steps.{AddsAsked}
-use Rattle.crew_play.proofs.Growing.{played_as, same_turn, told_behind_all, told_more}
-use Rattle.crew_play.proofs.Knowing.{told_few}
-use Rattle.crew_play.proofs.Waking.{asked_before, may_wake, none_playing, woken_asked, woken_playing}
-use Rattle.crew_play.proofs.steps.wake_or_work.Goals as goal
+use Rattle.core_calls.specs.Stepping.{AddsAsked}
+use Rattle.core_calls.proofs.Growing.{played_as, same_turn, told_behind_all, told_more}
+use Rattle.core_calls.proofs.Knowing.{told_few}
+use Rattle.core_calls.proofs.WakingSteps.{asked_before, may_wake, none_playing, woken_asked, woken_playing}
+use Rattle.core_calls.proofs.steps.wake_or_work.Goals as goal
 
 pub wake_next-requires-clause-may : goal.wake_next-requires-clause-may
 wake_next-requires-clause-may g c =

@@ -25,9 +25,9 @@ use Rattle.turn_steps.specs.Reaches.{IsBehindThreads}
 use Rattle.turn_steps.specs.States.{TurnState, entering_by}
 use Rattle.turn_steps.proofs.ModelAsks.{to_enter}
 use Rattle.turn_steps.proofs.NextToEnter.{enters_next}
-use Rattle.crew_play.specs.Steps.{AddsAsked, HasLook, IsEntryFor, IsPlaying}
-use Rattle.crew_play.proofs.Growing.{of_plan_now, own_now, round_now}
-use Rattle.crew_play.proofs.Knowing.{eq_by}
+use Rattle.core_calls.specs.Stepping.{AddsAsked, HasLook, IsEntryFor, IsPlaying}
+use Rattle.core_calls.proofs.Growing.{of_plan_now, own_now, round_now}
+use Rattle.core_calls.proofs.Knowing.{eq_by}
 
 there_is : {X : Type 0} (xs : List X) (n : ℕ) → n < length xs → (x : X) × (slice_get xs n ≡ Some x)
 there_is [] n inside = absurd (omega arith)

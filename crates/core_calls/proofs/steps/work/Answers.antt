@@ -4,11 +4,11 @@ use Rattle.core_calls.proofs.Turning.{core_is}
 use Rattle.turn_steps.specs.declared.asking.Told.TheVariants as told
 use Rattle.turn_steps.specs.Answers.{with_told}
 use Rattle.turn_steps.specs.States.{TurnState, state_of}
-use Rattle.crew_play.specs.Steps.{HasLooked}
-use Rattle.crew_play.proofs.Growing.{played_as, same_turn, told_behind_all, told_more}
-use Rattle.crew_play.proofs.Knowing.{told_few}
-use Rattle.crew_play.proofs.Waking.{may_work, unit_asked, unit_playing}
-use Rattle.crew_play.proofs.steps.work.Goals as goal
+use Rattle.core_calls.specs.Stepping.{HasLooked}
+use Rattle.core_calls.proofs.Growing.{played_as, same_turn, told_behind_all, told_more}
+use Rattle.core_calls.proofs.Knowing.{told_few}
+use Rattle.core_calls.proofs.WakingSteps.{may_work, unit_asked, unit_playing}
+use Rattle.core_calls.proofs.steps.work.Goals as goal
 
 pub work-did-requires-clause-may : goal.work-did-requires-clause-may
 work-did-requires-clause-may g c =

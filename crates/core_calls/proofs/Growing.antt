@@ -19,7 +19,7 @@ use Rattle.turn_steps.specs.Answers.{drawn, has_entry, told_so_far, with_told}
 use Rattle.turn_steps.specs.Reaches.{IsBehindThreads, with_attempt}
 use Rattle.turn_steps.specs.States.{IsTurnOf, TurnState, entering_by}
 use Rattle.turn_steps.specs.Views.{own_in, told_of}
-use Rattle.crew_play.specs.Steps.{HasLook, IsPlaying, IsSameTurn, IsToldMore}
+use Rattle.core_calls.specs.Stepping.{HasLook, IsPlaying, IsSameTurn, IsToldMore}
 
 pub or_false : (b : Bool) → (b || false) ≡ b
 or_false true = refl

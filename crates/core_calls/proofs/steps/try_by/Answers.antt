@@ -2,11 +2,11 @@ use Rattle.std.proofs.Common.{sym, subst}
 use Rattle.turn_steps.specs.declared.asking.Told.TheVariants as told
 use Rattle.turn_steps.specs.Answers.{with_told}
 use Rattle.turn_steps.specs.States.{state_of}
-use Rattle.crew_play.specs.Steps.{HasLooked}
-use Rattle.crew_play.proofs.Growing.{played_as, same_turn, told_behind_all, told_more}
-use Rattle.crew_play.proofs.Knowing.{told_few}
-use Rattle.crew_play.proofs.Trying.{may_try, tried_asked, tried_playing}
-use Rattle.crew_play.proofs.steps.try_by.Goals as goal
+use Rattle.core_calls.specs.Stepping.{HasLooked}
+use Rattle.core_calls.proofs.Growing.{played_as, same_turn, told_behind_all, told_more}
+use Rattle.core_calls.proofs.Knowing.{told_few}
+use Rattle.core_calls.proofs.Trying.{may_try, tried_asked, tried_playing}
+use Rattle.core_calls.proofs.steps.try_by.Goals as goal
 
 pub attempt-requires-clause-may : goal.attempt-requires-clause-may
 attempt-requires-clause-may g c =

@@ -3,10 +3,10 @@ use Rattle.core_calls.proofs.Turning.{core_is}
 use Rattle.turn_steps.specs.declared.asking.Told.TheVariants as told
 use Rattle.turn_steps.specs.Answers.{with_told}
 use Rattle.turn_steps.specs.States.{state_of}
-use Rattle.crew_play.proofs.Growing.{played_as, same_turn, told_behind_all, told_more}
-use Rattle.crew_play.proofs.Knowing.{told_few}
-use Rattle.crew_play.proofs.Trying.{looked_asked, looked_playing, may_look}
-use Rattle.crew_play.proofs.steps.look_behind_gate.Goals as goal
+use Rattle.core_calls.proofs.Growing.{played_as, same_turn, told_behind_all, told_more}
+use Rattle.core_calls.proofs.Knowing.{told_few}
+use Rattle.core_calls.proofs.Trying.{looked_asked, looked_playing, may_look}
+use Rattle.core_calls.proofs.steps.look_behind_gate.Goals as goal
 
 pub look-look-requires-clause-may : goal.look-look-requires-clause-may
 look-look-requires-clause-may g c = let a = c.requires.awaits in may_look (state_of c.args.turning.now) (g.C.CoreCalls.view c.args.calls.now) c.requires.playing a.0 a.1

@@ -32,8 +32,8 @@ use Rattle.turn_steps.specs.Reaches.{IsBehindThreads, look_in, told_behind, with
 use Rattle.turn_steps.specs.States.{IsTurnOf, TurnState, entering_by}
 use Rattle.turn_steps.specs.Views.{own_in, told_of}
 use Rattle.turn_steps.proofs.Telling.{any_drawn, any_of, attempts, tells_attempt, tells_work, works}
-use Rattle.crew_play.specs.Steps.{AddsAsked, HasLook, IsEntryFor, IsPlaying, LooksAsked}
-use Rattle.crew_play.proofs.Growing.{acted_playing}
+use Rattle.core_calls.specs.Stepping.{AddsAsked, HasLook, IsEntryFor, IsPlaying, LooksAsked}
+use Rattle.core_calls.proofs.Growing.{acted_playing}
 
 -- an attempt is told as one, lets nobody in, and has the look's reads
 module _ (look : Look) where

@@ -4,11 +4,11 @@ use Rattle.core_calls.proofs.Turning.{core_is}
 use Rattle.turn_steps.specs.declared.asking.Told.TheVariants as told
 use Rattle.turn_steps.specs.Answers.{with_told}
 use Rattle.turn_steps.specs.States.{TurnState, state_of}
-use Rattle.crew_play.specs.Steps.{HasLooked}
-use Rattle.crew_play.proofs.Entered.{entered_asked, entered_playing, may_enter}
-use Rattle.crew_play.proofs.Growing.{played_as, same_turn, told_behind_all, told_more}
-use Rattle.crew_play.proofs.Knowing.{told_few}
-use Rattle.crew_play.proofs.steps.enter.Goals as goal
+use Rattle.core_calls.specs.Stepping.{HasLooked}
+use Rattle.core_calls.proofs.Entered.{entered_asked, entered_playing, may_enter}
+use Rattle.core_calls.proofs.Growing.{played_as, same_turn, told_behind_all, told_more}
+use Rattle.core_calls.proofs.Knowing.{told_few}
+use Rattle.core_calls.proofs.steps.enter.Goals as goal
 
 pub enter-requires-clause-may : goal.enter-requires-clause-may
 enter-requires-clause-may g c =

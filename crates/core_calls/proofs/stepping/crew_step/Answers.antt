@@ -4,7 +4,7 @@ use Rattle.select_phase.specs.declared.looks.Look.{Look}
 use Rattle.turn_steps.specs.declared.asking.Told.TheVariants as told
 use Rattle.turn_steps.specs.declared.reached.Reached.TheVariants as reached
 use Rattle.turn_steps.specs.Reaches.{look_in}
-use Rattle.crew_play.proofs.stepping.crew_step.Goals as goal
+use Rattle.core_calls.proofs.stepping.crew_step.Goals as goal
 
 pub enter-requires-clause-awaits : goal.enter-requires-clause-awaits
 enter-requires-clause-awaits g c = (c.in-Arrive.ensures.awaits told.Arrived).0 refl
