@@ -59,3 +59,4 @@ pub mod Units
 pub mod Unnamed
 pub mod Waking
 pub mod Walks
+pub mod Ordering

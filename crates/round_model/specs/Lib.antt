@@ -18,6 +18,7 @@ pub mod Legal
 pub mod Limits
 pub mod Local
 pub mod Moves
+pub mod Orders
 pub mod OnePlace
 pub mod Owed
 pub mod OwedLaws

@@ -17,6 +17,7 @@ pub mod measures;
 pub mod memory;
 mod moves;
 mod notes;
+pub mod order;
 pub mod past;
 pub mod plan;
 pub mod programs;
@@ -38,6 +39,7 @@ pub use crate::judge::step_ok;
 pub use crate::measures::spread_of;
 pub use crate::memory::ModelMemory;
 pub use crate::notes::note_end;
+pub use crate::order::{NextInTurn, next_in_turn};
 pub use crate::past::{Arrival, Past, is_due_by, opening, round_due};
 pub use crate::plan::{
     Burst, BurstList, ConstList, CoreList, Ending, OrderLine, OrderList, Plan, Planned, PlannedList,
