@@ -131,7 +131,7 @@ module _ (t : TurnState) (v : View) (h : List Entry) (told : IsAsTold t v) (ag :
       late_is = to_wake ∙ (ap (step_to_wake (own_entries h t.core) look) none_due ∙ ap₂ (λ b c. cond b over (cond c (step_behind_unit look) working)) has_tried has_run)
 
 -- of lists that are as long as so many items, none is behind these
-behind_all : {X : Type 0} (xs : List X) (n : ℕ) → n ≡ length xs → slice_get xs n ≡ None
+pub behind_all : {X : Type 0} (xs : List X) (n : ℕ) → n ≡ length xs → slice_get xs n ≡ None
 behind_all [] n is = refl
 behind_all (x ∷ xs) zero is = absurd (omega arith)
 behind_all (x ∷ xs) (suc n) is = behind_all xs n (omega arith)
