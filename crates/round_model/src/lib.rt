@@ -34,7 +34,7 @@ pub use crate::adding::step;
 pub use crate::changes::entering_task;
 pub use crate::choices::{choice, target};
 pub use crate::entry::{Did, Entry, History};
-pub use crate::filtering::{may_steal, values_of};
+pub use crate::filtering::{goes_on, may_steal, values_of};
 pub use crate::judge::step_ok;
 pub use crate::measures::spread_of;
 pub use crate::memory::ModelMemory;

@@ -4,7 +4,7 @@ use Rattle.std.proofs.lemmas.Bool.{eqb-true, eqb-false}
 use Rattle.std.proofs.lemmas.List.{drop_more, take_all, take-append-drop}
 use Rattle.std.proofs.lemmas.List.Elements.{All-nil, All-cons}
 use Rattle.std.specs.List.{position_or_len}
-use Rattle.cert_text.specs.Cuts.{Lacks, IsCut, StartsWith, is_byte}
+use Rattle.text_forms.specs.Cuts.{Lacks, IsCut, StartsWith, is_byte}
 
 abbrev place_of : ℕ → List ℕ → ℕ
 place_of byte text = position_or_len (is_byte byte) text

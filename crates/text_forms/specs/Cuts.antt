@@ -1,4 +1,4 @@
--- Texts that are cut at a byte. They serve the code alone.
+-- Texts that are cut at a byte.
 use Rattle.std.specs.Prelude.{◌≡◌, ◌≢◌, ℕ, ◌==◌, Bool, List, [], ◌∷◌, ◌++◌, All}
 
 abbrev pub is_byte : ℕ → ℕ → Bool

@@ -1,8 +1,8 @@
-//! Cuts texts: lines at line feeds, words at other bytes.
+//! Cuts a text at the first byte of a kind: lines at line feeds, words at spaces.
 
 ghost use Rattle.std.specs.Prelude.{◌≡◌, ◌+◌, ◌<◌, ◌≤◌, ◌++◌, MatchOption, length};
 ghost use Rattle.std.specs.List.{position_or_len};
-ghost use Rattle.cert_text.specs.Cuts.{Lacks, IsCut, StartsWith, is_byte};
+ghost use Rattle.text_forms.specs.Cuts.{Lacks, IsCut, StartsWith, is_byte};
 
 /// What stands before the first such byte, and what stands behind it.
 pub fn cut(text: &[u8], byte: u8) -> Option<(&[u8], &[u8])>
@@ -26,7 +26,7 @@ pub fn front(text: &[u8], byte: u8) -> (&[u8], &[u8])
     text.split_at(front_len(text, byte))
 }
 
-// How many bytes stand before the first such byte.
+/// How many bytes stand before the first such byte.
 fn front_len(text: &[u8], byte: u8) -> usize
     ensures len { result ≡ position_or_len (is_byte byte) text.now }
     ensures within { result ≤ length text.now }

@@ -1,7 +1,7 @@
 use Rattle.std.proofs.Common.{arith}
 use Rattle.std.proofs.lemmas.List.{take_rest}
-use Rattle.cert_text.proofs.Cuts.{cut_at, lacks_all}
-use Rattle.cert_text.proofs.lines.cut.Goals as goal
+use Rattle.text_forms.proofs.Cutting.{cut_at, lacks_all}
+use Rattle.text_forms.proofs.fronts.cut.Goals as goal
 
 pub returns-then-place-text : goal.returns-then-place-text
 returns-then-place-text c = lacks_all c.args.byte c.args.text.now c.front_len-place.result c.front_len-place.ensures.len c.if-place-text.true

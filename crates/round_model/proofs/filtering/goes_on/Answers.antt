@@ -3,7 +3,7 @@ use Rattle.policy_tree.specs.Meaning.{batch_tree, meaning_of}
 use Rattle.policy_eval.specs.Ranges.{AreIn, wide_ranges}
 use Rattle.policy_eval.proofs.Evaluable.{evaluable_batch}
 use Rattle.policy_eval.proofs.Wide.{move_wide}
-use Rattle.batch_moves.proofs.next.goes_on.Goals as goal
+use Rattle.round_model.proofs.filtering.goes_on.Goals as goal
 
 pub holds-requires-clause-evaluable : goal.holds-requires-clause-evaluable
 holds-requires-clause-evaluable c = evaluable_batch (meaning_of c.args.policy.now) c.requires.policy (batch_tree c.args.batch.now) c.requires.batch

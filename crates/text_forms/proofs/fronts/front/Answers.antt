@@ -1,5 +1,5 @@
-use Rattle.cert_text.proofs.Cuts.{lacks_before, starts_behind}
-use Rattle.cert_text.proofs.lines.front.Goals as goal
+use Rattle.text_forms.proofs.Cutting.{lacks_before, starts_behind}
+use Rattle.text_forms.proofs.fronts.front.Goals as goal
 
 pub returns-clause-front : goal.returns-clause-front
 returns-clause-front c = rw (c.split_at.ensures.front, c.front_len.ensures.len) (lacks_before c.args.byte c.args.text.now)
