@@ -3,7 +3,6 @@
 ghost use Rattle.std.specs.Prelude.{◌≡◌, ◌≤◌, IfSome, Some};
 ghost use Rattle.sched_base.specs.declared.limits.TheConstants.{MAX_LOAD, MAX_THREADS};
 ghost use Rattle.policy_tree.specs.Meaning.{batch_tree, meaning_of};
-ghost use Rattle.policy_eval.specs.Fitting.{CoreFits};
 ghost use Rattle.policy_eval.specs.Orders.{best_of};
 ghost use Rattle.policy_eval.specs.Ranges.{AreIn, attribute_ranges};
 ghost use Rattle.policy_eval.specs.Resolved.{IsResolved, IsResolvedBatch};
