@@ -3,12 +3,9 @@
 ghost use Rattle.std.specs.Prelude.{◌≡◌, ◌≤◌, IfSome, Some};
 ghost use Rattle.sched_base.specs.declared.limits.TheConstants.{MAX_LOAD, MAX_THREADS};
 ghost use Rattle.policy_tree.specs.Meaning.{batch_tree, meaning_of};
-ghost use Rattle.policy_eval.specs.Fitting.{CoreFits, IsTask};
 ghost use Rattle.policy_eval.specs.Orders.{best_of};
 ghost use Rattle.policy_eval.specs.Ranges.{AreIn, attribute_ranges};
 ghost use Rattle.policy_eval.specs.Resolved.{IsResolved, IsResolvedBatch};
-ghost use Rattle.policy_eval.specs.Sights.{move_values};
-ghost use Rattle.policy_eval.specs.Values.{holds as holds_at};
 ghost use Rattle.round_model.specs.Attempts.{first_of, next_of};
 ghost use Rattle.round_model.specs.Cores.{load_of, thread_count};
 ghost use Rattle.round_model.specs.Work.{before};
@@ -16,9 +13,9 @@ ghost use Rattle.batch_moves.specs.Sides.{InEachPlan, MayTake};
 ghost use Rattle.batch_moves.specs.Code.Moved.{present_values};
 
 use core_state::CoreState;
-use policy_eval::{CoreValues, Env, holds};
+use policy_eval::CoreValues;
 use policy_tree::{Batch, Policy};
-use round_model::may_steal;
+use round_model::{goes_on, may_steal};
 use sched_base::{MAX_ATTRIBUTES, Task};
 
 /// The thread that is moved first, by the cores as they are.
@@ -82,25 +79,6 @@ fn best(policy: &Policy, victim: &CoreState) -> Option<Task>
     ensures { result ≡ best_of (before (meaning_of policy.now).steal) victim.now.core.queue }
 {
     victim.queue().peek_for_steal(&policy.steal).copied()
-}
-
-/// Whether the batch goes on with that thread, by these values of thief and victim.
-fn goes_on(
-    policy: &Policy,
-    batch: &Batch,
-    own: &CoreValues,
-    other: &CoreValues,
-    task: &Task,
-) -> bool
-    requires policy { IsResolved (meaning_of policy.now) }
-    requires batch { IsResolvedBatch (meaning_of policy.now) (batch_tree batch.now) }
-    requires own { CoreFits (meaning_of policy.now) own.now }
-    requires other { CoreFits (meaning_of policy.now) other.now }
-    requires task { IsTask (meaning_of policy.now) task.now }
-    ensures { result ≡ holds_at (move_values own.now other.now task.now.weight task.now.attrs)
-        (batch_tree batch.now).condition }
-{
-    holds(&batch.cond, &Env::of_move(own, other, task))
 }
 
 /// What a policy may ask of the core as it is, with these constants.

@@ -59,7 +59,7 @@ fn whole_history(
     requires room { HasRoomForRounds plan.now }
     ensures { IfOk result (EndsWhole (meaning_of policy.now) plan.now) }
 {
-    match play_plan(alloc, policy, plan)? {
+    match play_plan(alloc, policy.policy(), plan)? {
         Played::Whole(history) => Ok(history),
         // No round comes due that might not fit.
         Played::Full(_history) => unreachable!(),

@@ -1,7 +1,7 @@
 -- So many lines are cut off a text, or the whole text where it has fewer.
 use Rattle.std.proofs.Common.{◌≡◌, ℕ, suc, ◌+◌, ◌-◌, ◌<◌, List, [], ◌∷◌, ◌++◌, length, take, drop, length-append, append_assoc, ap, sym, subst, ◌∙◌, refl, arith}
 use Rattle.std.proofs.lemmas.List.{append-nil, drop_all, drop_at, take_all, take_at}
-use Rattle.cert_text.specs.Cuts.{IsCut, Lacks}
+use Rattle.text_forms.specs.Cuts.{IsCut, Lacks}
 use Rattle.cert_file.specs.Reading.{AreLines, no_line, IsFront, feeds}
 use Rattle.cert_file.proofs.Feeds.{feeds_both, feeds_lines, feeds_none, more_lines}
 

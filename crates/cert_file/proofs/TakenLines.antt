@@ -9,7 +9,7 @@ use Rattle.sched_base.specs.declared.limits.TheConstants.{MAX_SPLITS}
 use Rattle.obligations.specs.declared.names.ObName.{ObName}
 use Rattle.obligations.specs.declared.names.ObName.TheVariants as name
 use Rattle.obligations.specs.Names.{ob_names, ob_text}
-use Rattle.cert_text.specs.Cuts.{Lacks}
+use Rattle.text_forms.specs.Cuts.{Lacks}
 use Rattle.cert_text.specs.Faults.{Takes}
 use Rattle.cert_text.proofs.BadLines.{same_line, takes_lacks_feed}
 use Rattle.cert_text.proofs.Digits.{decimal_lacks}

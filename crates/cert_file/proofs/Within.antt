@@ -1,6 +1,6 @@
 -- Where a bad line stands within a certificate, and where the text breaks off there.
 use Rattle.std.proofs.Common.{◌≡◌, ◌≢◌, ℕ, suc, ◌+◌, ◌-◌, ◌<◌, ◌^◌, List, [], ◌∷◌, ◌++◌, Result, Ok, Err, IfErr, length, length-append, append_assoc, ap, sym, subst, ◌∙◌, refl, arith}
-use Rattle.cert_text.specs.Cuts.{Lacks}
+use Rattle.text_forms.specs.Cuts.{Lacks}
 use Rattle.cert_text.specs.Faults.{Takes, IsBadAt, bad_here as cert_bad_here, bad_later as cert_bad_later}
 use Rattle.cert_text.specs.declared.fault.CertFault.{CertFault}
 use Rattle.cert_text.specs.declared.fault.CertFault.TheVariants.{BadText, Memory}

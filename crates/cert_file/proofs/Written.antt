@@ -11,7 +11,7 @@ use Rattle.obligations.specs.Names.{ob_names, ob_text, statement_of}
 use Rattle.obligations.specs.Systems.{systems_of}
 use Rattle.policy_checker.specs.Certified.{Certifies}
 use Rattle.policy_checker.specs.Refuted.{Refutes}
-use Rattle.cert_text.specs.Cuts.{is_byte}
+use Rattle.text_forms.specs.Cuts.{is_byte}
 use Rattle.cert_text.specs.Reading.{nodes_of}
 use Rattle.cert_text.specs.Text.{SpellsCertificate}
 use Rattle.cert_file.specs.Reading.{AreWritten, feeds}

@@ -10,7 +10,7 @@ use Rattle.obligations.specs.declared.obligation.Obligation.{Obligation}
 use Rattle.obligations.specs.Names.{ob_names}
 use Rattle.policy_checker.specs.Certified.{Certifies}
 use Rattle.policy_checker.specs.Refuted.{Refutes}
-use Rattle.cert_text.specs.Cuts.{Lacks, is_byte}
+use Rattle.text_forms.specs.Cuts.{Lacks, is_byte}
 use Rattle.cert_text.specs.Reading.{nodes_of}
 use Rattle.cert_text.specs.Text.{cert_text}
 use Rattle.cert_text.specs.declared.fault.CertFault.{CertFault}

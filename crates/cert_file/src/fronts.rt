@@ -2,7 +2,7 @@
 
 ghost use Rattle.cert_file.specs.Reading.{IsFront};
 
-use cert_text::cut;
+use text_forms::cut;
 
 /// The front of a text, and what stands behind it.
 #[derive(Drop)]

@@ -7,8 +7,9 @@ ghost use Rattle.cert_file.specs.BadLines.{parts};
 ghost use Rattle.cert_file.specs.Reading.{FailsFrom, HasNoLine, IsNextLine};
 ghost use Rattle.cert_file.specs.Text.{obligation_line, system_line};
 
-use cert_text::{CertFault, cut, narrow_in, unsigned_in};
+use cert_text::{CertFault, narrow_in, unsigned_in};
 use obligations::ObName;
+use text_forms::cut;
 
 /// What is left of a text, and the number of its first line.
 #[derive(Drop)]

@@ -4,7 +4,7 @@ ghost use Rattle.std.specs.Prelude.{◌≡◌, ◌++◌, ◌<◌, ◌^◌, IfOk,
 ghost use Rattle.std.specs.List.{AllByRecursion, count_by};
 ghost use Rattle.linear_cert.specs.Right.{IsShallow, cert_tree};
 ghost use Rattle.policy_tree.specs.Meaning.{meaning_of};
-ghost use Rattle.cert_text.specs.Cuts.{is_byte};
+ghost use Rattle.text_forms.specs.Cuts.{is_byte};
 ghost use Rattle.cert_file.specs.Answers.{IsWritten};
 ghost use Rattle.cert_file.specs.Reading.{AreWritten};
 ghost use Rattle.cert_file.specs.Text.{AreWritable, IsWritable, obligation_text, system_text, systems_text};

@@ -11,12 +11,12 @@ use Rattle.cert_text.specs.declared.fault.CertFault.{CertFault}
 use Rattle.cert_text.specs.declared.fault.CertFault.TheVariants.{BadText, Memory}
 use Rattle.cert_text.specs.declared.node.Node.{Node}
 use Rattle.cert_text.specs.declared.node.Node.TheVariants as node
-use Rattle.cert_text.specs.Cuts.{Lacks, IsCut}
+use Rattle.text_forms.specs.Cuts.{Lacks, IsCut}
 use Rattle.cert_text.specs.Faults.{Takes, takes_leaf, takes_split, IsBadAt, bad_here, bad_later, IsFirstBadLine}
 use Rattle.cert_text.specs.Nodes.{IsLineOf, IsNoLine, word_of}
 use Rattle.cert_text.specs.Reading.{MayStand, IsNextNode, IsPart, FailsIn, nodes_of}
 use Rattle.cert_text.specs.Text.{AreInRange, IsMult, IsSplit, cert_text, leaf_line, mult_text, mults_text, split_line}
-use Rattle.cert_text.proofs.Cuts.{same_cut}
+use Rattle.text_forms.proofs.Cutting.{same_cut}
 use Rattle.cert_text.proofs.Digits.{decimal_lacks}
 use Rattle.cert_text.proofs.Words.{nowhere}
 

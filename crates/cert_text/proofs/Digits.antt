@@ -8,7 +8,7 @@ use Rattle.std.proofs.lemmas.List.Elements.{All-nil, All-cons, All-append}
 use Rattle.std.proofs.lemmas.Fmt.{digits_decimal}
 use Rattle.std.proofs.lemmas.Str.Parse.{IsNumeralModel, numerals_by_fold}
 use Rattle.linear_cert.specs.declared.cert.Mult.{Mult}
-use Rattle.cert_text.specs.Cuts.{Lacks}
+use Rattle.text_forms.specs.Cuts.{Lacks}
 use Rattle.cert_text.specs.Nodes.{word_of}
 use Rattle.cert_text.specs.Text.{IsMult}
 

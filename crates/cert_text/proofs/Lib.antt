@@ -1,5 +1,4 @@
 pub mod BadLines
-pub mod Cuts
 pub mod Digits
 pub mod ManyMults
 pub mod Mults

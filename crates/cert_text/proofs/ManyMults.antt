@@ -1,10 +1,10 @@
 -- Multipliers that are read one after another.
 use Rattle.std.proofs.Common.{◌≡◌, ℕ, suc, ◌<◌, List, [], ◌∷◌, ◌++◌, length, append_assoc, length-append, ap, sym, ◌∙◌, refl, arith}
 use Rattle.linear_cert.specs.declared.cert.Mult.{Mult}
-use Rattle.cert_text.specs.Cuts.{StartsWith}
+use Rattle.text_forms.specs.Cuts.{StartsWith}
 use Rattle.cert_text.specs.Nodes.{AreMults, BeginsWithMult, BeginsWithNoMult}
 use Rattle.cert_text.specs.Text.{mult_text, mults_text}
-use Rattle.cert_text.proofs.Cuts.{same_cut}
+use Rattle.text_forms.proofs.Cutting.{same_cut}
 use Rattle.cert_text.proofs.Digits.{word_lacks_space}
 use Rattle.cert_text.proofs.Mults.{mults_text-append, mults_text-one}
 

@@ -16,7 +16,7 @@ use Rattle.cert_text.specs.Laws.{OneReading}
 use Rattle.cert_text.specs.Nodes.{word_of}
 use Rattle.cert_text.specs.Reading.{nodes_of}
 use Rattle.cert_text.specs.Text.{AreInRange, IsMult, IsSplit, SpellsCertificate, cert_text, leaf_line, mults_text, split_line}
-use Rattle.cert_text.proofs.Cuts.{same_cut}
+use Rattle.text_forms.proofs.Cutting.{same_cut}
 use Rattle.cert_text.proofs.Digits.{decimal_lacks, word_lacks_space}
 use Rattle.cert_text.proofs.ManyMults.{spaced}
 use Rattle.cert_text.proofs.BadLines.{leaf_lacks_feed, leaf_not_split, same_line, split_lacks_feed, takes_lacks_feed, takes_with_room}

@@ -6,10 +6,10 @@ use Rattle.std.proofs.lemmas.Bool.Decides.{Decides-eqb}
 use Rattle.std.proofs.lemmas.Slice.Eq.{slice_eq-Decides}
 use lib.Pointwise.{pointwise}
 use Rattle.linear_cert.specs.declared.cert.Mult.{Mult}
-use Rattle.cert_text.specs.Cuts.{Lacks, IsCut, StartsWith}
+use Rattle.text_forms.specs.Cuts.{Lacks, IsCut, StartsWith}
 use Rattle.cert_text.specs.Nodes.{BeginsWithMult, word_of}
 use Rattle.cert_text.specs.Text.{IsMult}
-use Rattle.cert_text.proofs.Cuts.{same_cut}
+use Rattle.text_forms.proofs.Cutting.{same_cut}
 use Rattle.cert_text.proofs.Digits.{decimal_lacks, word_lacks_space}
 
 -- a text that lacks a byte has it nowhere

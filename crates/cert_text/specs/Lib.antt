@@ -1,5 +1,4 @@
 pub mod Answers
-pub mod Cuts
 pub mod Faults
 pub mod Laws
 pub mod Nodes

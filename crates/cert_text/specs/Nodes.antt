@@ -3,7 +3,7 @@ use Rattle.std.specs.Prelude.{◌≡◌, ◌≢◌, ℕ, List, ◌∷◌, ◌++�
 use Rattle.linear_cert.specs.declared.cert.Mult.{Mult}
 use Rattle.cert_text.specs.declared.node.Node.{Node}
 use Rattle.cert_text.specs.declared.node.Node.TheVariants.{Leaf, Split}
-use Rattle.cert_text.specs.Cuts.{StartsWith}
+use Rattle.text_forms.specs.Cuts.{StartsWith}
 use Rattle.cert_text.specs.Text.{IsMult, IsSplit, leaf_line, mult_text, mults_text, split_line}
 
 -- the line is that of the node

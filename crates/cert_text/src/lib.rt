@@ -7,7 +7,6 @@
 
 mod fault;
 mod laws;
-mod lines;
 mod node;
 mod numbers;
 mod reading;
@@ -15,7 +14,6 @@ mod writing;
 
 pub use fault::{CertFault, CertText};
 pub use laws::law_one_reading;
-pub use lines::cut;
 pub use numbers::{narrow_in, unsigned_in};
 pub use reading::read_cert;
 pub use writing::{put_number, write_cert};

@@ -6,11 +6,11 @@ ghost use Rattle.cert_text.specs.Nodes.{AreMults, AreNoMults, BeginsWithMult, Be
 ghost use Rattle.cert_text.specs.Nodes.{word_of};
 ghost use Rattle.cert_text.specs.Text.{IsMult, IsSplit, split_line};
 
-use crate::lines::{cut, front};
 use crate::numbers::{narrow_in, signed_in, unsigned_in};
 use linear_cert::{Mult, MultList};
 use lists::Items;
 use std::alloc::{AllocError, Global};
+use text_forms::{cut, front};
 
 /// A node without its parts.
 #[derive(Drop)]

@@ -7,11 +7,11 @@ ghost use Rattle.cert_text.specs.Reading.{FailsIn, IsNextNode, IsPart, MayStand}
 ghost use Rattle.cert_text.specs.Text.{SpellsCertificate};
 
 use crate::fault::CertFault;
-use crate::lines::cut;
 use crate::node::{Node, node_in};
 use linear_cert::Cert;
 use sched_base::MAX_SPLITS;
 use std::alloc::Global;
+use text_forms::cut;
 
 /// The certificate that the text spells, or the first bad line. It calls itself for the parts of a
 /// split, at most `MAX_SPLITS` deep.

@@ -6,6 +6,11 @@ pub mod Drawn
 pub mod Held
 pub mod Sending
 pub mod Turning
-pub mod Arrivals
-pub mod TurnEnds
 pub mod Crossing
+pub mod Knowing
+pub mod Growing
+pub mod Entered
+pub mod WakingSteps
+pub mod Trying
+pub mod Ending
+pub mod TurnEnds

@@ -1,4 +1,3 @@
-pub mod Arrivals
 pub mod Finishes
 pub mod Sends
 pub mod Wakes

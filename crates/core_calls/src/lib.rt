@@ -8,13 +8,14 @@
 
 mod acting;
 pub mod actor;
-mod arriving;
 mod away;
 mod calling;
 pub mod calls;
 mod entering;
 mod finishing;
 pub mod seat_calls;
+mod stepping;
+mod steps;
 pub mod turned;
 mod turns;
 mod waking;
@@ -23,5 +24,6 @@ mod working;
 pub use crate::actor::Actor;
 pub use crate::calls::CoreCalls;
 pub use crate::seat_calls::SeatCalls;
+pub use crate::stepping::crew_step;
 pub use crate::turned::Turned;
 pub use crate::turns::turn;

@@ -1,8 +1,7 @@
 -- The rounds of serial play over running cores.
 use Rattle.std.proofs.Common.{◌∙◌, ◌≡◌, ◌<◌, ◌≤◌, ℕ, ◌+◌, [], length, false, None, refl, sym, subst, arith}
 use Rattle.policy_tree.specs.Meaning.{Meaning}
-use Rattle.policy_eval.specs.Obligations.{MeetsHandlerObligations, MeetsObligations}
-use Rattle.policy_eval.proofs.Statements.{handler_obligations}
+use Rattle.policy_eval.specs.Obligations.{MeetsHandlerObligations}
 use Rattle.round_laws.proofs.MainTheorem.{main_theorem}
 use Rattle.round_model.specs.declared.plan.Plan.{Plan}
 use Rattle.round_model.specs.Fits.{Fits}
@@ -29,10 +28,7 @@ pub record HasPlayed (p : Meaning) (plan : Plan) (k : ℕ) (run : Run) : Type 0 
 pub none_played : (p : Meaning) (plan : Plan) (run : Run) → IsRunOf p plan run (record { history = []; looks = λ c. None }) → HasPlayed p plan 0 run
 none_played p plan run at = record { state = record { history = []; looks = λ c. None }; at = at; serial = refl; fitted = λ j none. absurd (omega arith) }
 
-module _ (p : Meaning) (plan : Plan) (fits : Fits p plan) (meets : MeetsObligations p) (k : ℕ) (run : Run) (played : HasPlayed p plan k run) where
-  abbrev handlers : MeetsHandlerObligations p
-  handlers = handler_obligations p meets
-
+module _ (p : Meaning) (plan : Plan) (fits : Fits p plan) (handlers : MeetsHandlerObligations p) (k : ℕ) (run : Run) (played : HasPlayed p plan k run) where
   pub count_is : run.cores.entries ≡ length played.state.history
   count_is = played.at.cores.entries
 
@@ -61,7 +57,7 @@ module _ (p : Meaning) (plan : Plan) (fits : Fits p plan) (meets : MeetsObligati
     cores = same ∙ played.at.cores.cores;
     logs = logs;
     ends = ended_whole p plan fits handlers k played.state.history within played.serial none played.fitted;
-    keeps = main_theorem p meets plan played.state.history fits played.at.legal;
+    keeps = λ meets. main_theorem p meets plan played.state.history fits played.at.legal;
   }
 
   pub played_all : (closed : ClosedView) → closed.cores ≡ run.cores.cores → LogsOf played.state.history closed → k ≡ plan.rounds → PlaysWhole p plan closed
@@ -75,5 +71,5 @@ module _ (p : Meaning) (plan : Plan) (fits : Fits p plan) (meets : MeetsObligati
     cores = same ∙ played.at.cores.cores;
     logs = logs;
     stops = stopped_full p plan fits handlers k played.state.history played.serial due (λ room. full (subst (RoundFits plan) (sym count_is) room)) played.fitted;
-    keeps = main_theorem p meets plan played.state.history fits played.at.legal;
+    keeps = λ meets. main_theorem p meets plan played.state.history fits played.at.legal;
   }

@@ -2,7 +2,7 @@
 
 ghost use Rattle.std.specs.Prelude.{◌≡◌, IfErr, IfOk};
 ghost use Rattle.policy_tree.specs.Meaning.{meaning_of};
-ghost use Rattle.policy_eval.specs.Obligations.{MeetsHandlerObligations, MeetsObligations};
+ghost use Rattle.policy_eval.specs.Obligations.{MeetsHandlerObligations};
 ghost use Rattle.round_model.specs.Fits.{Fits};
 ghost use Rattle.round_model.specs.Limits.{IsWithinLimits};
 ghost use Rattle.serial_steps.specs.SerialRounds.{with_round};
@@ -13,7 +13,6 @@ ghost use Rattle.core_worker.specs.Runs.{IsRunOf, MayBegin};
 use crate::fault::PlayFault;
 use crate::run::Run;
 use core_state::Closed;
-use policy_checker::AcceptedPolicy;
 use policy_tree::Policy;
 use round_model::Plan;
 use serial_steps::round_fits;
@@ -23,20 +22,10 @@ use std::alloc::Global;
 ///
 /// Before each round all entries that it may have must fit the limit: its beginning, two for each core, and one for
 /// each thread.
-pub fn play_rounds(alloc: Global, policy: &AcceptedPolicy, plan: &Plan) -> Result<Closed, PlayFault>
+pub fn play_rounds(alloc: Global, policy: &Policy, plan: &Plan) -> Result<Closed, PlayFault>
     requires fits { Fits (meaning_of policy.now) plan.now }
     requires limits { IsWithinLimits plan.now }
-    ensures whole { IfOk result (PlaysWhole (meaning_of policy.now) plan.now) }
-    ensures fault { IfErr result (IsFaultOf (meaning_of policy.now) plan.now) }
-{
-    play_under(alloc, policy.policy(), plan)
-}
-
-/// The same under a policy that meets its obligations.
-fn play_under(alloc: Global, policy: &Policy, plan: &Plan) -> Result<Closed, PlayFault>
-    requires fits { Fits (meaning_of policy.now) plan.now }
-    requires limits { IsWithinLimits plan.now }
-    requires meets { MeetsObligations (meaning_of policy.now) }
+    requires handlers { MeetsHandlerObligations (meaning_of policy.now) }
     ensures whole { IfOk result (PlaysWhole (meaning_of policy.now) plan.now) }
     ensures fault { IfErr result (IsFaultOf (meaning_of policy.now) plan.now) }
 {

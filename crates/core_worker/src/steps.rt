@@ -7,11 +7,8 @@ ghost use Rattle.round_model.specs.Updates.{IsFirstPlace};
 ghost use Rattle.round_model.specs.Fits.{Fits};
 ghost use Rattle.round_model.specs.Limits.{IsWithinLimits};
 ghost use Rattle.round_model.specs.Moves.{without_first};
-ghost use Rattle.round_judge.specs.declared.past.Arrival.{Arrival};
-ghost use Rattle.round_judge.specs.Additions.{ended_by};
-ghost use Rattle.round_judge.specs.Past.{arrives_at};
 ghost use Rattle.serial_steps.specs.Serial.{SerialState, step_of};
-ghost use Rattle.core_worker.specs.Runs.{Enters, HasLooked, IsAt, IsLate, IsMoment, OwesLook, OwesUnit, Steps, Wakes};
+ghost use Rattle.core_worker.specs.Runs.{Enters, HasLooked, IsAt, IsMoment, OwesLook, OwesUnit, Steps, Wakes};
 
 use crate::run::Run;
 use crate::turn::Look;
@@ -20,6 +17,7 @@ use policy_tree::Policy;
 use round_judge::{Arrival, first_arrival, note_end};
 use round_model::{Did, Plan};
 use sched_base::{CoreId, ThreadId};
+use serial_steps::{NextInTurn, next_in_turn};
 
 impl Run {
     /// Takes the core's next step, if its turn isn't over. Whether it took one.
@@ -33,39 +31,17 @@ impl Run {
         ensures over { IsFalse result → (s : SerialState) → IsMoment (meaning_of policy.now) plan.now self.old s →
             step_of (meaning_of policy.now) plan.now s core ≡ s }
     {
-        if let Some(thread) = first_arrival(self.arrivals.as_slice(), core) {
-            self.let_in(policy, plan, core, thread);
-            return true;
-        }
-        if let Some(thread) = self.cores.due(core, self.round) {
-            self.wake(policy, plan, core, thread);
-            return true;
-        }
-        self.late_step(policy, plan, core)
-    }
-
-    /// The same of a core that has no thread left to let in or to wake.
-    fn late_step(&mut self, policy: &Policy, plan: &Plan, core: CoreId) -> bool
-        requires fits { Fits (meaning_of policy.now) plan.now }
-        requires limits { IsWithinLimits plan.now }
-        requires handlers { MeetsHandlerObligations (meaning_of policy.now) }
-        requires at { IsAt (meaning_of policy.now) plan.now (IsLate (meaning_of policy.now) plan.now core) self.old }
-        requires core { core < plan.now.cores }
-        ensures step { Steps (meaning_of policy.now) plan.now core (IsLate (meaning_of policy.now) plan.now core)
-            self.old self.new }
-        ensures over { IsFalse result → (s : SerialState) → IsMoment (meaning_of policy.now) plan.now self.old s →
-            IsLate (meaning_of policy.now) plan.now core s → step_of (meaning_of policy.now) plan.now s core ≡ s }
-    {
-        if self.turns.attempted[core as usize] {
-            return false;
-        }
-        if !self.turns.worked[core as usize] {
-            self.work(policy, plan, core);
-            return true;
-        }
-        match self.turns.looks[core as usize] {
-            None => self.look(policy, plan, core),
-            Some(look) => self.attempt(policy, plan, core, look),
+        let at = core as usize;
+        let (worked, attempted) = (self.turns.worked[at], self.turns.attempted[at]);
+        let entering = first_arrival(self.arrivals.as_slice(), core);
+        let due = self.cores.due(core, self.round);
+        match next_in_turn(entering, due, worked, attempted, self.turns.looks[at]) {
+            NextInTurn::Enter(thread) => self.let_in(policy, plan, core, thread),
+            NextInTurn::Wake(thread) => self.wake(policy, plan, core, thread),
+            NextInTurn::Work => self.work(policy, plan, core),
+            NextInTurn::Look => self.look(policy, plan, core),
+            NextInTurn::Attempt(look) => self.attempt(policy, plan, core, look),
+            NextInTurn::Over => return false,
         }
         true
     }

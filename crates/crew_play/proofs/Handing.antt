@@ -22,7 +22,7 @@ use Rattle.turn_steps.specs.States.{TurnState, first_state}
 use Rattle.turn_steps.specs.Views.{told_of}
 use Rattle.crew_play.specs.declared.hands.Hand.{Hand}
 use Rattle.crew_play.specs.Hands.{AllOver, IsCrew, IsHandOf, Nobody, dealt, turn_in}
-use Rattle.crew_play.specs.Steps.{HasLooked, IsPlaying, IsSameTurn}
+use Rattle.core_calls.specs.Stepping.{HasLooked, IsPlaying, IsSameTurn}
 
 -- a turn that was told nothing, by a seat that drew nothing
 pub fresh_playing : (core : ℕ) (v : View) (t : TurnState) → IsFresh v core → t ≡ first_state v.plan core v.round → IsPlaying t v

@@ -1,9 +1,3 @@
-pub mod Knowing
-pub mod Growing
-pub mod Entered
-pub mod Waking
-pub mod Trying
-pub mod Ending
 pub mod Places
 pub mod Handing
 pub mod Passing

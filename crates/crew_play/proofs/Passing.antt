@@ -12,8 +12,8 @@ use Rattle.turn_steps.specs.Reaches.{IsOver}
 use Rattle.turn_steps.specs.States.{TurnState}
 use Rattle.crew_play.specs.declared.hands.Hand.{Hand}
 use Rattle.crew_play.specs.Hands.{AllOver, AreSteps, IsCrew, turn_in}
-use Rattle.crew_play.specs.Steps.{IsToldMore, Steps}
-use Rattle.crew_play.proofs.Knowing.{told_within}
+use Rattle.core_calls.specs.Stepping.{IsToldMore, Steps}
+use Rattle.core_calls.proofs.Knowing.{told_within}
 
 -- what a step did, by whether the turn was over
 pub step_of : (goes : Bool) (t u : TurnState) (before now : View) → Steps goes t u before now → ((goes ≡ false) ↔ IsOver t.reached) → (IsTrue goes → IsToldMore t u)

@@ -10,7 +10,7 @@ use Rattle.core_table.specs.Views.{leaving}
 use Rattle.turn_steps.specs.Reaches.{IsOver}
 use Rattle.turn_steps.specs.States.{TurnState, state_of}
 use Rattle.crew_play.specs.declared.hands.Hand.{Hand}
-use Rattle.crew_play.specs.Steps.{HasLooked, IsPlaying, IsToldMore}
+use Rattle.core_calls.specs.Stepping.{HasLooked, IsPlaying, IsToldMore}
 
 -- the turn of the hand
 abbrev pub turn_in : Hand → TurnState

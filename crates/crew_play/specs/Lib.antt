@@ -1,4 +1,3 @@
 pub mod Crews
 pub mod Hands
 pub mod Room
-pub mod Steps

@@ -12,9 +12,6 @@ mod hand_lists;
 pub mod hands;
 mod playing;
 mod rounds;
-mod stepping;
-mod steps;
 
 pub use crate::fault::CrewFault;
 pub use crate::rounds::run_crew;
-pub use crate::stepping::crew_step;

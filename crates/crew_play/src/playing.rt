@@ -6,8 +6,7 @@ ghost use Rattle.turn_steps.specs.Reaches.{IsOver};
 ghost use Rattle.crew_play.specs.Hands.{AllOver, AreSteps, IsCrew, IsHandOf, IsStep, turn_in};
 
 use crate::hands::Hand;
-use crate::stepping::crew_step;
-use core_calls::SeatCalls;
+use core_calls::{SeatCalls, crew_step};
 use parallel_play::Stage;
 use sched_io::Gate;
 use std::sync::Wait;

@@ -3,7 +3,6 @@
 ghost use Rattle.std.specs.Prelude.{◌≡◌, ◌≤◌, ℕ, length, IfErr, IfOk, IsTrue};
 ghost use Rattle.sched_base.specs.declared.limits.TheConstants.{MAX_WORKERS};
 ghost use Rattle.policy_tree.specs.Meaning.{meaning_of};
-ghost use Rattle.policy_eval.specs.Obligations.{MeetsObligations};
 ghost use Rattle.round_model.specs.Fits.{Fits};
 ghost use Rattle.round_model.specs.Limits.{IsWithinLimits};
 ghost use Rattle.core_table.specs.Public.{Becomes, plan_of, policy_of};
@@ -20,7 +19,6 @@ use crate::hands::Hand;
 use core_state::Closed;
 use core_table::{Seat, Table};
 use parallel_play::{Stage, Tally};
-use policy_checker::AcceptedPolicy;
 use policy_tree::Policy;
 use round_model::Plan;
 use sched_io::Gate;
@@ -39,7 +37,7 @@ use std::thread::Threads;
 pub fn run_crew<R: Threads + Wait + Sync, G: Gate + Sync>(
     rt: &R,
     alloc: Global,
-    policy: &AcceptedPolicy,
+    policy: &Policy,
     plan: &Plan,
     table: Table,
     seat: Seat,
@@ -59,13 +57,13 @@ pub fn run_crew<R: Threads + Wait + Sync, G: Gate + Sync>(
     let Ok(lists) = make_lists(alloc, workers, plan.cores) else {
         return Err(CrewFault::Memory(table, seat));
     };
-    match run_under(rt, policy.policy(), plan, table, seat, workers, lists, gate) {
+    match run_under(rt, policy, plan, table, seat, workers, lists, gate) {
         Ok(closed) => Ok(closed),
         Err(closed) => Err(CrewFault::HistoryFull(closed)),
     }
 }
 
-/// The same under a policy that meets its obligations, with a list for each worker. An error has the cores as the
+/// The same with a list for each worker. An error has the cores as the
 /// complete rounds left them where the next might not fit the limit.
 fn run_under<R: Threads + Wait + Sync, G: Gate + Sync>(
     rt: &R,
@@ -79,7 +77,6 @@ fn run_under<R: Threads + Wait + Sync, G: Gate + Sync>(
 ) -> Result<Closed, Closed>
     requires fits { Fits (meaning_of policy.now) plan.now }
     requires limits { IsWithinLimits plan.now }
-    requires meets { MeetsObligations (meaning_of policy.now) }
     requires opened { (policy.now ≡ policy_of table) × (plan.now ≡ plan_of table) }
     requires seat { Becomes table seat (first_view policy.now plan.now) }
     requires workers { (1 ≤ workers) × (length lists.items ≡ workers) }

@@ -8,13 +8,13 @@ use Rattle.round_model.specs.declared.entry.Entry.TheVariants as entry
 use Rattle.sched_history.specs.declared.forms.LineForm.{LineForm}
 use Rattle.sched_history.specs.Ranges.{ArePlacementReads, AreReads, IsCoreNumber, IsRoundNumber, IsThreadNumber}
 use Rattle.sched_history.specs.Spelling.{reads_in, spaced, spaced_number, words_in}
-use Rattle.history_reader.specs.Code.Cuts.{IsCut, Lacks, StartsWith}
+use Rattle.text_forms.specs.Cuts.{IsCut, Lacks, StartsWith}
 use Rattle.history_reader.specs.Code.Kinds.{IsLineOf, IsLineOfNone, IsNoRestOf, IsRest, IsRestOf, IsRestOfDid, kind_of, name_of}
 use Rattle.history_reader.specs.Code.Numbers.{BeginsWithNoNumber, BeginsWithNumber, BeginsWithThreads}
 use Rattle.history_reader.specs.Reading.{BeginsWith}
 use Rattle.history_reader.specs.declared.line.Kind.{Kind}
 use Rattle.history_reader.specs.declared.line.Kind.TheVariants as kind
-use Rattle.history_reader.proofs.Cutting.{same_cut}
+use Rattle.text_forms.proofs.Cutting.{same_cut}
 use Rattle.history_reader.proofs.Entries.{line_parts, no_dash, same_kind, small_core, starts_did, words_lack_feed, words_parts}
 use Rattle.history_reader.proofs.Parts.{same_number}
 use Rattle.history_reader.proofs.ReadsTexts.{reads_no_thread, starts_reads}

@@ -7,7 +7,7 @@ use Rattle.std.proofs.lemmas.Bool.Decides.{nat_tests}
 use Rattle.std.proofs.lemmas.List.Elements.{All-nil, All-cons}
 use Rattle.std.proofs.lemmas.Fmt.{digits_decimal}
 use Rattle.std.proofs.lemmas.Str.Parse.{IsNumeralModel, numerals_by_fold}
-use Rattle.history_reader.specs.Code.Cuts.{Lacks}
+use Rattle.text_forms.specs.Cuts.{Lacks}
 
 abbrev read_on : ℕ → List ℕ → ℕ
 read_on n [] = n

@@ -11,11 +11,11 @@ use Rattle.sched_history.specs.declared.forms.LineForm.{LineForm}
 use Rattle.sched_history.specs.declared.forms.LineForm.TheVariants as form
 use Rattle.sched_history.specs.Ranges.{IsCoreNumber, IsPrintable, IsThreadNumber, NamesThread}
 use Rattle.sched_history.specs.Spelling.{reads_in, spaced, spaced_number, words_in}
-use Rattle.history_reader.specs.Code.Cuts.{Lacks, StartsWith}
+use Rattle.text_forms.specs.Cuts.{Lacks, StartsWith}
 use Rattle.history_reader.specs.Code.Kinds.{kind_of, name_of, rest_of, rest_of_did}
 use Rattle.history_reader.specs.declared.line.Kind.{Kind}
 use Rattle.history_reader.specs.declared.line.Kind.TheVariants as kind
-use Rattle.history_reader.proofs.Cutting.{same_cut}
+use Rattle.text_forms.proofs.Cutting.{same_cut}
 use Rattle.history_reader.proofs.Digits.{decimal_lacks}
 use Rattle.history_reader.proofs.Parts.{lacks_text}
 use Rattle.history_reader.proofs.Threads.{threads_lack}

@@ -1,5 +1,4 @@
 pub mod Behind
-pub mod Cutting
 pub mod Decision
 pub mod Digits
 pub mod EachText

@@ -8,9 +8,9 @@ use Rattle.round_model.specs.declared.entry.Entry.TheVariants as entry
 use Rattle.sched_history.specs.declared.forms.LineForm.{LineForm}
 use Rattle.sched_history.specs.Ranges.{IsCoreNumber, IsPrintable, IsThreadNumber, NamesThread}
 use Rattle.sched_history.specs.Spelling.{line_in, reads_in, spaced_number, words_in}
-use Rattle.history_reader.specs.Code.Cuts.{StartsWith}
+use Rattle.text_forms.specs.Cuts.{StartsWith}
 use Rattle.history_reader.specs.Code.Kinds.{kind_of, name_of, rest_of, rest_of_did}
-use Rattle.history_reader.proofs.Cutting.{same_cut}
+use Rattle.text_forms.proofs.Cutting.{same_cut}
 use Rattle.history_reader.proofs.Entries.{fate_of, no_dash, small_core, space_lacks, starts_did, starts_rest, thread_of, words_lack_feed, words_parts}
 use Rattle.history_reader.proofs.Parts.{same_number}
 use Rattle.history_reader.proofs.ReadsTexts.{reads_no_thread, same_placement, same_reads, starts_reads}

@@ -8,8 +8,8 @@ use Rattle.std.proofs.lemmas.Slice.Eq.{slice_eq-Decides}
 use Rattle.std.proofs.lemmas.Fmt.{decimal_injective}
 use lib.Pointwise.{pointwise}
 use Rattle.sched_history.specs.Spelling.{spaced_number}
-use Rattle.history_reader.specs.Code.Cuts.{Lacks, StartsWith, is_byte}
-use Rattle.history_reader.proofs.Cutting.{same_cut}
+use Rattle.text_forms.specs.Cuts.{Lacks, StartsWith, is_byte}
+use Rattle.text_forms.proofs.Cutting.{same_cut}
 use Rattle.history_reader.proofs.Digits.{decimal_lacks}
 
 -- a text that lacks a byte has it nowhere

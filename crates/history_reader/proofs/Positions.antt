@@ -6,7 +6,7 @@ use Rattle.sched_base.specs.declared.limits.TheConstants.{MAX_ENTRIES}
 use Rattle.sched_history.specs.Ranges.{AreUpTo, IsPositionFrom}
 use Rattle.sched_history.specs.Spelling.{distances, spaced, spaced_number}
 use Rattle.sched_history.proofs.Distances.{length-distances}
-use Rattle.history_reader.specs.Code.Cuts.{Lacks, StartsWith}
+use Rattle.text_forms.specs.Cuts.{Lacks, StartsWith}
 use Rattle.history_reader.specs.Code.Numbers.{BeginsWithNoNumber, BeginsWithNumber, IsWithin}
 use Rattle.history_reader.proofs.Digits.{decimal_lacks}
 use Rattle.history_reader.proofs.Parts.{same_number}

@@ -9,9 +9,9 @@ use Rattle.sched_history.specs.declared.forms.TheConstants.{FIRST_FORMAT_CORES}
 use Rattle.sched_history.specs.Ranges.{AreOneEach, ArePlacementReads, AreReads, AreUpTo, IsPositionFrom, IsThreadNumber}
 use Rattle.sched_history.specs.Spelling.{behind_colon, distances, reads_from, reads_in, spaced}
 use Rattle.sched_history.proofs.Distances.{distances-zero, with_colon}
-use Rattle.history_reader.specs.Code.Cuts.{Lacks, StartsWith}
+use Rattle.text_forms.specs.Cuts.{Lacks, StartsWith}
 use Rattle.history_reader.specs.Code.Numbers.{BeginsWithNoNumber, IsWithin}
-use Rattle.history_reader.proofs.Cutting.{same_cut}
+use Rattle.text_forms.proofs.Cutting.{same_cut}
 use Rattle.history_reader.proofs.Digits.{decimal_lacks, decimal_lacks_other}
 use Rattle.history_reader.proofs.Parts.{lacks_text}
 use Rattle.history_reader.proofs.Positions.{distances_within, same_positions, same_spaced, spaced_lacks, starts_spaced}

@@ -5,7 +5,7 @@ use Rattle.std.proofs.lemmas.List.Elements.{All-append, All-head, All-nil, All-p
 use Rattle.sched_base.specs.declared.limits.TheConstants.{MAX_STOLEN}
 use Rattle.sched_history.specs.Ranges.{AreStolen, IsThreadNumber}
 use Rattle.sched_history.specs.Spelling.{spaced, spaced_number}
-use Rattle.history_reader.specs.Code.Cuts.{Lacks, StartsWith}
+use Rattle.text_forms.specs.Cuts.{Lacks, StartsWith}
 use Rattle.history_reader.specs.Code.Numbers.{BeginsWithNoNumber, BeginsWithNumber, BeginsWithThreads}
 use Rattle.history_reader.proofs.Parts.{same_number}
 use Rattle.history_reader.proofs.Positions.{number_lacks, spaced-cons, spaced-nil}

@@ -1,7 +1,6 @@
 //! Reads the text of a history: a line for each of its entries, in the one spelling that it is printed in.
 #![tactic(auto)]
 
-mod cuts;
 mod fault;
 mod laws;
 mod line;

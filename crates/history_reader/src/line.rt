@@ -5,11 +5,11 @@ ghost use Rattle.history_reader.specs.Code.Kinds.{IsLineOf, IsLineOfNone, IsNoRe
 ghost use Rattle.history_reader.specs.Code.Kinds.{IsRightForm, name_of};
 ghost use Rattle.history_reader.specs.Reading.{BeginsWith, BeginsWithNone};
 
-use crate::cuts::{cut, front};
 use crate::rests::{enter_in, fail_in, pass_in, round_in, steal_in, wake_in};
 use crate::work::work_in;
 use round_model::Entry;
 use sched_history::LineForm;
+use text_forms::{cut, front};
 
 /// A kind of entry.
 #[derive(Clone, Copy)]

@@ -4,10 +4,9 @@ ghost use Rattle.std.specs.Prelude.{MatchOption};
 ghost use Rattle.sched_history.specs.Ranges.{IsCoreNumber, IsRoundNumber, IsThreadNumber};
 ghost use Rattle.history_reader.specs.Code.Numbers.{BeginsWithNoNumber, BeginsWithNumber, BeginsWithThreads, IsWithin};
 
-use crate::cuts::front;
 use sched_base::{CoreId, MAX_CORES, MAX_ROUNDS, MAX_STOLEN, MAX_THREADS, Stolen, ThreadId};
 use sched_history::{FIRST_FORMAT_CORES, LineForm};
-use text_forms::exact_number_in;
+use text_forms::{exact_number_in, front};
 
 /// The number of a round that the text begins with, and what stands behind it.
 pub fn round_at(text: &[u8]) -> Option<(u32, &[u8])>

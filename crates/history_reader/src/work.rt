@@ -1,7 +1,7 @@
 //! Reads what stands behind the first word of a unit of work.
 
 ghost use Rattle.std.specs.Prelude.{◌++◌, MatchOption};
-ghost use Rattle.history_reader.specs.Code.Cuts.{StartsWith};
+ghost use Rattle.text_forms.specs.Cuts.{StartsWith};
 ghost use Rattle.round_model.specs.declared.entry.Did.{Did};
 ghost use Rattle.sched_history.specs.Ranges.{IsThreadNumber};
 ghost use Rattle.sched_history.specs.Spelling.{spaced_number};

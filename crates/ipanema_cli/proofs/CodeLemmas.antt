@@ -21,14 +21,12 @@ use Rattle.trace_play.specs.declared.cores.PlayedCores.TheVariants as cores
 use Rattle.history_replay.specs.declared.answer.HistoryAnswer.{HistoryAnswer}
 use Rattle.history_replay.specs.declared.answer.HistoryAnswer.TheVariants as judged
 use Rattle.history_replay.specs.declared.refusal.HistoryRefusal.TheVariants as no_history
-use Rattle.serial_steps.specs.declared.serial.Played.{Played}
-use Rattle.serial_steps.specs.declared.serial.Played.TheVariants as played
 use Rattle.trace_simulation.specs.declared.answer.PlayedWaste.TheVariants as wasted
 use Rattle.trace_simulation.specs.declared.answer.SimulationAnswer.{SimulationAnswer}
 use Rattle.trace_simulation.specs.declared.answer.SimulationAnswer.TheVariants as simulation
 use Rattle.ipanema_cli.specs.Answers.{status_of}
 use Rattle.ipanema_cli.specs.Causes.{OneOf}
-use Rattle.ipanema_cli.specs.Status.{bound_status, check_status, code_of, gap_status, outcome_status, played_status, rest_status, simulation_status, verify_status}
+use Rattle.ipanema_cli.specs.Status.{bound_status, check_status, code_of, gap_status, outcome_status, rest_status, simulation_status, verify_status}
 use Rattle.ipanema_cli.specs.declared.answers.Answer.{Answer}
 use Rattle.ipanema_cli.specs.declared.answers.Answer.TheVariants as answer
 use Rattle.ipanema_cli.proofs.WritesLemmas.{is_0, is_1, is_2, is_3, is_7, is_8, is_9, is_10, is_11, answer_code}
@@ -75,11 +73,8 @@ verify_low (verified.Unjudged (refusal.Crowded name)) n a b c d e = c (sym e)
 -- what a trace comes to that is simulated has none but the numbers 0, 2 and 8
 pub simulation_low : (s : SimulationAnswer) (n : ℕ) → n ≢ 0 → n ≢ 2 → n ≢ 8 → code_of (simulation_status s) ≡ n → ⊥
 simulation_low (simulation.Broken fault) n a b c e = b (sym e)
-simulation_low (simulation.Played made) n a b c e = by made.played e
-  where
-    by : (play : Played) → code_of (played_status play) ≡ n → ⊥
-    by (played.Whole history) e = a (sym e)
-    by (played.Full history) e = c (sym e)
+simulation_low (simulation.Played (cores.Whole closed)) n a b c e = a (sym e)
+simulation_low (simulation.Played (cores.Full closed)) n a b c e = c (sym e)
 simulation_low (simulation.Wasted (wasted.Whole told)) n a b c e = a (sym e)
 simulation_low (simulation.Wasted (wasted.Full told)) n a b c e = c (sym e)
 

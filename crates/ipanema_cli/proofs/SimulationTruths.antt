@@ -20,17 +20,18 @@ use Rattle.policy_check.specs.declared.answer.CheckAnswer.{CheckAnswer}
 use Rattle.policy_check.specs.declared.answer.CheckAnswer.TheVariants as checked
 use Rattle.round_model.specs.declared.entry.Entry.{Entry}
 use Rattle.round_model.specs.declared.plan.Plan.{Plan}
+use Rattle.serial_steps.specs.declared.serial.Played.{Played}
+use Rattle.trace_play.specs.declared.cores.PlayedCores.TheVariants as cores
 use Rattle.round_model.specs.Legal.{Legal}
 use Rattle.round_model.specs.OnePlace.{OnePlace}
-use Rattle.serial_steps.specs.declared.serial.Played.{Played}
-use Rattle.serial_steps.specs.declared.serial.Played.TheVariants as played
-use Rattle.serial_steps.specs.SerialEnds.{EndsWhole, IsFull, IsPlayed, StopsFull}
+use Rattle.serial_steps.specs.SerialEnds.{EndsWhole, IsFull, StopsFull}
 use Rattle.serial_steps.specs.SerialRounds.{serial_rounds}
 use Rattle.round_laws.specs.MainTheorem.{KeepsLaws}
 use Rattle.round_laws.proofs.MainTheorem.{main_theorem}
 use Rattle.round_laws.proofs.OnePlace.{one_place_law}
 use Rattle.job_trace.specs.Plans.{SpellsPlan}
 use Rattle.job_trace.specs.TraceText.{SpellsTrace}
+use Rattle.history_merge.specs.Merged.{merged}
 use Rattle.sched_history.specs.Lines.{entry_lines}
 use Rattle.sched_history.specs.Spelling.{header, line_of, lines_of_history, second_form, text_of_history}
 use Rattle.trace_play.specs.declared.fault.LineFault.{LineFault}
@@ -45,7 +46,7 @@ use Rattle.trace_simulation.specs.Simulations.{IsSimulationOf, IsWasteOf, Simula
 use Rattle.ipanema_cli.specs.Causes.{OneOf}
 use Rattle.ipanema_cli.specs.Ends.{Writes}
 use Rattle.ipanema_cli.specs.Simulations.{AnswersSimulation, IsPlayable, Simulating, lets_play}
-use Rattle.ipanema_cli.specs.Status.{check_status, code_of, played_status, simulation_status, verdict_status}
+use Rattle.ipanema_cli.specs.Status.{check_status, code_of, simulation_status, verdict_status}
 use Rattle.ipanema_cli.specs.Texts.{MayRead}
 use Rattle.ipanema_cli.specs.CheckTruths.{Holds, Spells}
 use Rattle.ipanema_cli.specs.SimulationTruths.{DoHoldPlayable, DoSimulate, MayHoldPlayable, MustSimulate, SaysHistory, SaysWaste, SimulatesTruly}
@@ -72,14 +73,18 @@ pub text_of_lines : (cores : ℕ) (history : List Entry) → joined (lines_of_hi
 text_of_lines cores history =
     ap (λ (bytes : List ℕ). header cores ++ bytes) (flat_map-map (λ l. l) line_of (entry_lines 0 (second_form cores) history))
 
+-- the plan that was played is the one that the trace means
+means_plan : (p : Meaning) (jobs : List ℕ) (play : Played) (made : plays.PlaysText p jobs play) → plays.MeansPlan p jobs made.plan
+means_plan p jobs play made = record { trace = made.trace; spells = made.spells; means = made.means; fits = made.fits; limits = made.limits }
+
 simulation_comes : Comes IsSimulationOf SaysHistory
 simulation_comes p jobs (simulation.Broken fault) code has own = broke fault has (append-nil (trace_faults.fault_line fault)) own
-simulation_comes p jobs (simulation.Played made) code is own = by made.played is.played own
-  where
-    by : (play : Played) → IsPlayed p made.plan play → code ≡ code_of (played_status play)
-        → Came SaysHistory p jobs (joined (lines_of_history made.plan.cores (plays.history_of play))) code
-    by (played.Whole history) ends own = ended history (record { plan = made.plan; means = is.means; ends = ends }) (text_of_lines made.plan.cores history) own
-    by (played.Full history) ends own = filled history (record { plan = made.plan; means = is.means; ends = ends }) (text_of_lines made.plan.cores history) own
+simulation_comes p jobs (simulation.Played (cores.Whole closed)) code is own =
+    ended (merged closed) (record { plan = is.plays.plan; means = means_plan p jobs _ is.plays; ends = is.plays.played })
+    (text_of_lines (length closed.cores) (merged closed) ∙ ap (λ cores. text_of_history cores (merged closed)) is.count) own
+simulation_comes p jobs (simulation.Played (cores.Full closed)) code is own =
+    filled (merged closed) (record { plan = is.plays.plan; means = means_plan p jobs _ is.plays; ends = is.plays.played })
+    (text_of_lines (length closed.cores) (merged closed) ∙ ap (λ cores. text_of_history cores (merged closed)) is.count) own
 simulation_comes p jobs (simulation.Wasted waste) code is own = absurd is
 
 waste_comes : Comes IsWasteOf SaysWaste

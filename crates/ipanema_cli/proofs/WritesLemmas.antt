@@ -24,8 +24,6 @@ use Rattle.policy_check.specs.declared.verifying.VerifyAnswer.TheVariants as ver
 use Rattle.trace_play.specs.declared.answer.PlayAnswer.{PlayAnswer}
 use Rattle.trace_play.specs.declared.answer.PlayAnswer.TheVariants as play_answer
 use Rattle.trace_play.specs.declared.cores.PlayedCores.TheVariants as cores
-use Rattle.serial_steps.specs.declared.serial.Played.{Played}
-use Rattle.serial_steps.specs.declared.serial.Played.TheVariants as played
 use Rattle.trace_simulation.specs.declared.answer.PlayedWaste.TheVariants as wasted
 use Rattle.trace_simulation.specs.declared.answer.SimulationAnswer.{SimulationAnswer}
 use Rattle.trace_simulation.specs.declared.answer.SimulationAnswer.TheVariants as simulation
@@ -35,7 +33,7 @@ use Rattle.history_replay.specs.declared.answer.HistoryAnswer.TheVariants as jud
 use Rattle.history_replay.specs.declared.refusal.HistoryRefusal.TheVariants as no_history
 use Rattle.command_words.specs.Command.{Asked}
 use Rattle.ipanema_cli.specs.Ends.{Ends, Writes, answered, written, cut_off}
-use Rattle.ipanema_cli.specs.Status.{bound_status, check_status, code_of, explain_status, gap_status, rest_status, history_status, outcome_status, refusal_status, played_status, simulation_status, verify_status}
+use Rattle.ipanema_cli.specs.Status.{bound_status, check_status, code_of, explain_status, gap_status, rest_status, history_status, outcome_status, refusal_status, simulation_status, verify_status}
 use Rattle.ipanema_cli.specs.declared.answers.Answer.{Answer}
 use Rattle.ipanema_cli.specs.declared.answers.Answer.TheVariants as answer
 
@@ -96,11 +94,8 @@ play_code (play_answer.Played (cores.Full closed)) = is_8 refl
 
 simulation_code : (s : SimulationAnswer) → AnswerCode (code_of (simulation_status s))
 simulation_code (simulation.Broken fault) = is_2 refl
-simulation_code (simulation.Played made) = by made.played
-  where
-    by : (play : Played) → AnswerCode (code_of (played_status play))
-    by (played.Whole history) = is_0 refl
-    by (played.Full history) = is_8 refl
+simulation_code (simulation.Played (cores.Whole closed)) = is_0 refl
+simulation_code (simulation.Played (cores.Full closed)) = is_8 refl
 simulation_code (simulation.Wasted (wasted.Whole report)) = is_0 refl
 simulation_code (simulation.Wasted (wasted.Full report)) = is_8 refl
 

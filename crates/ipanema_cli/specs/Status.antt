@@ -18,8 +18,7 @@ use Rattle.policy_check.specs.declared.reading.Refusal.{Refusal}
 use Rattle.policy_check.specs.declared.reading.Refusal.TheVariants as refusal
 use Rattle.policy_check.specs.declared.verifying.VerifyAnswer.{VerifyAnswer}
 use Rattle.policy_check.specs.declared.verifying.VerifyAnswer.TheVariants as verify
-use Rattle.serial_steps.specs.declared.serial.Played.{Played}
-use Rattle.serial_steps.specs.declared.serial.Played.TheVariants as played
+use Rattle.trace_play.specs.declared.cores.PlayedCores.TheVariants as cores
 use Rattle.trace_simulation.specs.declared.answer.PlayedWaste.TheVariants as wasted
 use Rattle.trace_simulation.specs.declared.answer.SimulationAnswer.{SimulationAnswer}
 use Rattle.trace_simulation.specs.declared.answer.SimulationAnswer.TheVariants as simulation
@@ -108,14 +107,10 @@ history_status (history.Reported report) = status.Done
 history_status (history.Migrated given) = status.Done
 history_status (history.Refused why) = history_refusal_status why
 
--- the status of a play
-abbrev pub played_status : Played → Status
-played_status (played.Whole history) = status.Done
-played_status (played.Full history) = status.HistoryFull
-
 -- the status of what a trace comes to that is simulated
 abbrev pub simulation_status : SimulationAnswer → Status
 simulation_status (simulation.Broken fault) = status.BadText
-simulation_status (simulation.Played made) = played_status made.played
+simulation_status (simulation.Played (cores.Whole closed)) = status.Done
+simulation_status (simulation.Played (cores.Full closed)) = status.HistoryFull
 simulation_status (simulation.Wasted (wasted.Whole report)) = status.Done
 simulation_status (simulation.Wasted (wasted.Full report)) = status.HistoryFull

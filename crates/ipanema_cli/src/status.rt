@@ -2,13 +2,13 @@
 
 ghost use Rattle.std.specs.Prelude.{◌≡◌};
 ghost use Rattle.ipanema_cli.specs.Status.{bound_status, check_status, code_of, explain_status, gap_status, rest_status};
-ghost use Rattle.ipanema_cli.specs.Status.{history_refusal_status, history_status, outcome_status, played_status};
+ghost use Rattle.ipanema_cli.specs.Status.{history_refusal_status, history_status, outcome_status};
 ghost use Rattle.ipanema_cli.specs.Status.{refusal_status, simulation_status, verdict_status, verify_status};
 
 use history_replay::{HistoryAnswer, HistoryRefusal};
 use policy_check::{BoundAnswer, CheckAnswer, ExplainAnswer, Refusal, RestAnswer, VerifyAnswer};
 use policy_checker::{LeastGap, Outcome, Verdict};
-use serial_steps::Played;
+use trace_play::PlayedCores;
 use trace_simulation::{PlayedWaste, SimulationAnswer};
 
 /// How the program ends, for the shell a number.
@@ -124,23 +124,14 @@ pub fn verify_status(answer: &VerifyAnswer) -> Status
     }
 }
 
-/// The status of a play.
-fn played_status(played: &Played) -> Status
-    ensures { result ≡ played_status played.now }
-{
-    match played {
-        Played::Whole(_) => Status::Done,
-        Played::Full(_) => Status::HistoryFull,
-    }
-}
-
 /// The status of what a trace comes to that is simulated.
 pub fn simulation_status(answer: &SimulationAnswer) -> Status
     ensures { result ≡ simulation_status answer.now }
 {
     match answer {
         SimulationAnswer::Broken(_) => Status::BadText,
-        SimulationAnswer::Played(made) => played_status(&made.played),
+        SimulationAnswer::Played(PlayedCores::Whole(_)) => Status::Done,
+        SimulationAnswer::Played(PlayedCores::Full(_)) => Status::HistoryFull,
         SimulationAnswer::Wasted(PlayedWaste::Whole(_)) => Status::Done,
         SimulationAnswer::Wasted(PlayedWaste::Full(_)) => Status::HistoryFull,
     }

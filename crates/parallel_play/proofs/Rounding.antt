@@ -10,7 +10,6 @@ use lib.ListN.{get_elem?}
 use Rattle.sched_base.specs.declared.limits.TheConstants.{MAX_ENTRIES, MAX_THREADS}
 use Rattle.policy_tree.specs.declared.typed.Policy.{Policy}
 use Rattle.policy_tree.specs.Meaning.{Meaning, meaning_of}
-use Rattle.policy_eval.specs.Obligations.{MeetsObligations}
 use Rattle.round_laws.proofs.MainTheorem.{main_theorem}
 use Rattle.round_model.specs.declared.entry.Entry.{Entry}
 use Rattle.round_model.specs.declared.entry.Entry.TheVariants as entry
@@ -217,7 +216,7 @@ module _ (begun : ℕ) (t : Tally) (v : View) (between : IsBetween begun t v) wh
         }
 
   -- how a run ends
-  module _ (p : Meaning) (plan : Plan) (is_p : meaning_in v ≡ p) (is_plan : v.plan ≡ plan) (meets : MeetsObligations p) (closed : ClosedView) (ends_so : IsClosed v closed)
+  module _ (p : Meaning) (plan : Plan) (is_p : meaning_in v ≡ p) (is_plan : v.plan ≡ plan) (closed : ClosedView) (ends_so : IsClosed v closed)
       (Passed : ℕ → ℕ → Type 0) (gone : AllPassed Passed plan begun) where
     of_these : (P : Meaning → Plan → Type 0) → P (meaning_in v) v.plan → P p plan
     of_these P holds = subst (λ (x : Meaning × Plan). P x.0 x.1) (λ i. (is_p i, is_plan i)) holds
@@ -239,7 +238,7 @@ module _ (begun : ℕ) (t : Tally) (v : View) (between : IsBetween begun t v) wh
           few = of_these (λ q pl. length ends_so.history ≤ pl.limit) (let room = ag.reserve in omega arith);
           roomy = counted_now.roomy;
           passed = λ c r inside early. gone c r inside (let count = counted_now.rounds in omega arith);
-          keeps = main_theorem p meets plan ends_so.history (of_these Fits ag.fits) legal;
+          keeps = λ meets. main_theorem p meets plan ends_so.history (of_these Fits ag.fits) legal;
         }
 
     due_now : is_due plan ends_so.history ≡ due_by plan begun t

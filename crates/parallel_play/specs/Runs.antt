@@ -3,6 +3,7 @@ use Rattle.std.specs.Prelude.{◌≡◌, ℕ, ◌+◌, ◌<◌, ◌≤◌, List,
 use mathlib.Core.Option.{some}
 use lib.ListN.{get_elem?}
 use Rattle.policy_tree.specs.Meaning.{Meaning}
+use Rattle.policy_eval.specs.Obligations.{MeetsObligations}
 use Rattle.round_laws.specs.MainTheorem.{KeepsLaws}
 use Rattle.round_model.specs.declared.entry.Entry.{Entry}
 use Rattle.round_model.specs.declared.entry.Entry.TheVariants as entry
@@ -23,7 +24,8 @@ HadRoom plan history = (at number : ℕ) → get_elem? history at ≡ some (entr
 abbrev pub AllPassed : (Passed : ℕ → ℕ → Type 0) → Plan → (begun : ℕ) → Type 0
 AllPassed Passed plan begun = (c r : ℕ) → c < plan.cores → r < begun → Passed c (r + 1)
 
--- cores and logs are those of the history, which is legal and keeps the laws of every interleaving
+-- cores and logs are those of the history, which is legal. Where the policy meets all that it owes, the history keeps
+-- the laws of every interleaving
 pub record AreLeftBy (p : Meaning) (plan : Plan) (Passed : ℕ → ℕ → Type 0) (history : List Entry)
     (closed : ClosedView) : Type 0 where
   pub cores : (c : ℕ) (y : CoreView) → slice_get closed.cores c ≡ Some y → y.core ≡ after p plan history c
@@ -33,7 +35,7 @@ pub record AreLeftBy (p : Meaning) (plan : Plan) (Passed : ℕ → ℕ → Type 
   pub few : length history ≤ plan.limit
   pub roomy : HadRoom plan history
   pub passed : AllPassed Passed plan (rounds_begun history)
-  pub keeps : KeepsLaws p plan history
+  pub keeps : MeetsObligations p → KeepsLaws p plan history
 
 -- so it is of a whole history
 pub record RunsWhole (p : Meaning) (plan : Plan) (Passed : ℕ → ℕ → Type 0) (closed : ClosedView) : Type 0 where

@@ -2,7 +2,6 @@
 
 ghost use Rattle.std.specs.Prelude.{◌≡◌, ℕ, IfErr, IfOk, IsTrue};
 ghost use Rattle.policy_tree.specs.Meaning.{meaning_of};
-ghost use Rattle.policy_eval.specs.Obligations.{MeetsObligations};
 ghost use Rattle.round_model.specs.Fits.{Fits};
 ghost use Rattle.round_model.specs.Limits.{IsWithinLimits};
 ghost use Rattle.core_table.specs.Public.{Becomes, plan_of, policy_of};
@@ -15,7 +14,6 @@ use crate::sums::Tally;
 use crate::turns::play_round;
 use core_state::Closed;
 use core_table::{Seat, Table};
-use policy_checker::AcceptedPolicy;
 use policy_tree::Policy;
 use round_model::Plan;
 use sched_io::Gate;
@@ -32,26 +30,6 @@ use std::thread::Threads;
 /// beginning, two for each core, and one for each thread.
 pub fn run_rounds<R: Threads + Wait + Sync, G: Gate + Sync>(
     rt: &R,
-    policy: &AcceptedPolicy,
-    plan: &Plan,
-    table: Table,
-    seat: Seat,
-    gate: &G,
-) -> Result<Closed, RunFault>
-    requires fits { Fits (meaning_of policy.now) plan.now }
-    requires limits { IsWithinLimits plan.now }
-    requires opened { (policy.now ≡ policy_of table) × (plan.now ≡ plan_of table) }
-    requires seat { Becomes table seat (first_view policy.now plan.now) }
-    requires gate { (c r : ℕ) → IsTrue (G.admits gate.now c r) }
-    ensures whole { IfOk result (RunsWhole (meaning_of policy.now) plan.now (G.passed gate.now)) }
-    ensures fault { IfErr result (IsFaultOf (meaning_of policy.now) plan.now (G.passed gate.now)) }
-{
-    run_under(rt, policy.policy(), plan, table, seat, gate)
-}
-
-/// The same under a policy that meets its obligations.
-fn run_under<R: Threads + Wait + Sync, G: Gate + Sync>(
-    rt: &R,
     policy: &Policy,
     plan: &Plan,
     table: Table,
@@ -60,7 +38,6 @@ fn run_under<R: Threads + Wait + Sync, G: Gate + Sync>(
 ) -> Result<Closed, RunFault>
     requires fits { Fits (meaning_of policy.now) plan.now }
     requires limits { IsWithinLimits plan.now }
-    requires meets { MeetsObligations (meaning_of policy.now) }
     requires opened { (policy.now ≡ policy_of table) × (plan.now ≡ plan_of table) }
     requires seat { Becomes table seat (first_view policy.now plan.now) }
     requires gate { (c r : ℕ) → IsTrue (G.admits gate.now c r) }

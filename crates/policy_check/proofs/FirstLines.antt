@@ -5,7 +5,7 @@ use Rattle.std.proofs.lemmas.List.{drop_all, drop_at, length-drop, take_all, tak
 use Rattle.sched_io.specs.Puts.{WritesAll, WritesPart, joined}
 use Rattle.sched_io.specs.Shown.{Shown}
 use Rattle.sched_io.proofs.PutsLemmas.{puts_both, stops_later, stops_sooner}
-use Rattle.cert_text.specs.Cuts.{IsCut, Lacks, is_byte}
+use Rattle.text_forms.specs.Cuts.{IsCut, Lacks, is_byte}
 use Rattle.policy_check.specs.TextLines.{IsLineLen, begun_by, lines_in}
 
 begun : (byte : ℕ) (lines : List (List ℕ)) → joined (begun_by byte lines) ≡ byte ∷ joined lines

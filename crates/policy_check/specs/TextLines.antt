@@ -1,6 +1,6 @@
 -- The lines of a text that is written line by line.
 use Rattle.std.specs.Prelude.{◌≡◌, ℕ, ◌<◌, ◌≤◌, List, [], ◌∷◌, drop, if◌then◌else◌, length, take}
-use Rattle.cert_text.specs.Cuts.{is_byte}
+use Rattle.text_forms.specs.Cuts.{is_byte}
 
 -- the lines of a text before which one more byte stands: it begins the first of them, or is a line of its own
 abbrev pub begun_by : ℕ → List (List ℕ) → List (List ℕ)

@@ -4,8 +4,8 @@ ghost use Rattle.std.specs.Prelude.{◌≢◌, []};
 ghost use Rattle.sched_io.specs.Puts.{Puts};
 ghost use Rattle.policy_check.specs.TextLines.{IsLineLen, lines_in};
 
-use cert_text::cut;
 use sched_io::{PutFault, Sink, put_all};
+use text_forms::cut;
 
 /// Writes the text, a line at a time, each with its line feed.
 pub fn put_text<S: Sink>(out: &mut S, text: &[u8]) -> Result<(), PutFault>

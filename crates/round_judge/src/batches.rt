@@ -18,9 +18,9 @@ ghost use Rattle.round_model.specs.Moves.{handed, received};
 ghost use Rattle.round_model.specs.Work.{before};
 ghost use Rattle.round_judge.specs.Code.Batches.{OfEachThief, ShowsCore};
 
-use policy_eval::{CoreValues, Env, comes_first, holds};
+use policy_eval::{CoreValues, comes_first};
 use policy_tree::{Batch, Order, Policy};
-use round_model::{ModelCore, may_steal};
+use round_model::{ModelCore, goes_on, may_steal};
 use sched_base::{Stolen, Task, ThreadId};
 
 /// The threads that a steal moves, in the order of their moves. `own` tells of the thief, and `other` of the victim.
@@ -119,25 +119,6 @@ fn next(
     } else {
         None
     }
-}
-
-/// Whether the batch goes on with that thread, by these values of thief and victim.
-fn goes_on(
-    policy: &Policy,
-    batch: &Batch,
-    own: &CoreValues,
-    other: &CoreValues,
-    task: &Task,
-) -> bool
-    requires policy { IsResolved (meaning_of policy.now) }
-    requires batch { IsResolvedBatch (meaning_of policy.now) (batch_tree batch.now) }
-    requires own { CoreFits (meaning_of policy.now) own.now }
-    requires other { CoreFits (meaning_of policy.now) other.now }
-    requires task { IsTask (meaning_of policy.now) task.now }
-    ensures { result ≡ holds_at (move_values own.now other.now task.now.weight task.now.attrs)
-        (batch_tree batch.now).condition }
-{
-    holds(&batch.cond, &Env::of_move(own, other, task))
 }
 
 /// What is seen of the core once so many threads of that load came to it.

@@ -17,7 +17,7 @@ pub mod windows;
 
 pub use crate::choices::{choice, target};
 pub use crate::entry::{Did, Entry, History};
-pub use crate::filtering::{may_steal, values_of};
+pub use crate::filtering::{goes_on, may_steal, values_of};
 pub use crate::measures::spread_of;
 pub use crate::memory::ModelMemory;
 pub use crate::plan::{

@@ -16,7 +16,7 @@ ghost use Rattle.round_model.specs.Work.{worked};
 ghost use Rattle.round_judge.specs.Readable.{ReadIn};
 ghost use Rattle.round_judge.specs.Past.{IsPastOf, OfEach};
 ghost use Rattle.serial_steps.specs.declared.turns.NextStep.TheVariants as next;
-ghost use Rattle.serial_steps.specs.Turns.{ActsBy, HasWoken, IsLateStepOf, IsStepOf, MayAdd, placement_by};
+ghost use Rattle.serial_steps.specs.Turns.{ActsBy, IsStepOf, MayAdd, placement_by};
 ghost use Rattle.serial_steps.specs.Turns.{step_of_dids};
 
 use policy_tree::{PlaceRule, Policy};
@@ -27,7 +27,7 @@ use round_judge::unit::next_unit;
 use round_model::attempt::Attempt;
 use round_model::{Entry, Plan};
 use sched_base::{CoreId, Reads};
-use serial_steps::NextStep;
+use serial_steps::{NextInTurn, NextStep, next_in_turn};
 
 /// The next step of the core in its turn of the open round. `fresh` is what it would read of all cores just now, and
 /// `look` what it has read in a look that no attempt has followed yet.
@@ -56,25 +56,34 @@ pub fn next_step(
     ensures over { OfEach (meaning_of policy.now) plan.now past.now (λ history.
         result ≡ next.Over → IsTrue (has_attempted (own_entries history core))) }
 {
-    if let Some(thread) = arriving(past, core) {
-        let (at, reads) = place(policy, plan, past, core, fresh);
-        return NextStep::Adds(Entry::Enter {
-            thread,
-            by: core,
-            at,
-            reads,
-        });
+    let turn = past.turn(core);
+    let (entering, due) = (arriving(past, core), waking(past, core));
+    match next_in_turn(entering, due, turn.worked, turn.attempted, look) {
+        NextInTurn::Enter(thread) => {
+            let (at, reads) = place(policy, plan, past, core, fresh);
+            NextStep::Adds(Entry::Enter {
+                thread,
+                by: core,
+                at,
+                reads,
+            })
+        }
+        NextInTurn::Wake(thread) => {
+            let (at, reads) = place(policy, plan, past, core, fresh);
+            NextStep::Adds(Entry::Wake {
+                thread,
+                by: core,
+                at,
+                reads,
+            })
+        }
+        NextInTurn::Work => work_step(policy, plan, past, core),
+        NextInTurn::Look => NextStep::Looks,
+        NextInTurn::Attempt(reads) => {
+            NextStep::Adds(attempt_entry(policy, plan, past, core, reads))
+        }
+        NextInTurn::Over => NextStep::Over,
     }
-    if let Some(thread) = waking(past, core) {
-        let (at, reads) = place(policy, plan, past, core, fresh);
-        return NextStep::Adds(Entry::Wake {
-            thread,
-            by: core,
-            at,
-            reads,
-        });
-    }
-    late_step(policy, plan, past, core, look)
 }
 
 /// Where the core places a thread just now, and what it reads for that.
@@ -90,44 +99,6 @@ fn place(policy: &Policy, plan: &Plan, past: &Past, core: CoreId, fresh: &Reads)
     match &policy.place {
         PlaceRule::Here => (core, Reads::empty()),
         PlaceRule::Least(_) => (placed(policy, plan, past, core, fresh), *fresh),
-    }
-}
-
-/// The next step of a core that has no thread left to let in or to wake.
-fn late_step(
-    policy: &Policy,
-    plan: &Plan,
-    past: &Past,
-    core: CoreId,
-    look: Option<Reads>,
-) -> NextStep
-    requires fits { Fits (meaning_of policy.now) plan.now }
-    requires handlers { MeetsHandlerObligations (meaning_of policy.now) }
-    requires past { IsPastOf (meaning_of policy.now) plan.now past.now }
-    requires begun { 0 < past.now.rounds }
-    requires core { core < plan.now.cores }
-    requires look { IfSome look (ReadIn plan.now past.now) }
-    ensures step { OfEach (meaning_of policy.now) plan.now past.now (λ history.
-        IsLateStepOf (meaning_of policy.now) plan.now history core look result) }
-    ensures legal { OfEach (meaning_of policy.now) plan.now past.now (λ history.
-        HasLetIn plan.now history core → HasWoken (meaning_of policy.now) plan.now history core →
-        MayAdd (meaning_of policy.now) plan.now history result) }
-    ensures acts { ActsBy core result }
-    ensures looks { OfEach (meaning_of policy.now) plan.now past.now (λ history.
-        result ≡ next.Looks → IsNone look × IsFalse (has_attempted (own_entries history core))) }
-    ensures over { OfEach (meaning_of policy.now) plan.now past.now (λ history.
-        result ≡ next.Over → IsTrue (has_attempted (own_entries history core))) }
-{
-    let turn = past.turn(core);
-    if turn.attempted {
-        return NextStep::Over;
-    }
-    if !turn.worked {
-        return work_step(policy, plan, past, core);
-    }
-    match look {
-        None => NextStep::Looks,
-        Some(reads) => NextStep::Adds(attempt_entry(policy, plan, past, core, reads)),
     }
 }
 

@@ -4,3 +4,4 @@ pub mod SerialSteps
 pub mod SerialTurns
 pub mod SerialWholes
 pub mod Turning
+pub mod Ordering

@@ -1,3 +1,4 @@
+pub mod Orders
 pub mod Room
 pub mod Serial
 pub mod SerialEnds

@@ -1,6 +1,6 @@
 //! Seeded plans under a policy whose steals move up to eight threads, each played in five ways.
 
-ghost use Rattle.std.specs.Prelude.{◌≡◌, IfSome};
+ghost use Rattle.std.specs.Prelude.{◌≡◌};
 ghost use Rattle.policy_tree.specs.Meaning.{meaning_of};
 ghost use Rattle.policy_eval.specs.Obligations.{MeetsHandlerObligations};
 ghost use Rattle.round_model.specs.Fits.{Fits};
@@ -13,10 +13,8 @@ use crate::dice::rolled;
 use crate::judging::{agrees, comes_whole, has_batches, has_fails, is_whole};
 use crate::plans::plan;
 use crate::playing::{by_cores, by_lists};
-use model_tests::builders::batched_policy;
-use policy_checker::{AcceptedPolicy, Verdict, check_policy};
+use policy_tree::Policy;
 use round_model::Plan;
-use sched_base::CHECK_BUDGET;
 use std::alloc::Global;
 use std::sync::Wait;
 use std::thread::Threads;
@@ -27,24 +25,11 @@ const PLANS: u32 = 500;
 /// What the dice show before they are rolled.
 const SEED: u64 = 2026;
 
-/// The policy under which all are played, once it is checked.
-pub(crate) fn accepted(alloc: Global) -> Option<AcceptedPolicy>
-    ensures { IfSome result (λ policy. meaning_of policy ≡ in_batches 8) }
-{
-    let Ok(policy) = batched_policy(alloc, 8) else {
-        return None;
-    };
-    match check_policy(alloc, policy, CHECK_BUDGET) {
-        Ok(Verdict::Accepted(kept)) => Some(kept),
-        _ => None,
-    }
-}
-
 /// What all plans come to.
 pub(crate) fn of_all<R: Threads + Wait + Sync>(
     rt: &R,
     alloc: Global,
-    policy: &AcceptedPolicy,
+    policy: &Policy,
 ) -> Agreement
     requires { meaning_of policy.now ≡ in_batches 8 }
 {
@@ -61,7 +46,7 @@ pub(crate) fn of_all<R: Threads + Wait + Sync>(
 fn of_one<R: Threads + Wait + Sync>(
     rt: &R,
     alloc: Global,
-    policy: &AcceptedPolicy,
+    policy: &Policy,
     dice: u64,
 ) -> Agreement
     requires { meaning_of policy.now ≡ in_batches 8 }
@@ -76,26 +61,25 @@ fn of_one<R: Threads + Wait + Sync>(
 fn of_plan<R: Threads + Wait + Sync>(
     rt: &R,
     alloc: Global,
-    policy: &AcceptedPolicy,
+    policy: &Policy,
     plan: &Plan,
 ) -> Agreement
     requires fits { Fits (meaning_of policy.now) plan.now }
     requires limits { IsWithinLimits plan.now }
     requires handlers { MeetsHandlerObligations (meaning_of policy.now) }
 {
-    let under = policy.policy();
-    let Some(plain) = by_lists(alloc, under, plan) else {
+    let Some(plain) = by_lists(alloc, policy, plan) else {
         return Agreement::failed();
     };
-    let whole = is_whole(alloc, under, plan, &plain);
+    let whole = is_whole(alloc, policy, plan, &plain);
     let alone = by_crew(rt, alloc, policy, plan, 1);
     Agreement {
-        by_cores: whole && agrees(alloc, under, plan, by_cores(alloc, policy, plan), &plain),
-        by_hand: whole && agrees(alloc, under, plan, by_hand(rt, alloc, under, plan), &plain),
-        in_threads: comes_whole(alloc, under, plan, in_threads(rt, alloc, policy, plan)),
+        by_cores: whole && agrees(alloc, policy, plan, by_cores(alloc, policy, plan), &plain),
+        by_hand: whole && agrees(alloc, policy, plan, by_hand(rt, alloc, policy, plan), &plain),
+        in_threads: comes_whole(alloc, policy, plan, in_threads(rt, alloc, policy, plan)),
         fails_alone: has_fails(&alone),
-        by_crews: comes_whole(alloc, under, plan, alone)
-            && comes_whole(alloc, under, plan, by_crew(rt, alloc, policy, plan, 2)),
+        by_crews: comes_whole(alloc, policy, plan, alone)
+            && comes_whole(alloc, policy, plan, by_crew(rt, alloc, policy, plan, 2)),
         in_batches: has_batches(&plain),
     }
 }

@@ -16,7 +16,6 @@ use core_table::{Seat, Table};
 use crew_play::run_crew;
 use history_merge::merge;
 use parallel_play::run_rounds;
-use policy_checker::AcceptedPolicy;
 use policy_tree::Policy;
 use round_model::{History, Plan};
 use sched_io::OpenGate;
@@ -77,14 +76,14 @@ fn play_rounds<R: Wait>(rt: &R, table: &Table, policy: &Policy, plan: &Plan, sea
 pub(crate) fn in_threads<R: Threads + Wait + Sync>(
     rt: &R,
     alloc: Global,
-    policy: &AcceptedPolicy,
+    policy: &Policy,
     plan: &Plan,
 ) -> Option<History>
     requires fits { Fits (meaning_of policy.now) plan.now }
     requires limits { IsWithinLimits plan.now }
     requires handlers { MeetsHandlerObligations (meaning_of policy.now) }
 {
-    let Ok((table, seat)) = Table::open(alloc, policy.policy(), plan) else {
+    let Ok((table, seat)) = Table::open(alloc, policy, plan) else {
         return None;
     };
     let Ok(closed) = run_rounds(rt, policy, plan, table, seat, &OpenGate) else {
@@ -100,7 +99,7 @@ pub(crate) fn in_threads<R: Threads + Wait + Sync>(
 pub(crate) fn by_crew<R: Threads + Wait + Sync>(
     rt: &R,
     alloc: Global,
-    policy: &AcceptedPolicy,
+    policy: &Policy,
     plan: &Plan,
     workers: u32,
 ) -> Option<History>
@@ -109,7 +108,7 @@ pub(crate) fn by_crew<R: Threads + Wait + Sync>(
     requires handlers { MeetsHandlerObligations (meaning_of policy.now) }
     requires workers { (1 ≤ workers) × (workers ≤ MAX_CORES) }
 {
-    let Ok((table, seat)) = Table::open(alloc, policy.policy(), plan) else {
+    let Ok((table, seat)) = Table::open(alloc, policy, plan) else {
         return None;
     };
     let Ok(closed) = run_crew(rt, alloc, policy, plan, table, seat, workers, &OpenGate) else {

@@ -14,9 +14,10 @@ mod judging;
 mod plans;
 mod playing;
 
-use crate::agreeing::{accepted, of_all};
+use crate::agreeing::of_all;
 use crate::agreement::Agreement;
 use case_tables::told;
+use model_tests::builders::batched_policy;
 use std::alloc::Global;
 use std::io;
 use std::sync::Wait;
@@ -68,8 +69,8 @@ fn tell_whole<R: Print>(rt: &R, all: Agreement) -> io::Result<()> {
 
 /// What all plans come to.
 fn played<R: Threads + Wait + Sync>(rt: &R, alloc: Global) -> Agreement {
-    match accepted(alloc) {
-        Some(policy) => of_all(rt, alloc, &policy),
-        None => Agreement::failed(),
+    match batched_policy(alloc, 8) {
+        Ok(policy) => of_all(rt, alloc, &policy),
+        Err(_) => Agreement::failed(),
     }
 }

@@ -6,7 +6,6 @@ ghost use Rattle.round_model.specs.Fits.{Fits};
 ghost use Rattle.round_model.specs.Limits.{IsWithinLimits};
 
 use history_merge::merge;
-use policy_checker::AcceptedPolicy;
 use policy_tree::Policy;
 use round_model::{History, Plan};
 use serial_steps::Played;
@@ -25,9 +24,10 @@ pub(crate) fn by_lists(alloc: Global, policy: &Policy, plan: &Plan) -> Option<Hi
 }
 
 /// The whole history whose logs the running cores come to.
-pub(crate) fn by_cores(alloc: Global, policy: &AcceptedPolicy, plan: &Plan) -> Option<History>
+pub(crate) fn by_cores(alloc: Global, policy: &Policy, plan: &Plan) -> Option<History>
     requires fits { Fits (meaning_of policy.now) plan.now }
     requires limits { IsWithinLimits plan.now }
+    requires handlers { MeetsHandlerObligations (meaning_of policy.now) }
 {
     let Ok(closed) = core_worker::play_rounds(alloc, policy, plan) else {
         return None;

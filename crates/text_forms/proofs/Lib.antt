@@ -1,3 +1,4 @@
+pub mod Cutting
 mod TextLemmas
 mod LineLaws
 mod WordLaws

@@ -2,6 +2,8 @@
 
 ghost use Rattle.std.specs.Prelude.{◌<◌, ◌≡◌, IfOk, length};
 ghost use Rattle.policy_tree.specs.Meaning.{meaning_of};
+ghost use Rattle.policy_eval.specs.Obligations.{MeetsHandlerObligations};
+ghost use Rattle.policy_eval.specs.Resolved.{IsResolved};
 ghost use Rattle.round_model.specs.Fits.{Fits};
 ghost use Rattle.round_model.specs.Limits.{IsWithinLimits};
 ghost use Rattle.serial_steps.specs.SerialEnds.{IsPlayed};
@@ -14,6 +16,7 @@ use crate::planning::{PlanStop, plan_text};
 use core_worker::{PlayFault, play_rounds};
 use history_merge::{HistoryMemory, merge};
 use policy_checker::AcceptedPolicy;
+use policy_tree::Policy;
 use round_model::Plan;
 use serial_steps::Played;
 use std::alloc::Global;
@@ -45,7 +48,18 @@ pub fn play_text(
     ensures play { IfOk result (IsPlayOf (meaning_of policy.now) text.now) }
     ensures shown { IfOk result IsShown }
 {
-    match plan_text(alloc, policy.policy(), text) {
+    play_under(alloc, policy.policy(), text)
+}
+
+/// The same under a policy of which no more is known than that its handlers are right.
+pub fn play_under(alloc: Global, policy: &Policy, text: &[u8]) -> Result<PlayAnswer, PlayMemory>
+    requires resolved { IsResolved (meaning_of policy.now) }
+    requires handlers { MeetsHandlerObligations (meaning_of policy.now) }
+    requires small { length text.now < u32.MAX }
+    ensures play { IfOk result (IsPlayOf (meaning_of policy.now) text.now) }
+    ensures shown { IfOk result IsShown }
+{
+    match plan_text(alloc, policy, text) {
         Ok(plan) => Ok(PlayAnswer::Played(play_cores(alloc, policy, &plan)?)),
         Err(PlanStop::Broken(fault)) => Ok(PlayAnswer::Broken(fault)),
         Err(PlanStop::Memory) => Err(PlayMemory::Memory),
@@ -53,13 +67,10 @@ pub fn play_text(
 }
 
 /// What serial play of the plan under the policy comes to: the running cores that played it.
-pub fn play_cores(
-    alloc: Global,
-    policy: &AcceptedPolicy,
-    plan: &Plan,
-) -> Result<PlayedCores, PlayMemory>
+pub fn play_cores(alloc: Global, policy: &Policy, plan: &Plan) -> Result<PlayedCores, PlayMemory>
     requires fits { Fits (meaning_of policy.now) plan.now }
     requires limits { IsWithinLimits plan.now }
+    requires handlers { MeetsHandlerObligations (meaning_of policy.now) }
     ensures play { IfOk result (λ left. IsPlayed (meaning_of policy.now) plan.now (played_by left)) }
     ensures cores { IfOk result (λ left. length (closed_of left).cores ≡ plan.now.cores) }
     ensures shown { IfOk result (λ left. CanBeWritten (closed_of left)) }
@@ -72,9 +83,10 @@ pub fn play_cores(
 }
 
 /// What serial play of the plan under the policy comes to, as a history: the logs of the cores are merged.
-pub fn play_plan(alloc: Global, policy: &AcceptedPolicy, plan: &Plan) -> Result<Played, PlayMemory>
+pub fn play_plan(alloc: Global, policy: &Policy, plan: &Plan) -> Result<Played, PlayMemory>
     requires fits { Fits (meaning_of policy.now) plan.now }
     requires limits { IsWithinLimits plan.now }
+    requires handlers { MeetsHandlerObligations (meaning_of policy.now) }
     ensures { IfOk result (IsPlayed (meaning_of policy.now) plan.now) }
 {
     match play_cores(alloc, policy, plan)? {

@@ -2,6 +2,7 @@
 
 ghost use Rattle.std.specs.Prelude.{◌<◌, ◌≡◌, ℕ, IfErr, IfOk, IsTrue, length};
 ghost use Rattle.policy_tree.specs.Meaning.{meaning_of};
+ghost use Rattle.policy_eval.specs.Obligations.{MeetsHandlerObligations};
 ghost use Rattle.round_model.specs.Fits.{Fits};
 ghost use Rattle.round_model.specs.Limits.{IsWithinLimits};
 ghost use Rattle.core_table.specs.Public.{Becomes, plan_of, policy_of};
@@ -19,6 +20,7 @@ use core_table::{Seat, Table};
 use crew_play::{CrewFault, run_crew};
 use parallel_play::{RunFault, run_rounds};
 use policy_checker::AcceptedPolicy;
+use policy_tree::Policy;
 use round_model::Plan;
 use sched_io::Gate;
 use std::alloc::Global;
@@ -49,7 +51,7 @@ pub fn run_text<R: Threads + Wait + Sync, G: Gate + Sync>(
 {
     match plan_text(alloc, policy.policy(), text) {
         Ok(plan) => {
-            let left = run_plan(rt, alloc, policy, players, &plan, gate)?;
+            let left = run_plan(rt, alloc, policy.policy(), players, &plan, gate)?;
             Ok(PlayAnswer::Played(left))
         }
         Err(PlanStop::Broken(fault)) => Ok(PlayAnswer::Broken(fault)),
@@ -66,13 +68,14 @@ pub fn run_text<R: Threads + Wait + Sync, G: Gate + Sync>(
 pub fn run_plan<R: Threads + Wait + Sync, G: Gate + Sync>(
     rt: &R,
     alloc: Global,
-    policy: &AcceptedPolicy,
+    policy: &Policy,
     players: Players,
     plan: &Plan,
     gate: &G,
 ) -> Result<PlayedCores, PlayMemory>
     requires fits { Fits (meaning_of policy.now) plan.now }
     requires limits { IsWithinLimits plan.now }
+    requires handlers { MeetsHandlerObligations (meaning_of policy.now) }
     requires players { HasPlayers players }
     requires gate { (c r : ℕ) → IsTrue (G.admits gate.now c r) }
     ensures run { IfOk result (λ left. IsRun (meaning_of policy.now) plan.now (played_by left)) }
@@ -80,7 +83,7 @@ pub fn run_plan<R: Threads + Wait + Sync, G: Gate + Sync>(
     ensures shown { IfOk result (λ left. CanBeWritten (closed_of left)) }
     ensures passed { IfOk result (λ left. HavePassed (G.passed gate.now) plan.now (played_by left)) }
 {
-    let Ok((table, seat)) = Table::open(alloc, policy.policy(), plan) else {
+    let Ok((table, seat)) = Table::open(alloc, policy, plan) else {
         return Err(PlayMemory::Memory);
     };
     match play_rounds(rt, alloc, policy, players, plan, table, seat, gate) {
@@ -93,7 +96,7 @@ pub fn run_plan<R: Threads + Wait + Sync, G: Gate + Sync>(
 fn play_rounds<R: Threads + Wait + Sync, G: Gate + Sync>(
     rt: &R,
     alloc: Global,
-    policy: &AcceptedPolicy,
+    policy: &Policy,
     players: Players,
     plan: &Plan,
     table: Table,

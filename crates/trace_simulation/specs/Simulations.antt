@@ -3,38 +3,32 @@ use Rattle.std.specs.Prelude.{ℕ, List}
 use Rattle.policy_tree.specs.Meaning.{Meaning}
 use Rattle.round_model.specs.declared.entry.Entry.{Entry}
 use Rattle.round_model.specs.declared.plan.Plan.{Plan}
-use Rattle.serial_steps.specs.declared.serial.Played.{Played}
-use Rattle.serial_steps.specs.declared.serial.Played.TheVariants as played
-use Rattle.serial_steps.specs.SerialEnds.{EndsWhole, IsPlayed, StopsFull}
-use Rattle.sched_history.specs.Ranges.{CanBePrinted}
+use Rattle.serial_steps.specs.SerialEnds.{EndsWhole, StopsFull}
+use Rattle.history_merge.specs.Merged.{CanBeWritten}
 use Rattle.sched_report.specs.Wastes.{IsWaste}
 use Rattle.sched_report.specs.declared.rows.WasteReport.{WasteReport}
-use Rattle.trace_play.specs.Plays.{HasFault, MeansPlan, history_of}
+use Rattle.trace_play.specs.Plays.{HasFault, MeansPlan, PlaysCores, closed_of}
 use Rattle.trace_simulation.specs.declared.answer.PlayedWaste.{PlayedWaste}
 use Rattle.trace_simulation.specs.declared.answer.PlayedWaste.TheVariants as wasted
 use Rattle.trace_simulation.specs.declared.answer.SimulationAnswer.{SimulationAnswer}
 use Rattle.trace_simulation.specs.declared.answer.SimulationAnswer.TheVariants as answer
-use Rattle.trace_simulation.specs.declared.answer.PlayedPlan.{PlayedPlan}
 
--- the answer can be written: the history has a text of the second format
+-- the answer can be written
 abbrev pub IsShown : SimulationAnswer → Type 0
 IsShown (answer.Broken fault) = Unit {0}
-IsShown (answer.Played made) = CanBePrinted made.plan.cores (history_of made.played)
+IsShown (answer.Played left) = CanBeWritten (closed_of left)
 IsShown (answer.Wasted waste) = Unit {0}
 
--- what serial play came to wasted this
-abbrev pub WastesPlayed : Meaning → Plan → Played → PlayedWaste → Type 0
-WastesPlayed p plan (played.Whole history) (wasted.Whole report) = IsWaste p plan history report
-WastesPlayed p plan (played.Whole history) (wasted.Full report) = ⊥
-WastesPlayed p plan (played.Full history) (wasted.Whole report) = ⊥
-WastesPlayed p plan (played.Full history) (wasted.Full report) = IsWaste p plan history report
+-- a history of the plan that ends so wastes this
+abbrev pub WastesSo : (Ends : List Entry → Type 0) → Meaning → Plan → WasteReport → Type 0
+WastesSo Ends p plan report = (history : List Entry) × Ends history × IsWaste p plan history report
+
+-- serial play of the plan wastes this
+abbrev pub WastesPlan : Meaning → Plan → PlayedWaste → Type 0
+WastesPlan p plan (wasted.Whole report) = WastesSo (EndsWhole p plan) p plan report
+WastesPlan p plan (wasted.Full report) = WastesSo (StopsFull p plan) p plan report
 
 module _ (p : Meaning) (text : List ℕ) where
-  -- the plan is the one that the text means, and that is what serial play of it comes to
-  pub record IsPlayedPlan (made : PlayedPlan) : Type 0 where
-    pub means : MeansPlan p text made.plan
-    pub played : IsPlayed p made.plan made.played
-
   -- the text means a plan, serial play of which ends so with this history
   pub record Simulates (Ends : Meaning → Plan → List Entry → Type 0) (history : List Entry) : Type 0 where
     pub plan : Plan
@@ -50,12 +44,12 @@ module _ (p : Meaning) (text : List ℕ) where
   -- the answer is the history that the text gets
   abbrev pub IsSimulationOf : SimulationAnswer → Type 0
   IsSimulationOf (answer.Broken fault) = HasFault p text fault
-  IsSimulationOf (answer.Played made) = IsPlayedPlan made
+  IsSimulationOf (answer.Played left) = PlaysCores p text left
   IsSimulationOf (answer.Wasted waste) = ⊥
 
   -- the answer is what that history wastes
   abbrev pub IsWasteOf : SimulationAnswer → Type 0
   IsWasteOf (answer.Broken fault) = HasFault p text fault
-  IsWasteOf (answer.Played made) = ⊥
+  IsWasteOf (answer.Played left) = ⊥
   IsWasteOf (answer.Wasted (wasted.Whole report)) = Wastes EndsWhole report
   IsWasteOf (answer.Wasted (wasted.Full report)) = Wastes StopsFull report

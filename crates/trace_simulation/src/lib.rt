@@ -8,6 +8,6 @@ mod answer;
 mod memory;
 mod simulating;
 
-pub use answer::{PlayedPlan, PlayedWaste, SimulationAnswer};
+pub use answer::{PlayedWaste, SimulationAnswer};
 pub use memory::SimulationMemory;
 pub use simulating::{simulate_text, waste_text};

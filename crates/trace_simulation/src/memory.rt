@@ -1,7 +1,7 @@
 //! Want of memory.
 
-use round_model::ModelMemory;
 use sched_report::ReportMemory;
+use trace_play::PlayMemory;
 
 /// Why a trace wasn't simulated.
 #[derive(Clone, Copy, Debug, PartialEq, Eq)]
@@ -10,13 +10,13 @@ pub enum SimulationMemory {
     Memory,
 }
 
-impl From<ModelMemory> for SimulationMemory {
+impl From<PlayMemory> for SimulationMemory {
     ghost use Rattle.std.specs.Prelude.{◌≡◌};
     ghost use Rattle.trace_simulation.specs.declared.memory.SimulationMemory.TheVariants.{Memory};
 
     ghost from_gives = { λ _ fault. fault ≡ Memory };
 
-    fn from(_fault: ModelMemory) -> SimulationMemory {
+    fn from(_fault: PlayMemory) -> SimulationMemory {
         SimulationMemory::Memory
     }
 }

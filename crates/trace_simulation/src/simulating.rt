@@ -1,25 +1,21 @@
 //! Simulates a trace's text.
 
-ghost use Rattle.std.specs.Prelude.{◌<◌, IfErr, IfOk, length};
+ghost use Rattle.std.specs.Prelude.{◌<◌, IfOk, length};
 ghost use Rattle.policy_tree.specs.Meaning.{meaning_of};
 ghost use Rattle.policy_eval.specs.Obligations.{MeetsHandlerObligations};
-ghost use Rattle.policy_eval.specs.Resolved.{IsResolved};
 ghost use Rattle.round_model.specs.Fits.{Fits};
 ghost use Rattle.round_model.specs.Limits.{IsWithinLimits};
-ghost use Rattle.serial_steps.specs.SerialEnds.{IsPlayed};
-ghost use Rattle.trace_play.specs.Plays.{IsPlanStop};
-ghost use Rattle.trace_simulation.specs.Simulations.{IsPlayedPlan, IsShown, IsSimulationOf, IsWasteOf, WastesPlayed};
+ghost use Rattle.trace_simulation.specs.Simulations.{IsShown, IsSimulationOf, IsWasteOf, WastesPlan};
 
-use crate::answer::{PlayedPlan, PlayedWaste, SimulationAnswer};
+use crate::answer::{PlayedWaste, SimulationAnswer};
 use crate::memory::SimulationMemory;
 use policy_checker::PlayablePolicy;
 use policy_tree::Policy;
-use round_model::ModelMemory;
+use round_model::Plan;
 use sched_report::waste;
-use serial_play::play_rounds;
 use serial_steps::Played;
 use std::alloc::Global;
-use trace_play::{PlanStop, plan_text};
+use trace_play::{PlanStop, PlayAnswer, plan_text, play_plan, play_under};
 
 /// The serial history of the trace that the text spells, under a policy that can be played.
 pub fn simulate_text(
@@ -31,10 +27,9 @@ pub fn simulate_text(
     ensures simulation { IfOk result (IsSimulationOf (meaning_of policy.now) text.now) }
     ensures shown { IfOk result IsShown }
 {
-    match played_plan(alloc, policy.policy(), text) {
-        Ok(made) => Ok(SimulationAnswer::Played(made)),
-        Err(PlanStop::Broken(fault)) => Ok(SimulationAnswer::Broken(fault)),
-        Err(PlanStop::Memory) => Err(SimulationMemory::Memory),
+    match play_under(alloc, policy.policy(), text)? {
+        PlayAnswer::Broken(fault) => Ok(SimulationAnswer::Broken(fault)),
+        PlayAnswer::Played(cores) => Ok(SimulationAnswer::Played(cores)),
     }
 }
 
@@ -48,44 +43,22 @@ pub fn waste_text(
     ensures waste { IfOk result (IsWasteOf (meaning_of policy.now) text.now) }
     ensures shown { IfOk result IsShown }
 {
-    match played_plan(alloc, policy.policy(), text) {
-        Ok(made) => Ok(SimulationAnswer::Wasted(waste_of(alloc, policy.policy(), &made)?)),
+    match plan_text(alloc, policy.policy(), text) {
+        Ok(plan) => Ok(SimulationAnswer::Wasted(waste_of(alloc, policy.policy(), &plan)?)),
         Err(PlanStop::Broken(fault)) => Ok(SimulationAnswer::Broken(fault)),
         Err(PlanStop::Memory) => Err(SimulationMemory::Memory),
     }
 }
 
-/// The plan that the trace of the text means under the policy, played.
-fn played_plan(alloc: Global, policy: &Policy, text: &[u8]) -> Result<PlayedPlan, PlanStop>
-    requires resolved { IsResolved (meaning_of policy.now) }
+/// What the serial history of the plan wastes.
+fn waste_of(alloc: Global, policy: &Policy, plan: &Plan) -> Result<PlayedWaste, SimulationMemory>
     requires handlers { MeetsHandlerObligations (meaning_of policy.now) }
-    requires small { length text.now < u32.MAX }
-    ensures made { IfOk result (IsPlayedPlan (meaning_of policy.now) text.now) }
-    ensures stop { IfErr result (IsPlanStop (meaning_of policy.now) text.now) }
+    requires fits { Fits (meaning_of policy.now) plan.now }
+    requires limits { IsWithinLimits plan.now }
+    ensures { IfOk result (WastesPlan (meaning_of policy.now) plan.now) }
 {
-    let plan = plan_text(alloc, policy, text)?;
-    match play_rounds(alloc, policy, &plan) {
-        Ok(played) => Ok(PlayedPlan { plan, played }),
-        Err(ModelMemory::Memory) => Err(PlanStop::Memory),
-    }
-}
-
-/// What the history wasted that was played of the plan.
-fn waste_of(
-    alloc: Global,
-    policy: &Policy,
-    made: &PlayedPlan,
-) -> Result<PlayedWaste, SimulationMemory>
-    requires handlers { MeetsHandlerObligations (meaning_of policy.now) }
-    requires fits { Fits (meaning_of policy.now) made.now.plan }
-    requires limits { IsWithinLimits made.now.plan }
-    requires played { IsPlayed (meaning_of policy.now) made.now.plan made.now.played }
-    ensures { IfOk result (WastesPlayed (meaning_of policy.now) made.now.plan made.now.played) }
-{
-    match &made.played {
-        Played::Whole(history) => {
-            Ok(PlayedWaste::Whole(waste(alloc, policy, &made.plan, history)?))
-        }
-        Played::Full(history) => Ok(PlayedWaste::Full(waste(alloc, policy, &made.plan, history)?)),
+    match play_plan(alloc, policy, plan)? {
+        Played::Whole(history) => Ok(PlayedWaste::Whole(waste(alloc, policy, plan, &history)?)),
+        Played::Full(history) => Ok(PlayedWaste::Full(waste(alloc, policy, plan, &history)?)),
     }
 }

@@ -4,3 +4,4 @@ pub mod Telling
 pub mod ModelAsks
 pub mod Awaiting
 pub mod Counting
+pub mod Asked

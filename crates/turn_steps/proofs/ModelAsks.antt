@@ -10,8 +10,7 @@ use Rattle.round_model.specs.declared.state.Blocked.{Blocked}
 use Rattle.round_model.specs.After.{after, round_of}
 use Rattle.round_model.specs.Kinds.{is_attempt, is_work}
 use Rattle.round_model.specs.Scenes.{Scene, entering_next, has_attempted, has_worked, own_entries, scene_of, waking_next}
-use Rattle.serial_steps.specs.TurnSteps.{TurnStep, attempting, entering, looking, over}
-use Rattle.serial_steps.specs.TurnSteps.{step_behind_unit, step_to_enter, step_to_wake, turn_step_of, waking, working}
+use Rattle.serial_steps.specs.TurnSteps.{TurnStep, attempting, entering, looking, over, step_behind_unit, step_to_enter, step_to_wake, turn_step_of, waking, working}
 use Rattle.core_state.specs.declared.logged.Logged.{Logged}
 use Rattle.core_table.specs.declared.views.View.{View}
 use Rattle.core_table.specs.Told.{Agrees, IsTrueRole}
@@ -132,7 +131,7 @@ module _ (t : TurnState) (v : View) (h : List Entry) (told : IsAsTold t v) (ag :
       late_is = to_wake ∙ (ap (step_to_wake (own_entries h t.core) look) none_due ∙ ap₂ (λ b c. cond b over (cond c (step_behind_unit look) working)) has_tried has_run)
 
 -- of lists that are as long as so many items, none is behind these
-behind_all : {X : Type 0} (xs : List X) (n : ℕ) → n ≡ length xs → slice_get xs n ≡ None
+pub behind_all : {X : Type 0} (xs : List X) (n : ℕ) → n ≡ length xs → slice_get xs n ≡ None
 behind_all [] n is = refl
 behind_all (x ∷ xs) zero is = absurd (omega arith)
 behind_all (x ∷ xs) (suc n) is = behind_all xs n (omega arith)

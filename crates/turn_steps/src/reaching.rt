@@ -2,7 +2,8 @@
 
 ghost use Rattle.std.specs.Prelude.{◌≡◌};
 ghost use Rattle.turn_steps.specs.Code.Reaching.{ended_by as ended_in_unit, ended_in, entries_in};
-ghost use Rattle.turn_steps.specs.Reaches.{with_attempt as and_attempt, with_look as and_look};
+ghost use Rattle.turn_steps.specs.Code.Reaching.{has_acted_in, has_worked_in, may_wake_in};
+ghost use Rattle.turn_steps.specs.Reaches.{look_in, with_attempt as and_attempt, with_look as and_look};
 
 use crate::reached::Reached;
 use round_model::Did;
@@ -10,6 +11,46 @@ use sched_base::ThreadId;
 use select_phase::Look;
 
 impl Reached {
+    /// Whether threads may still wake: it wasn't told that none is due.
+    pub(crate) fn may_wake(self) -> Option<()>
+        ensures { result ≡ may_wake_in self }
+    {
+        match self {
+            Reached::Threads => Some(()),
+            _ => None,
+        }
+    }
+
+    /// Whether the unit was run.
+    pub(crate) fn has_worked(self) -> bool
+        ensures { result ≡ has_worked_in self }
+    {
+        match self {
+            Reached::Threads | Reached::NothingDue => false,
+            Reached::Worked(_) | Reached::Looked(..) | Reached::Acted(..) => true,
+        }
+    }
+
+    /// Whether the attempt was made.
+    pub(crate) fn has_acted(self) -> bool
+        ensures { result ≡ has_acted_in self }
+    {
+        match self {
+            Reached::Acted(..) => true,
+            _ => false,
+        }
+    }
+
+    /// The look, where one was told.
+    pub(crate) fn look(self) -> Option<Look>
+        ensures { result ≡ look_in self }
+    {
+        match self {
+            Reached::Looked(_, look) | Reached::Acted(_, look) => Some(look),
+            _ => None,
+        }
+    }
+
     /// With the look behind the unit.
     pub(crate) fn with_look(self, look: Look) -> Reached
         ensures { result ≡ and_look look self }

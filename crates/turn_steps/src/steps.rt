@@ -11,6 +11,7 @@ ghost use Rattle.turn_steps.specs.States.{IsTurnOf, first_state, next_thread, st
 ghost use Rattle.turn_steps.specs.Answers.{Answers, Awaits, drawn, told_so_far, with_told};
 ghost use Rattle.turn_steps.specs.Views.{Counts, IsAsTold};
 ghost use Rattle.turn_steps.specs.Asks.{AsksAsModel};
+ghost use Rattle.turn_steps.specs.Code.Asked.{asked_of};
 ghost use Rattle.turn_steps.specs.Reaches.{IsOver, did_in, look_in};
 
 use crate::asking::{Ask, Told};
@@ -19,6 +20,7 @@ use crate::reached::Reached;
 use crate::turning::Turning;
 use round_model::Plan;
 use sched_base::{CoreId, ThreadId};
+use serial_steps::{NextInTurn, next_in_turn};
 
 impl Turning {
     /// The turn of that core in that round of the plan, which was told nothing yet.
@@ -61,16 +63,37 @@ impl Turning {
         ensures look { (look : Seen) → result ≡ ask.Act look →
             look_in (state_of self.now).reached ≡ Some look }
     {
-        match self.reached {
-            Reached::Threads => match entering_behind(plan, self.core, self.round, self.arrived) {
-                Some(thread) => Ask::Arrive(thread),
-                None => Ask::Wake,
-            },
-            Reached::NothingDue => Ask::Work,
-            Reached::Worked(_) => Ask::Look,
-            Reached::Looked(_, look) => Ask::Act(look),
-            Reached::Acted(..) => Ask::Over,
+        self.asked(plan)
+    }
+
+    /// The same, by the order of a turn.
+    fn asked(&self, plan: &Plan) -> Ask
+        requires plan { IsTurnOf plan.now (state_of self.now) }
+        ensures { result ≡ asked_of plan.now (state_of self.now) }
+    {
+        let entering = self.next_thread(plan);
+        let due = self.reached.may_wake();
+        let (worked, acted) = (self.reached.has_worked(), self.reached.has_acted());
+        let look = self.reached.look();
+        match next_in_turn(entering, due, worked, acted, look) {
+            NextInTurn::Enter(thread) => Ask::Arrive(thread),
+            NextInTurn::Wake(()) => Ask::Wake,
+            NextInTurn::Work => Ask::Work,
+            NextInTurn::Look => Ask::Look,
+            NextInTurn::Attempt(look) => Ask::Act(look),
+            NextInTurn::Over => Ask::Over,
         }
+    }
+
+    /// The thread that enters next, if one is left.
+    fn next_thread(&self, plan: &Plan) -> Option<ThreadId>
+        requires plan { IsTurnOf plan.now (state_of self.now) }
+        ensures { result ≡ next_thread plan.now (state_of self.now) }
+    {
+        if self.arrived == self.entering {
+            return None;
+        }
+        entering_behind(plan, self.core, self.round, self.arrived)
     }
 
     /// Tells the turn what came of that which it asked.

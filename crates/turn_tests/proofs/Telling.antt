@@ -6,7 +6,7 @@ use Rattle.turn_steps.specs.declared.asking.Told.{Told}
 use Rattle.turn_steps.specs.declared.asking.Told.TheVariants as told
 use Rattle.turn_steps.specs.Answers.{told_so_far, with_told}
 use Rattle.turn_steps.specs.States.{IsTurnOf, TurnState, first_state}
-use Rattle.crew_play.specs.Steps.{HasLooked}
+use Rattle.core_calls.specs.Stepping.{HasLooked}
 use Rattle.crew_play.proofs.Handing.{fresh_playing}
 use Rattle.turn_tests.specs.declared.memory_calls.MemoryCalls.{MemoryCalls}
 use Rattle.turn_tests.specs.Beside.{IsBeside}

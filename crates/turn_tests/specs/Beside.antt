@@ -1,7 +1,7 @@
 -- A turn that is taken step by step, by the calls of a core in memory.
 use Rattle.std.specs.Prelude.{ℕ}
 use Rattle.turn_steps.specs.States.{TurnState}
-use Rattle.crew_play.specs.Steps.{HasLooked, IsPlaying}
+use Rattle.core_calls.specs.Stepping.{HasLooked, IsPlaying}
 use Rattle.turn_tests.specs.declared.memory_calls.MemoryCalls.{MemoryCalls}
 use Rattle.turn_tests.specs.Memory.{IsReady, view_of}
 

@@ -9,7 +9,7 @@ ghost use Rattle.turn_tests.specs.Memory.{IsReady, core_of, history_of};
 
 use crate::memory_calls::MemoryCalls;
 use core_calls::Turned;
-use crew_play::crew_step;
+use core_calls::crew_step;
 use sched_io::Gate;
 use std::sync::Wait;
 use turn_steps::{Ask, Turning};

@@ -3,7 +3,7 @@ use Rattle.std.specs.Prelude.{◌≡◌, ℕ, ◌≤◌, List, ◌++◌, All, le
 use Rattle.sched_base.specs.declared.limits.TheConstants.{MAX_STOLEN}
 use Rattle.sched_history.specs.Ranges.{AreStolen, IsThreadNumber}
 use Rattle.sched_history.specs.Spelling.{spaced, spaced_number}
-use Rattle.history_reader.specs.Code.Cuts.{StartsWith}
+use Rattle.text_forms.specs.Cuts.{StartsWith}
 
 abbrev pub IsWithin : ℕ → ℕ → ℕ → Type 0
 IsWithin least most number = (least ≤ number) × (number ≤ most)

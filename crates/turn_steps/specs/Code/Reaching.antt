@@ -1,5 +1,5 @@
 -- What is counted of a turn, as the code does it. No promise rests on this.
-use Rattle.std.specs.Prelude.{ℕ, Option, Some, None}
+use Rattle.std.specs.Prelude.{ℕ, Bool, true, false, Option, Some, None}
 use Rattle.round_model.specs.declared.entry.Did.{Did}
 use Rattle.round_model.specs.declared.entry.Did.TheVariants as did
 use Rattle.turn_steps.specs.declared.reached.Reached.{Reached}
@@ -28,3 +28,27 @@ ended_in reached.NothingDue = None
 ended_in (reached.Worked did) = ended_by did
 ended_in (reached.Looked did look) = ended_by did
 ended_in (reached.Acted did look) = ended_by did
+
+-- whether threads may still wake
+abbrev pub may_wake_in : Reached → Option (Unit {0})
+may_wake_in reached.Threads = Some tt
+may_wake_in reached.NothingDue = None
+may_wake_in (reached.Worked did) = None
+may_wake_in (reached.Looked did look) = None
+may_wake_in (reached.Acted did look) = None
+
+-- whether the unit was run
+abbrev pub has_worked_in : Reached → Bool
+has_worked_in reached.Threads = false
+has_worked_in reached.NothingDue = false
+has_worked_in (reached.Worked did) = true
+has_worked_in (reached.Looked did look) = true
+has_worked_in (reached.Acted did look) = true
+
+-- whether the attempt was made
+abbrev pub has_acted_in : Reached → Bool
+has_acted_in reached.Threads = false
+has_acted_in reached.NothingDue = false
+has_acted_in (reached.Worked did) = false
+has_acted_in (reached.Looked did look) = false
+has_acted_in (reached.Acted did look) = true

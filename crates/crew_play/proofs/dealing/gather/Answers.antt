@@ -8,8 +8,8 @@ use Rattle.parallel_play.specs.Stages.{table_in}
 use Rattle.turn_steps.specs.Reaches.{IsOver}
 use Rattle.crew_play.specs.declared.hands.Hand.{Hand}
 use Rattle.crew_play.specs.Hands.{AllOver, Anybody, IsCrew, IsHandOf, dealt, turn_in}
-use Rattle.crew_play.specs.Steps.{IsPlaying}
-use Rattle.crew_play.proofs.Ending.{has_turned}
+use Rattle.core_calls.specs.Stepping.{IsPlaying}
+use Rattle.core_calls.proofs.Ending.{has_turned}
 use Rattle.crew_play.proofs.Handing.{gathered}
 use Rattle.crew_play.proofs.Places.{holds_last, holds_less}
 use Rattle.crew_play.proofs.dealing.gather.Goals as goal

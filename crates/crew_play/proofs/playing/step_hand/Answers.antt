@@ -7,7 +7,7 @@ use Rattle.parallel_play.specs.Stages.{table_in}
 use Rattle.turn_steps.specs.Reaches.{IsOver}
 use Rattle.turn_steps.specs.States.{TurnState, state_of}
 use Rattle.crew_play.specs.Hands.{turn_in}
-use Rattle.crew_play.specs.Steps.{IsPlaying, Steps}
+use Rattle.core_calls.specs.Stepping.{IsPlaying, Steps}
 use Rattle.crew_play.proofs.Handing.{same_passed}
 use Rattle.crew_play.proofs.Passing.{step_of}
 use Rattle.crew_play.proofs.playing.step_hand.Goals as goal

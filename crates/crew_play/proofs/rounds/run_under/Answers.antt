@@ -26,14 +26,14 @@ returns-then-not-is_due-clause-whole g c =
     let i = c.loop-begun.invariant in let t = c.loop-begun.tally in let v = view_of c.loop-begun.seat in let k = c.loop-begun.begun in
     let p = meaning_of c.args.policy.now in let plan = c.args.plan.now in
     let is_p : meaning_in v ≡ p = ap meaning_of (i.of.opening.policy ∙ sym c.requires.opened.0) in let is_plan : v.plan ≡ plan = i.of.opening.plan ∙ sym c.requires.opened.1 in
-    ends_whole k t v i.between p plan is_p is_plan c.requires.meets c.close.result c.close.ensures.closed (g.G.Gate.passed c.args.gate.now) i.passed (sym c.is_due.ensures ∙ c.if-not-is_due.true)
+    ends_whole k t v i.between p plan is_p is_plan c.close.result c.close.ensures.closed (g.G.Gate.passed c.args.gate.now) i.passed (sym c.is_due.ensures ∙ c.if-not-is_due.true)
 
 pub returns-then-not-round_fits-clause-full : goal.returns-then-not-round_fits-clause-full
 returns-then-not-round_fits-clause-full g c =
     let i = c.loop-begun.invariant in let t = c.loop-begun.tally in let v = view_of c.loop-begun.seat in let k = c.loop-begun.begun in
     let p = meaning_of c.args.policy.now in let plan = c.args.plan.now in
     let is_p : meaning_in v ≡ p = ap meaning_of (i.of.opening.policy ∙ sym c.requires.opened.0) in let is_plan : v.plan ≡ plan = i.of.opening.plan ∙ sym c.requires.opened.1 in
-    ends_full k t v i.between p plan is_p is_plan c.requires.meets c.close-then-not-round_fits.result c.close-then-not-round_fits.ensures.closed (g.G.Gate.passed c.args.gate.now) i.passed (sym c.is_due.ensures ∙ c.if-not-is_due.false)
+    ends_full k t v i.between p plan is_p is_plan c.close-then-not-round_fits.result c.close-then-not-round_fits.ensures.closed (g.G.Gate.passed c.args.gate.now) i.passed (sym c.is_due.ensures ∙ c.if-not-is_due.false)
     (λ room. let fits = c.round_fits.ensures.1 room in let none = c.if-not-round_fits.true in absurd (cc))
 
 pub play_round-requires-clause-may : goal.play_round-requires-clause-may
@@ -65,4 +65,4 @@ returns-clause-whole g c =
     let i = c.loop-begun.invariant in let t = c.loop-begun.tally in let v = view_of c.loop-begun.seat in let k = c.loop-begun.begun in
     let p = meaning_of c.args.policy.now in let plan = c.args.plan.now in
     let is_p : meaning_in v ≡ p = ap meaning_of (i.of.opening.policy ∙ sym c.requires.opened.0) in let is_plan : v.plan ≡ plan = i.of.opening.plan ∙ sym c.requires.opened.1 in
-    ends_whole k t v i.between p plan is_p is_plan c.requires.meets c.close-2.result c.close-2.ensures.closed (g.G.Gate.passed c.args.gate.now) i.passed (due_stops plan k t (let over = c.loop-begun-test.false in omega arith))
+    ends_whole k t v i.between p plan is_p is_plan c.close-2.result c.close-2.ensures.closed (g.G.Gate.passed c.args.gate.now) i.passed (due_stops plan k t (let over = c.loop-begun-test.false in omega arith))

@@ -1,16 +1,10 @@
-use Rattle.std.proofs.Common.{◌≡◌, length, subst, sym}
+use Rattle.std.proofs.Common.{◌≡◌, length}
 use Rattle.policy_tree.specs.Meaning.{meaning_of}
-use Rattle.policy_eval.proofs.Statements.{handler_obligations}
-use Rattle.policy_eval.specs.Obligations.{MeetsHandlerObligations}
 use Rattle.history_merge.specs.Merged.{CanBeWritten}
 use Rattle.trace_play.specs.Plays.{closed_of, played_by}
 use Rattle.trace_run.specs.Runs.{HavePassed, IsRun}
 use Rattle.trace_run.proofs.Merging.{full_can_be_written, full_passed, merged_full, merged_whole, of_left, whole_can_be_written, whole_passed}
 use Rattle.trace_run.proofs.running.run_plan.Goals as goal
-
-pub open-requires-clause-handlers : goal.open-requires-clause-handlers
-open-requires-clause-handlers g c =
-    subst (λ policy. MeetsHandlerObligations (meaning_of policy)) (sym c.policy.ensures.policy) (handler_obligations (meaning_of c.args.policy.now) c.policy.ensures.meets)
 
 pub returns-in-Ok-play_rounds-clause-run : goal.returns-in-Ok-play_rounds-clause-run
 returns-in-Ok-play_rounds-clause-run g c =

@@ -6,7 +6,7 @@ use Rattle.turn_steps.specs.Answers.{Answers}
 use Rattle.turn_steps.specs.Reaches.{look_in}
 use Rattle.turn_steps.specs.States.{state_of}
 use Rattle.crew_play.proofs.Handing.{same_passed}
-use Rattle.crew_play.proofs.Trying.{may_attempt}
+use Rattle.core_calls.proofs.Trying.{may_attempt}
 use Rattle.turn_tests.specs.Memory.{view_of}
 use Rattle.turn_tests.proofs.single_steps.step.Goals as goal
 
