@@ -5,9 +5,9 @@ use Rattle.std.proofs.lemmas.List.Elements.{All-nil}
 use Rattle.linear_cert.specs.Right.{CertTree}
 use Rattle.sched_base.specs.declared.limits.TheConstants.{MAX_SPLITS}
 use Rattle.obligations.specs.declared.names.ObName.{ObName}
-use Rattle.cert_text.specs.Faults.{IsFirstBadLine}
-use Rattle.cert_text.specs.Reading.{nodes_of}
-use Rattle.cert_text.specs.Text.{SpellsCertificate, cert_text}
+use Rattle.cert_lines.specs.Faults.{IsFirstBadLine}
+use Rattle.cert_lines.specs.Reading.{nodes_of}
+use Rattle.cert_lines.specs.Text.{SpellsCertificate, cert_text}
 use Rattle.cert_file.specs.BadLines.{IsBadFrom, parts}
 use Rattle.cert_file.specs.Reading.{IsFront, IsNextCertificate, IsNextLine, IsNextSystem, feeds}
 use Rattle.cert_file.specs.Text.{system_line}

@@ -5,9 +5,9 @@ use Rattle.std.proofs.lemmas.Bool.{eqb-true}
 use Rattle.std.proofs.lemmas.List.Recursion.{is_count_by}
 use Rattle.linear_cert.specs.Right.{CertTree, leaf, split}
 use Rattle.text_forms.specs.Cuts.{Lacks, is_byte}
-use Rattle.cert_text.specs.Reading.{nodes_of}
-use Rattle.cert_text.specs.Text.{AreInRange, cert_text, leaf_line, split_line}
-use Rattle.cert_text.proofs.BadLines.{leaf_lacks_feed, split_lacks_feed}
+use Rattle.cert_lines.specs.Reading.{nodes_of}
+use Rattle.cert_lines.specs.Text.{AreInRange, cert_text, leaf_line, split_line}
+use Rattle.cert_lines.proofs.BadLines.{leaf_lacks_feed, split_lacks_feed}
 use Rattle.cert_file.specs.Reading.{AreLines, no_line, one_more, feeds}
 
 pub feeds_both : (one two : List ℕ) → feeds (one ++ two) ≡ feeds one + feeds two

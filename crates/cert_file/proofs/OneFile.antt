@@ -4,10 +4,10 @@ use Rattle.std.proofs.Common.{◌≡◌, ℕ, suc, ◌+◌, List, [], ◌∷◌,
 use Rattle.std.specs.List.{AllByRecursion}
 use Rattle.std.proofs.lemmas.List.{append-nil, append_cancel_left}
 use Rattle.linear_cert.specs.Right.{CertTree}
-use Rattle.cert_text.specs.Reading.{nodes_of}
-use Rattle.cert_text.specs.Text.{cert_text}
-use Rattle.cert_text.proofs.BadLines.{same_line}
-use Rattle.cert_text.proofs.OneReading.{same_certificate}
+use Rattle.cert_lines.specs.Reading.{nodes_of}
+use Rattle.cert_lines.specs.Text.{cert_text}
+use Rattle.cert_lines.proofs.BadLines.{same_line}
+use Rattle.cert_lines.proofs.OneReading.{same_certificate}
 use Rattle.obligations.specs.declared.names.ObName.{ObName}
 use Rattle.obligations.specs.Names.{ob_names}
 use Rattle.cert_file.specs.BadLines.{all, parts, nothing, takes_heading, IsFirstBadLine}

@@ -9,8 +9,8 @@ use Rattle.obligations.specs.declared.names.ObName.{ObName}
 use Rattle.obligations.specs.declared.obligation.Obligation.{Obligation}
 use Rattle.obligations.specs.Names.{statement_of}
 use Rattle.obligations.specs.Systems.{obligation_of, systems_of}
-use Rattle.cert_text.specs.Reading.{nodes_of}
-use Rattle.cert_text.specs.declared.fault.CertFault.{CertFault}
+use Rattle.cert_lines.specs.Reading.{nodes_of}
+use Rattle.cert_lines.specs.declared.fault.CertFault.{CertFault}
 use Rattle.cert_file.specs.BadLines.{parts, takes_obligation}
 use Rattle.cert_file.specs.Reading.{AreNextSystems, FailsFrom, IsFoundIn, IsFoundOf, IsNextLine, IsNextObligation, IsNextSystem, IsTallyOf, first_of, lines_of}
 use Rattle.cert_file.specs.Text.{IsWritable, obligation_line, obligation_text, obligations_text, system_text, systems_text}

@@ -3,10 +3,10 @@ use Rattle.std.proofs.Common.{◌≡◌, ℕ, suc, ◌+◌, ◌-◌, ◌<◌, Li
 use Rattle.std.specs.List.{AllByRecursion}
 use Rattle.linear_cert.specs.Right.{CertTree, leaf, split, SplitsAtMost}
 use Rattle.sched_base.specs.declared.limits.TheConstants.{MAX_SPLITS}
-use Rattle.cert_text.specs.Faults.{takes_leaf}
-use Rattle.cert_text.specs.Reading.{nodes_of}
-use Rattle.cert_text.specs.Text.{AreInRange, cert_text, leaf_line, split_line}
-use Rattle.cert_text.proofs.BadLines.{takes_with_room}
+use Rattle.cert_lines.specs.Faults.{takes_leaf}
+use Rattle.cert_lines.specs.Reading.{nodes_of}
+use Rattle.cert_lines.specs.Text.{AreInRange, cert_text, leaf_line, split_line}
+use Rattle.cert_lines.proofs.BadLines.{takes_with_room}
 use Rattle.obligations.specs.declared.names.ObName.{ObName}
 use Rattle.cert_file.specs.BadLines.{Coming, parts, nothing, TakesLine, takes_obligation, takes_system, takes_node, IsBadFrom, bad_here, bad_later}
 use Rattle.cert_file.specs.Reading.{lines_of}

@@ -1,10 +1,10 @@
 -- Lines are no more than bytes, and a bad line is one of the text's or the one behind it.
 use Rattle.std.proofs.Common.{ℕ, ◌+◌, ◌≤◌, List, [], ◌∷◌, length, length-append, arith}
 use Rattle.linear_cert.specs.Right.{CertTree}
-use Rattle.cert_text.specs.Faults.{IsBadAt, bad_here, bad_later}
-use Rattle.cert_text.specs.Reading.{nodes_of}
-use Rattle.cert_text.specs.Text.{cert_text}
-use Rattle.cert_text.proofs.BadLines.{lines_fit}
+use Rattle.cert_lines.specs.Faults.{IsBadAt, bad_here, bad_later}
+use Rattle.cert_lines.specs.Reading.{nodes_of}
+use Rattle.cert_lines.specs.Text.{cert_text}
+use Rattle.cert_lines.proofs.BadLines.{lines_fit}
 use Rattle.cert_file.specs.Reading.{lines_of}
 use Rattle.cert_file.specs.Text.{system_line, system_text, systems_text}
 

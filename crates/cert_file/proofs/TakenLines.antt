@@ -10,10 +10,10 @@ use Rattle.obligations.specs.declared.names.ObName.{ObName}
 use Rattle.obligations.specs.declared.names.ObName.TheVariants as name
 use Rattle.obligations.specs.Names.{ob_names, ob_text}
 use Rattle.text_forms.specs.Cuts.{Lacks}
-use Rattle.cert_text.specs.Faults.{Takes}
-use Rattle.cert_text.proofs.BadLines.{same_line, takes_lacks_feed}
-use Rattle.cert_text.proofs.Digits.{decimal_lacks}
-use Rattle.cert_text.proofs.OneReading.{same_takes}
+use Rattle.cert_lines.specs.Faults.{Takes}
+use Rattle.cert_lines.proofs.BadLines.{same_line, takes_lacks_feed}
+use Rattle.cert_lines.proofs.Digits.{decimal_lacks}
+use Rattle.cert_lines.proofs.OneReading.{same_takes}
 use Rattle.cert_file.specs.BadLines.{Coming, all, parts, TakesLine, takes_heading, takes_obligation, takes_system, takes_node}
 use Rattle.cert_file.specs.Text.{heading, obligation_line, system_line}
 

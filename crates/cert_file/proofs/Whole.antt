@@ -8,7 +8,7 @@ use Rattle.obligations.specs.Counts.{first_crowded}
 use Rattle.obligations.specs.Names.{ob_names}
 use Rattle.policy_checker.specs.Certified.{IsCertified}
 use Rattle.policy_checker.proofs.True.{meets}
-use Rattle.cert_text.specs.declared.fault.CertFault.{CertFault}
+use Rattle.cert_lines.specs.declared.fault.CertFault.{CertFault}
 use Rattle.cert_file.specs.Answers.{IsCauseOf, IsUncrowded, IsVerified}
 use Rattle.cert_file.specs.BadLines.{Coming, all, parts, takes_heading, IsBadFrom, bad_here}
 use Rattle.cert_file.specs.Reading.{FailsFrom, IsFoundOf, IsTallyOf, IsTallyOfFile, verdict_by, verdict_of}

@@ -1,11 +1,11 @@
 -- Where a bad line stands within a certificate, and where the text breaks off there.
 use Rattle.std.proofs.Common.{◌≡◌, ◌≢◌, ℕ, suc, ◌+◌, ◌-◌, ◌<◌, ◌^◌, List, [], ◌∷◌, ◌++◌, Result, Ok, Err, IfErr, length, length-append, append_assoc, ap, sym, subst, ◌∙◌, refl, arith}
 use Rattle.text_forms.specs.Cuts.{Lacks}
-use Rattle.cert_text.specs.Faults.{Takes, IsBadAt, bad_here as cert_bad_here, bad_later as cert_bad_later}
-use Rattle.cert_text.specs.declared.fault.CertFault.{CertFault}
-use Rattle.cert_text.specs.declared.fault.CertFault.TheVariants.{BadText, Memory}
-use Rattle.cert_text.proofs.BadLines.{same_line, takes_lacks_feed}
-use Rattle.cert_text.proofs.Words.{nowhere}
+use Rattle.cert_lines.specs.Faults.{Takes, IsBadAt, bad_here as cert_bad_here, bad_later as cert_bad_later}
+use Rattle.cert_lines.specs.declared.fault.CertFault.{CertFault}
+use Rattle.cert_lines.specs.declared.fault.CertFault.TheVariants.{BadText, Memory}
+use Rattle.cert_lines.proofs.BadLines.{same_line, takes_lacks_feed}
+use Rattle.cert_lines.proofs.Words.{nowhere}
 use Rattle.obligations.specs.declared.names.ObName.{ObName}
 use Rattle.cert_file.specs.BadLines.{Coming, parts, nothing, TakesLine, takes_node, IsBadFrom, bad_here, bad_later}
 use Rattle.cert_file.specs.Reading.{AreLines, no_line, one_more, FailsFrom, IsNextLine, feeds}

@@ -12,8 +12,8 @@ use Rattle.obligations.specs.Systems.{systems_of}
 use Rattle.policy_checker.specs.Certified.{Certifies}
 use Rattle.policy_checker.specs.Refuted.{Refutes}
 use Rattle.text_forms.specs.Cuts.{is_byte}
-use Rattle.cert_text.specs.Reading.{nodes_of}
-use Rattle.cert_text.specs.Text.{SpellsCertificate}
+use Rattle.cert_lines.specs.Reading.{nodes_of}
+use Rattle.cert_lines.specs.Text.{SpellsCertificate}
 use Rattle.cert_file.specs.Reading.{AreWritten, feeds}
 use Rattle.cert_file.specs.Text.{AreWritable, IsWritable, obligation_line, obligation_text, obligations_text, system_line, system_text, systems_text}
 use Rattle.cert_file.specs.Wrong.{Proves}

@@ -1,7 +1,7 @@
 -- The first line of a text that may not stand where it does, by what is still to come.
 use Rattle.std.specs.Prelude.{◌≡◌, ℕ, suc, ◌+◌, ◌<◌, ◌^◌, List, [], ◌∷◌, ◌++◌}
 use Rattle.sched_base.specs.declared.limits.TheConstants.{MAX_SPLITS}
-use Rattle.cert_text.specs.Faults.{Takes}
+use Rattle.cert_lines.specs.Faults.{Takes}
 use Rattle.obligations.specs.declared.names.ObName.{ObName}
 use Rattle.obligations.specs.Names.{ob_names}
 use Rattle.cert_file.specs.Text.{heading, obligation_line, system_line}

@@ -11,10 +11,10 @@ use Rattle.obligations.specs.Names.{ob_names}
 use Rattle.policy_checker.specs.Certified.{Certifies}
 use Rattle.policy_checker.specs.Refuted.{Refutes}
 use Rattle.text_forms.specs.Cuts.{Lacks, is_byte}
-use Rattle.cert_text.specs.Reading.{nodes_of}
-use Rattle.cert_text.specs.Text.{cert_text}
-use Rattle.cert_text.specs.declared.fault.CertFault.{CertFault}
-use Rattle.cert_text.specs.declared.fault.CertFault.TheVariants as text_fault
+use Rattle.cert_lines.specs.Reading.{nodes_of}
+use Rattle.cert_lines.specs.Text.{cert_text}
+use Rattle.cert_lines.specs.declared.fault.CertFault.{CertFault}
+use Rattle.cert_lines.specs.declared.fault.CertFault.TheVariants as text_fault
 use Rattle.cert_file.specs.BadLines.{Coming, IsBadFrom}
 use Rattle.cert_file.specs.Text.{AreWritable, IsWritable, file_text, obligation_text, obligations_text}
 use Rattle.cert_file.specs.Text.{system_text, systems_text}

@@ -2,8 +2,8 @@
 use Rattle.std.specs.Prelude.{◌≡◌, ℕ, ◌<◌, ◌^◌, List, [], ◌∷◌, ◌++◌, codes, decimal, length}
 use Rattle.std.specs.List.{AllByRecursion}
 use Rattle.linear_cert.specs.Right.{CertTree, IsShallow}
-use Rattle.cert_text.specs.Reading.{nodes_of}
-use Rattle.cert_text.specs.Text.{AreInRange, cert_text}
+use Rattle.cert_lines.specs.Reading.{nodes_of}
+use Rattle.cert_lines.specs.Text.{AreInRange, cert_text}
 use Rattle.obligations.specs.declared.names.ObName.{ObName}
 use Rattle.obligations.specs.Names.{ob_names, ob_text}
 

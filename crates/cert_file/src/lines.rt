@@ -7,7 +7,7 @@ ghost use Rattle.cert_file.specs.BadLines.{parts};
 ghost use Rattle.cert_file.specs.Reading.{FailsFrom, HasNoLine, IsNextLine};
 ghost use Rattle.cert_file.specs.Text.{obligation_line, system_line};
 
-use cert_text::{CertFault, narrow_in, unsigned_in};
+use cert_lines::{CertFault, narrow_in, unsigned_in};
 use obligations::ObName;
 use text_forms::cut;
 

@@ -9,7 +9,7 @@ ghost use Rattle.cert_file.specs.Reading.{FailsFrom, IsNextCertificate, IsNextSy
 
 use crate::fronts::front_of;
 use crate::lines::{Rest, next_length};
-use cert_text::{CertFault, read_cert};
+use cert_lines::{CertFault, read_cert};
 use linear_cert::Cert;
 use std::alloc::Global;
 

@@ -12,7 +12,7 @@ ghost use Rattle.cert_file.specs.Reading.{IsNextObligation, IsTallyOf, first_of}
 
 use crate::lines::{Rest, next_count};
 use crate::reading::next_system;
-use cert_text::CertFault;
+use cert_lines::CertFault;
 use linear_cert::{Cert, check};
 use linear_form::System;
 use obligations::{ObName, Obligation};

@@ -12,7 +12,7 @@ ghost use Rattle.cert_file.specs.Reading.{FailsFrom, IsTallyOfFile, verdict_of};
 use crate::answer::{Verified, VerifyFault};
 use crate::lines::{Rest, behind};
 use crate::systems::{Tally, next_obligations};
-use cert_text::CertFault;
+use cert_lines::CertFault;
 use obligations::{Obligation, ObligeFault, oblige};
 use policy_tree::Policy;
 use std::alloc::Global;

@@ -10,7 +10,7 @@ ghost use Rattle.cert_file.specs.Reading.{AreWritten};
 ghost use Rattle.cert_file.specs.Text.{AreWritable, IsWritable, obligation_text, system_text, systems_text};
 
 use crate::answer::CertFileMemory;
-use cert_text::{CertText, put_number, write_cert};
+use cert_lines::{CertText, put_number, write_cert};
 use linear_cert::Cert;
 use obligations::ObName;
 use policy_checker::AcceptedPolicy;

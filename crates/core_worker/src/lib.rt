@@ -1,5 +1,7 @@
 //! Serial play over running cores: one history of each plan, in which the cores take turns by the order lines.
 //!
+//! The worker of the name is the one thread that plays all cores. A crew's workers are in `crew_play`.
+//!
 //! Only the opening of the cores takes memory. The logs of the cores and of the rounds are those of the history that
 //! was played.
 #![tactic(auto)]

@@ -3,7 +3,7 @@
 
 use crate::spelling::parts;
 use crate::systems::system_of;
-use cert_text::{CertFault, CertText, read_cert, write_cert};
+use cert_lines::{CertFault, CertText, read_cert, write_cert};
 use linear_cert::check;
 use linear_form::System;
 use std::alloc::{AllocError, Global};

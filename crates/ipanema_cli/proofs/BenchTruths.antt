@@ -8,7 +8,7 @@ use Rattle.obligations.specs.Counts.{first_crowded}
 use Rattle.obligations.specs.Names.{ob_names}
 use Rattle.policy_checker.specs.declared.verdict.Verdict.TheVariants as verdict
 use Rattle.policy_checker.proofs.Worth.{open_one, unmet}
-use Rattle.policy_check.specs.declared.answer.CheckAnswer.TheVariants as checked
+use Rattle.policy_answers.specs.declared.answer.CheckAnswer.TheVariants as checked
 use Rattle.round_laws.proofs.MainTheorem.{main_theorem}
 use Rattle.fair_policy.specs.Fair.{fair_meaning}
 use Rattle.fair_policy.proofs.FairMeets.{fair_meets}

@@ -26,13 +26,13 @@ use Rattle.policy_checker.specs.declared.verdict.Verdict.{Verdict}
 use Rattle.policy_checker.specs.declared.verdict.Verdict.TheVariants as verdict
 use Rattle.policy_checker.proofs.Points.{points_refute}
 use Rattle.policy_checker.proofs.True.{meets, statements_are_true}
-use Rattle.policy_check.specs.Bounds.{IsBounded, IsBoundOf, IsToldOfLast, bound_lines, told_of}
-use Rattle.policy_check.specs.Checks.{IsCheckOf}
-use Rattle.policy_check.specs.Lines.{check_lines}
-use Rattle.policy_check.specs.declared.answer.CheckAnswer.TheVariants as checked
-use Rattle.policy_check.specs.declared.bounding.BoundAnswer.{BoundAnswer}
-use Rattle.policy_check.specs.declared.bounding.BoundAnswer.TheVariants as bounded
-use Rattle.policy_check.specs.declared.bounding.Bounding.{Bounding}
+use Rattle.policy_answers.specs.Bounds.{IsBounded, IsBoundOf, IsToldOfLast, bound_lines, told_of}
+use Rattle.policy_answers.specs.Checks.{IsCheckOf}
+use Rattle.policy_answers.specs.Lines.{check_lines}
+use Rattle.policy_answers.specs.declared.answer.CheckAnswer.TheVariants as checked
+use Rattle.policy_answers.specs.declared.bounding.BoundAnswer.{BoundAnswer}
+use Rattle.policy_answers.specs.declared.bounding.BoundAnswer.TheVariants as bounded
+use Rattle.policy_answers.specs.declared.bounding.Bounding.{Bounding}
 use Rattle.round_laws.proofs.MainTheorem.{main_theorem}
 use Rattle.ipanema_cli.specs.PolicyAnswers.{AnswersBound}
 use Rattle.ipanema_cli.specs.BoundTruths.{BoundsTruly, IsTrueOfLast, LastIsOpen, MustBound, ShowsTaking}

@@ -5,16 +5,16 @@ use Rattle.sched_io.specs.Shown.{Shown}
 use Rattle.sched_io.specs.Told.{Told}
 use Rattle.sched_io.specs.Written.{Adds}
 use Rattle.policy_checker.specs.declared.verdict.Verdict.TheVariants as verdict
-use Rattle.policy_check.specs.Checks.{IsCheckOf, IsRefusal}
-use Rattle.policy_check.specs.Lines.{check_lines, refusal_line}
-use Rattle.policy_check.specs.declared.answer.CheckAnswer.{CheckAnswer}
-use Rattle.policy_check.specs.declared.answer.CheckAnswer.TheVariants as checked
-use Rattle.policy_check.specs.declared.bounding.BoundAnswer.TheVariants as bounded
-use Rattle.policy_check.specs.declared.resting.RestAnswer.TheVariants as rested
-use Rattle.policy_check.specs.declared.explaining.ExplainAnswer.TheVariants as explained
-use Rattle.policy_check.specs.declared.reading.Refusal.{Refusal}
-use Rattle.policy_check.specs.declared.reading.Refusal.TheVariants as refusal
-use Rattle.policy_check.specs.declared.verifying.VerifyAnswer.TheVariants as verified
+use Rattle.policy_answers.specs.Checks.{IsCheckOf, IsRefusal}
+use Rattle.policy_answers.specs.Lines.{check_lines, refusal_line}
+use Rattle.policy_answers.specs.declared.answer.CheckAnswer.{CheckAnswer}
+use Rattle.policy_answers.specs.declared.answer.CheckAnswer.TheVariants as checked
+use Rattle.policy_answers.specs.declared.bounding.BoundAnswer.TheVariants as bounded
+use Rattle.policy_answers.specs.declared.resting.RestAnswer.TheVariants as rested
+use Rattle.policy_answers.specs.declared.explaining.ExplainAnswer.TheVariants as explained
+use Rattle.policy_answers.specs.declared.reading.Refusal.{Refusal}
+use Rattle.policy_answers.specs.declared.reading.Refusal.TheVariants as refusal
+use Rattle.policy_answers.specs.declared.verifying.VerifyAnswer.TheVariants as verified
 use Rattle.cert_file.specs.Wrong.{Proves}
 use Rattle.trace_play.specs.declared.answer.PlayAnswer.TheVariants as play_answer
 use Rattle.trace_play.specs.declared.cores.PlayedCores.TheVariants as cores

@@ -13,12 +13,12 @@ use Rattle.policy_checker.specs.Verdicts.{policy_of}
 use Rattle.policy_checker.specs.declared.verdict.Verdict.{Verdict}
 use Rattle.policy_checker.specs.declared.verdict.Verdict.TheVariants as verdict
 use Rattle.policy_checker.proofs.True.{meets}
-use Rattle.policy_check.specs.Checks.{IsCheckOf, IsJudged, IsRefusal}
-use Rattle.policy_check.specs.Lines.{check_lines, refusal_line, verdict_lines}
-use Rattle.policy_check.specs.declared.answer.CheckAnswer.{CheckAnswer}
-use Rattle.policy_check.specs.declared.answer.CheckAnswer.TheVariants as checked
-use Rattle.policy_check.specs.declared.reading.Refusal.{Refusal}
-use Rattle.policy_check.specs.declared.reading.Refusal.TheVariants as refusal
+use Rattle.policy_answers.specs.Checks.{IsCheckOf, IsJudged, IsRefusal}
+use Rattle.policy_answers.specs.Lines.{check_lines, refusal_line, verdict_lines}
+use Rattle.policy_answers.specs.declared.answer.CheckAnswer.{CheckAnswer}
+use Rattle.policy_answers.specs.declared.answer.CheckAnswer.TheVariants as checked
+use Rattle.policy_answers.specs.declared.reading.Refusal.{Refusal}
+use Rattle.policy_answers.specs.declared.reading.Refusal.TheVariants as refusal
 use Rattle.round_laws.proofs.EqualWeights.{equal_weights}
 use Rattle.round_laws.proofs.MainTheorem.{main_theorem}
 use Rattle.round_laws.proofs.WastePaid.{waste_is_paid_law}

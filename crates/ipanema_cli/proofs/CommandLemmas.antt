@@ -1,7 +1,7 @@
 -- Which commands have which answers.
 use Rattle.std.proofs.Common.{◌≡◌, ℕ, inl, inr, List, Option, Some, None, refl}
 use Rattle.sched_io.specs.Told.{Told}
-use Rattle.policy_check.specs.declared.verifying.VerifyAnswer.{VerifyAnswer}
+use Rattle.policy_answers.specs.declared.verifying.VerifyAnswer.{VerifyAnswer}
 use Rattle.trace_play.specs.declared.answer.PlayAnswer.{PlayAnswer}
 use Rattle.history_replay.specs.declared.answer.HistoryAnswer.{HistoryAnswer}
 use Rattle.trace_simulation.specs.declared.answer.SimulationAnswer.{SimulationAnswer}

@@ -19,11 +19,11 @@ use Rattle.policy_checker.specs.declared.answer.Outcome.TheVariants as outcome
 use Rattle.policy_checker.proofs.Decided.{closed}
 use Rattle.policy_checker.proofs.Points.{points_refute}
 use Rattle.policy_checker.proofs.True.{answers_are_true}
-use Rattle.policy_check.specs.Checks.{IsExplained, IsExplainOf}
-use Rattle.policy_check.specs.Lines.{explain_lines}
-use Rattle.policy_check.specs.declared.explaining.ExplainAnswer.{ExplainAnswer}
-use Rattle.policy_check.specs.declared.explaining.ExplainAnswer.TheVariants as explained
-use Rattle.policy_check.specs.declared.explaining.Explanation.{Explanation}
+use Rattle.policy_answers.specs.Checks.{IsExplained, IsExplainOf}
+use Rattle.policy_answers.specs.Lines.{explain_lines}
+use Rattle.policy_answers.specs.declared.explaining.ExplainAnswer.{ExplainAnswer}
+use Rattle.policy_answers.specs.declared.explaining.ExplainAnswer.TheVariants as explained
+use Rattle.policy_answers.specs.declared.explaining.Explanation.{Explanation}
 use Rattle.ipanema_cli.specs.PolicyAnswers.{AnswersExplain}
 use Rattle.ipanema_cli.specs.Causes.{OneOf}
 use Rattle.ipanema_cli.specs.Ends.{Writes}

@@ -10,11 +10,11 @@ use Rattle.policy_tree.specs.Meaning.{Meaning}
 use Rattle.policy_checker.specs.declared.verdict.Verdict.{Verdict}
 use Rattle.policy_checker.specs.declared.verdict.Verdict.TheVariants as verdict
 use Rattle.policy_checker.proofs.True.{meets}
-use Rattle.policy_check.specs.Checks.{IsCheckOf}
-use Rattle.policy_check.specs.Lines.{check_lines}
-use Rattle.policy_check.specs.declared.answer.CheckAnswer.{CheckAnswer}
-use Rattle.policy_check.specs.declared.answer.CheckAnswer.TheVariants as checked
-use Rattle.policy_check.proofs.FirstLines.{joined_lines}
+use Rattle.policy_answers.specs.Checks.{IsCheckOf}
+use Rattle.policy_answers.specs.Lines.{check_lines}
+use Rattle.policy_answers.specs.declared.answer.CheckAnswer.{CheckAnswer}
+use Rattle.policy_answers.specs.declared.answer.CheckAnswer.TheVariants as checked
+use Rattle.policy_answers.proofs.FirstLines.{joined_lines}
 use Rattle.round_laws.proofs.MainTheorem.{main_theorem}
 use Rattle.ipanema_cli.specs.PolicyAnswers.{AnswersExport, Exporting, IsAccepted, accepts}
 use Rattle.ipanema_cli.specs.Ends.{Writes}

@@ -24,11 +24,11 @@ use Rattle.policy_checker.proofs.Decided.{closed}
 use Rattle.policy_checker.proofs.KeptHandlers.{handlers_certified, handlers_kept, playable_law}
 use Rattle.policy_checker.proofs.True.{answers_are_true, meets}
 use Rattle.policy_checker.proofs.Worth.{open_one, unmet}
-use Rattle.policy_check.specs.Checks.{IsCheckOf, IsRefusal}
-use Rattle.policy_check.specs.declared.answer.CheckAnswer.{CheckAnswer}
-use Rattle.policy_check.specs.declared.answer.CheckAnswer.TheVariants as checked
-use Rattle.policy_check.specs.declared.reading.Refusal.{Refusal}
-use Rattle.policy_check.specs.declared.reading.Refusal.TheVariants as refusal
+use Rattle.policy_answers.specs.Checks.{IsCheckOf, IsRefusal}
+use Rattle.policy_answers.specs.declared.answer.CheckAnswer.{CheckAnswer}
+use Rattle.policy_answers.specs.declared.answer.CheckAnswer.TheVariants as checked
+use Rattle.policy_answers.specs.declared.reading.Refusal.{Refusal}
+use Rattle.policy_answers.specs.declared.reading.Refusal.TheVariants as refusal
 use Rattle.ipanema_cli.specs.Status.{check_status, code_of, refusal_status, verdict_status}
 use Rattle.ipanema_cli.specs.Texts.{MayRead}
 use Rattle.ipanema_cli.specs.CheckTruths.{AllToldTruly, Decides, Holds, IsToldTruly, Refuses, SomeIsOpen, Spells}

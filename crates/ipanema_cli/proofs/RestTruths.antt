@@ -34,13 +34,13 @@ use Rattle.policy_checker.specs.declared.rest_gaps.LeastGap.TheVariants as gap
 use Rattle.policy_checker.specs.declared.verdict.Verdict.{Verdict}
 use Rattle.policy_checker.specs.declared.verdict.Verdict.TheVariants as verdict
 use Rattle.policy_checker.proofs.True.{meets, statements_are_true}
-use Rattle.policy_check.specs.Checks.{IsCheckOf}
-use Rattle.policy_check.specs.Lines.{check_lines}
-use Rattle.policy_check.specs.Rests.{IsAtRest, IsRestOf, IsToldOfGap, rest_lines}
-use Rattle.policy_check.specs.declared.answer.CheckAnswer.TheVariants as checked
-use Rattle.policy_check.specs.declared.resting.RestAnswer.{RestAnswer}
-use Rattle.policy_check.specs.declared.resting.RestAnswer.TheVariants as rested
-use Rattle.policy_check.specs.declared.resting.Resting.{Resting}
+use Rattle.policy_answers.specs.Checks.{IsCheckOf}
+use Rattle.policy_answers.specs.Lines.{check_lines}
+use Rattle.policy_answers.specs.Rests.{IsAtRest, IsRestOf, IsToldOfGap, rest_lines}
+use Rattle.policy_answers.specs.declared.answer.CheckAnswer.TheVariants as checked
+use Rattle.policy_answers.specs.declared.resting.RestAnswer.{RestAnswer}
+use Rattle.policy_answers.specs.declared.resting.RestAnswer.TheVariants as rested
+use Rattle.policy_answers.specs.declared.resting.Resting.{Resting}
 use Rattle.rest_laws.proofs.Gap as cores
 use Rattle.round_laws.proofs.MainTheorem.{main_theorem}
 use Rattle.ipanema_cli.specs.PolicyAnswers.{AnswersRest}

@@ -14,10 +14,10 @@ use Rattle.policy_checker.specs.Verdicts.{policy_of}
 use Rattle.policy_checker.specs.declared.verdict.Verdict.{Verdict}
 use Rattle.policy_checker.specs.declared.verdict.Verdict.TheVariants as verdict
 use Rattle.policy_checker.proofs.KeptHandlers.{playable_law}
-use Rattle.policy_check.specs.Checks.{IsCheckOf}
-use Rattle.policy_check.specs.Lines.{check_lines}
-use Rattle.policy_check.specs.declared.answer.CheckAnswer.{CheckAnswer}
-use Rattle.policy_check.specs.declared.answer.CheckAnswer.TheVariants as checked
+use Rattle.policy_answers.specs.Checks.{IsCheckOf}
+use Rattle.policy_answers.specs.Lines.{check_lines}
+use Rattle.policy_answers.specs.declared.answer.CheckAnswer.{CheckAnswer}
+use Rattle.policy_answers.specs.declared.answer.CheckAnswer.TheVariants as checked
 use Rattle.round_model.specs.declared.entry.Entry.{Entry}
 use Rattle.round_model.specs.declared.plan.Plan.{Plan}
 use Rattle.serial_steps.specs.declared.serial.Played.{Played}

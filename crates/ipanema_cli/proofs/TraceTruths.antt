@@ -15,12 +15,12 @@ use Rattle.policy_checker.specs.declared.verdict.Verdict.{Verdict}
 use Rattle.policy_checker.specs.declared.verdict.Verdict.TheVariants as verdict
 use Rattle.policy_checker.proofs.True.{meets}
 use Rattle.policy_checker.proofs.Worth.{unmet}
-use Rattle.policy_check.specs.Checks.{IsCheckOf, IsJudged}
-use Rattle.policy_check.specs.Lines.{check_lines}
-use Rattle.policy_check.specs.declared.answer.CheckAnswer.{CheckAnswer}
-use Rattle.policy_check.specs.declared.answer.CheckAnswer.TheVariants as checked
-use Rattle.policy_check.specs.declared.reading.Refusal.{Refusal}
-use Rattle.policy_check.specs.declared.reading.Refusal.TheVariants as refusal
+use Rattle.policy_answers.specs.Checks.{IsCheckOf, IsJudged}
+use Rattle.policy_answers.specs.Lines.{check_lines}
+use Rattle.policy_answers.specs.declared.answer.CheckAnswer.{CheckAnswer}
+use Rattle.policy_answers.specs.declared.answer.CheckAnswer.TheVariants as checked
+use Rattle.policy_answers.specs.declared.reading.Refusal.{Refusal}
+use Rattle.policy_answers.specs.declared.reading.Refusal.TheVariants as refusal
 use Rattle.round_model.specs.declared.entry.Entry.{Entry}
 use Rattle.round_model.specs.declared.plan.Plan.{Plan}
 use Rattle.round_model.specs.Fits.{Fits}

@@ -16,13 +16,13 @@ use Rattle.cert_file.specs.declared.answer.Verified.{Verified}
 use Rattle.cert_file.specs.declared.answer.VerifyFault.{VerifyFault}
 use Rattle.cert_file.specs.declared.answer.VerifyFault.TheVariants as fault
 use Rattle.cert_file.proofs.Must.{must_answer}
-use Rattle.policy_check.specs.Checks.{IsRefusal}
-use Rattle.policy_check.specs.Lines.{refusal_line}
-use Rattle.policy_check.specs.Verifying.{IsVerifyOf, verified_line, verify_line}
-use Rattle.policy_check.specs.declared.reading.Refusal.{Refusal}
-use Rattle.policy_check.specs.declared.reading.Refusal.TheVariants as refusal
-use Rattle.policy_check.specs.declared.verifying.VerifyAnswer.{VerifyAnswer}
-use Rattle.policy_check.specs.declared.verifying.VerifyAnswer.TheVariants as found
+use Rattle.policy_answers.specs.Checks.{IsRefusal}
+use Rattle.policy_answers.specs.Lines.{refusal_line}
+use Rattle.policy_answers.specs.Verifying.{IsVerifyOf, verified_line, verify_line}
+use Rattle.policy_answers.specs.declared.reading.Refusal.{Refusal}
+use Rattle.policy_answers.specs.declared.reading.Refusal.TheVariants as refusal
+use Rattle.policy_answers.specs.declared.verifying.VerifyAnswer.{VerifyAnswer}
+use Rattle.policy_answers.specs.declared.verifying.VerifyAnswer.TheVariants as found
 use Rattle.round_laws.proofs.MainTheorem.{main_theorem}
 use Rattle.ipanema_cli.specs.PolicyAnswers.{AnswersVerify}
 use Rattle.ipanema_cli.specs.Causes.{OneOf}

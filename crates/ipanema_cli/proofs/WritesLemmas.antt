@@ -7,20 +7,20 @@ use Rattle.sched_io.specs.Written.{Adds}
 use Rattle.policy_checker.specs.declared.answer.Outcome.{Outcome}
 use Rattle.policy_checker.specs.declared.answer.Outcome.TheVariants as outcome
 use Rattle.policy_checker.specs.declared.verdict.Verdict.TheVariants as verdict
-use Rattle.policy_check.specs.declared.answer.CheckAnswer.{CheckAnswer}
-use Rattle.policy_check.specs.declared.answer.CheckAnswer.TheVariants as checked
-use Rattle.policy_check.specs.declared.bounding.BoundAnswer.{BoundAnswer}
-use Rattle.policy_check.specs.declared.bounding.BoundAnswer.TheVariants as bounded
-use Rattle.policy_check.specs.declared.resting.RestAnswer.{RestAnswer}
-use Rattle.policy_check.specs.declared.resting.RestAnswer.TheVariants as rested
+use Rattle.policy_answers.specs.declared.answer.CheckAnswer.{CheckAnswer}
+use Rattle.policy_answers.specs.declared.answer.CheckAnswer.TheVariants as checked
+use Rattle.policy_answers.specs.declared.bounding.BoundAnswer.{BoundAnswer}
+use Rattle.policy_answers.specs.declared.bounding.BoundAnswer.TheVariants as bounded
+use Rattle.policy_answers.specs.declared.resting.RestAnswer.{RestAnswer}
+use Rattle.policy_answers.specs.declared.resting.RestAnswer.TheVariants as rested
 use Rattle.policy_checker.specs.declared.rest_gaps.LeastGap.{LeastGap}
 use Rattle.policy_checker.specs.declared.rest_gaps.LeastGap.TheVariants as gap
-use Rattle.policy_check.specs.declared.explaining.ExplainAnswer.{ExplainAnswer}
-use Rattle.policy_check.specs.declared.explaining.ExplainAnswer.TheVariants as explained
-use Rattle.policy_check.specs.declared.reading.Refusal.{Refusal}
-use Rattle.policy_check.specs.declared.reading.Refusal.TheVariants as refusal
-use Rattle.policy_check.specs.declared.verifying.VerifyAnswer.{VerifyAnswer}
-use Rattle.policy_check.specs.declared.verifying.VerifyAnswer.TheVariants as verify
+use Rattle.policy_answers.specs.declared.explaining.ExplainAnswer.{ExplainAnswer}
+use Rattle.policy_answers.specs.declared.explaining.ExplainAnswer.TheVariants as explained
+use Rattle.policy_answers.specs.declared.reading.Refusal.{Refusal}
+use Rattle.policy_answers.specs.declared.reading.Refusal.TheVariants as refusal
+use Rattle.policy_answers.specs.declared.verifying.VerifyAnswer.{VerifyAnswer}
+use Rattle.policy_answers.specs.declared.verifying.VerifyAnswer.TheVariants as verify
 use Rattle.trace_play.specs.declared.answer.PlayAnswer.{PlayAnswer}
 use Rattle.trace_play.specs.declared.answer.PlayAnswer.TheVariants as play_answer
 use Rattle.trace_play.specs.declared.cores.PlayedCores.TheVariants as cores

@@ -4,13 +4,13 @@ use Rattle.sched_base.specs.declared.limits.TheConstants.{CHECK_BUDGET}
 use Rattle.policy_tree.specs.Meaning.{meaning_of}
 use Rattle.job_trace.specs.declared.trace.Numbered.{Numbered}
 use Rattle.policy_checker.specs.Verdicts.{IsVerdict, policy_of}
-use Rattle.policy_check.specs.declared.answer.CheckAnswer.{CheckAnswer}
-use Rattle.policy_check.specs.declared.answer.CheckAnswer.TheVariants as checked
-use Rattle.policy_check.specs.Bounds.{bound_lines}
-use Rattle.policy_check.specs.Rests.{rest_lines}
-use Rattle.policy_check.specs.Lines.{check_lines, explain_lines}
-use Rattle.policy_check.specs.TextLines.{lines_in}
-use Rattle.policy_check.specs.Verifying.{verify_line}
+use Rattle.policy_answers.specs.declared.answer.CheckAnswer.{CheckAnswer}
+use Rattle.policy_answers.specs.declared.answer.CheckAnswer.TheVariants as checked
+use Rattle.policy_answers.specs.Bounds.{bound_lines}
+use Rattle.policy_answers.specs.Rests.{rest_lines}
+use Rattle.policy_answers.specs.Lines.{check_lines, explain_lines}
+use Rattle.policy_answers.specs.TextLines.{lines_in}
+use Rattle.policy_answers.specs.Verifying.{verify_line}
 use Rattle.cert_file.specs.Wrong.{Proves}
 use Rattle.sched_io.specs.Puts.{joined}
 use Rattle.sched_io.specs.Told.{Told}

@@ -6,7 +6,7 @@ use Rattle.sched_base.specs.declared.limits.TheConstants.{CHECK_BUDGET}
 use Rattle.policy_tree.specs.Meaning.{meaning_of}
 use Rattle.policy_checker.specs.Verdicts.{IsVerdict, policy_of}
 use Rattle.policy_checker.specs.declared.verdict.Verdict.{Verdict}
-use Rattle.policy_check.specs.Lines.{verdict_lines}
+use Rattle.policy_answers.specs.Lines.{verdict_lines}
 use Rattle.serial_steps.specs.SerialRounds.{serial_history}
 use Rattle.round_laws.specs.MainTheorem.{KeepsLaws}
 use Rattle.fair_policy.specs.Fair.{fair_meaning}

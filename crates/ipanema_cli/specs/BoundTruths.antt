@@ -14,9 +14,9 @@ use Rattle.policy_checker.specs.declared.answer.ObAnswer.{ObAnswer}
 use Rattle.policy_checker.specs.declared.answer.ObAnswer.TheVariants as answer
 use Rattle.policy_checker.specs.declared.answer.Outcome.{Outcome}
 use Rattle.policy_checker.specs.declared.answer.Outcome.TheVariants as outcome
-use Rattle.policy_check.specs.Bounds.{IsToldOfLast, bound_lines, told_of}
-use Rattle.policy_check.specs.declared.bounding.BoundAnswer.TheVariants.{Bounded}
-use Rattle.policy_check.specs.declared.bounding.Bounding.{Bounding}
+use Rattle.policy_answers.specs.Bounds.{IsToldOfLast, bound_lines, told_of}
+use Rattle.policy_answers.specs.declared.bounding.BoundAnswer.TheVariants.{Bounded}
+use Rattle.policy_answers.specs.declared.bounding.Bounding.{Bounding}
 use Rattle.ipanema_cli.specs.Causes.{OneOf}
 use Rattle.ipanema_cli.specs.CheckTruths.{AcceptedPolicy, AnswersFor, PaysForWaste, Refuses, SomeIsOpen, Spells}
 use Rattle.ipanema_cli.specs.CheckTruths.{TellsFault}

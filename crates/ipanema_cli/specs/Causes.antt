@@ -6,9 +6,9 @@ use Rattle.sched_io.specs.Shown.{Shown}
 use Rattle.sched_io.specs.Told.{Told, holds}
 use Rattle.sched_io.specs.Written.{Adds}
 use Rattle.obligations.specs.declared.names.ObName.{ObName}
-use Rattle.policy_check.specs.Checks.{IsCrowded}
-use Rattle.policy_check.specs.Lines.{refusal_line}
-use Rattle.policy_check.specs.declared.reading.Refusal.TheVariants.{Crowded}
+use Rattle.policy_answers.specs.Checks.{IsCrowded}
+use Rattle.policy_answers.specs.Lines.{refusal_line}
+use Rattle.policy_answers.specs.declared.reading.Refusal.TheVariants.{Crowded}
 use Rattle.ipanema_cli.specs.Answers.{IsAnswer, lines_of}
 use Rattle.command_words.specs.Command.{Asked, crew, migrate, play, replay, report, run, simulate, verify, waste}
 use Rattle.ipanema_cli.specs.Loads.{IsFileOf}

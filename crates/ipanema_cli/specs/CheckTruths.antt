@@ -24,7 +24,7 @@ use Rattle.policy_checker.specs.declared.answer.Answered.{Answered}
 use Rattle.policy_checker.specs.declared.answer.ObAnswer.{ObAnswer}
 use Rattle.policy_checker.specs.declared.verdict.Verdict.{Verdict}
 use Rattle.policy_checker.specs.declared.verdict.Verdict.TheVariants as verdict
-use Rattle.policy_check.specs.Lines.{verdict_lines}
+use Rattle.policy_answers.specs.Lines.{verdict_lines}
 use Rattle.round_model.specs.declared.entry.Entry.{Entry}
 use Rattle.round_model.specs.declared.plan.Plan.{Plan}
 use Rattle.round_model.specs.Fits.{Fits}

@@ -11,7 +11,7 @@ use Rattle.policy_checker.specs.Laws.{FailsAt}
 use Rattle.policy_checker.specs.Outcomes.{HasOpen, outcome_of}
 use Rattle.policy_checker.specs.declared.answer.ObAnswer.{ObAnswer}
 use Rattle.policy_checker.specs.declared.answer.ObAnswer.TheVariants as answer
-use Rattle.policy_check.specs.Points.{explain_line}
+use Rattle.policy_answers.specs.Points.{explain_line}
 use Rattle.ipanema_cli.specs.Causes.{OneOf}
 use Rattle.ipanema_cli.specs.Status.{code_of, outcome_status}
 use Rattle.ipanema_cli.specs.CheckTruths.{IsTrueOfOne, MaySpell, Refuses, Spells, TellsFault}

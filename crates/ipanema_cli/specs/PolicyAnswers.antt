@@ -7,13 +7,13 @@ use Rattle.obligations.specs.Counts.{first_crowded}
 use Rattle.obligations.specs.Names.{ob_names}
 use Rattle.policy_checker.specs.Certified.{IsCertified}
 use Rattle.policy_checker.specs.declared.verdict.Verdict.TheVariants as verdict
-use Rattle.policy_check.specs.declared.answer.CheckAnswer.{CheckAnswer}
-use Rattle.policy_check.specs.declared.answer.CheckAnswer.TheVariants as checked
-use Rattle.policy_check.specs.Bounds.{IsBoundOf}
-use Rattle.policy_check.specs.Rests.{IsRestOf}
-use Rattle.policy_check.specs.Checks.{IsCheckOf, IsExplainOf}
-use Rattle.policy_check.specs.Verifying.{IsVerifyOf}
-use Rattle.policy_check.specs.declared.verifying.VerifyAnswer.{VerifyAnswer}
+use Rattle.policy_answers.specs.declared.answer.CheckAnswer.{CheckAnswer}
+use Rattle.policy_answers.specs.declared.answer.CheckAnswer.TheVariants as checked
+use Rattle.policy_answers.specs.Bounds.{IsBoundOf}
+use Rattle.policy_answers.specs.Rests.{IsRestOf}
+use Rattle.policy_answers.specs.Checks.{IsCheckOf, IsExplainOf}
+use Rattle.policy_answers.specs.Verifying.{IsVerifyOf}
+use Rattle.policy_answers.specs.declared.verifying.VerifyAnswer.{VerifyAnswer}
 use Rattle.cert_file.specs.Wrong.{Proves}
 use Rattle.c_printer.specs.CText.{c_text}
 use Rattle.sched_io.specs.Told.{Told}

@@ -21,9 +21,9 @@ use Rattle.obligations.specs.Systems.{systems_of, variable_ranges}
 use Rattle.policy_checker.specs.Outcomes.{HasOpen}
 use Rattle.policy_checker.specs.declared.rest_gaps.LeastGap.{LeastGap}
 use Rattle.policy_checker.specs.declared.rest_gaps.LeastGap.TheVariants as gap
-use Rattle.policy_check.specs.Rests.{IsToldOfGap, rest_lines}
-use Rattle.policy_check.specs.declared.resting.RestAnswer.TheVariants.{Rests}
-use Rattle.policy_check.specs.declared.resting.Resting.{Resting}
+use Rattle.policy_answers.specs.Rests.{IsToldOfGap, rest_lines}
+use Rattle.policy_answers.specs.declared.resting.RestAnswer.TheVariants.{Rests}
+use Rattle.policy_answers.specs.declared.resting.Resting.{Resting}
 use Rattle.ipanema_cli.specs.Causes.{OneOf}
 use Rattle.ipanema_cli.specs.CheckTruths.{AcceptedPolicy, AnswersFor, Refuses, SomeIsOpen, Spells}
 use Rattle.ipanema_cli.specs.CheckTruths.{TellsFault}

@@ -5,9 +5,9 @@ use Rattle.policy_reader.specs.Spelled.{SpellsPolicy}
 use Rattle.obligations.specs.Counts.{first_crowded}
 use Rattle.obligations.specs.Names.{ob_names}
 use Rattle.policy_checker.specs.Playable.{HasCertifiedHandlers, is_playable}
-use Rattle.policy_check.specs.declared.answer.CheckAnswer.{CheckAnswer}
-use Rattle.policy_check.specs.declared.answer.CheckAnswer.TheVariants as checked
-use Rattle.policy_check.specs.Checks.{IsCheckOf}
+use Rattle.policy_answers.specs.declared.answer.CheckAnswer.{CheckAnswer}
+use Rattle.policy_answers.specs.declared.answer.CheckAnswer.TheVariants as checked
+use Rattle.policy_answers.specs.Checks.{IsCheckOf}
 use Rattle.sched_io.specs.Told.{Told}
 use Rattle.trace_simulation.specs.declared.answer.SimulationAnswer.{SimulationAnswer}
 use Rattle.trace_simulation.specs.Simulations.{IsSimulationOf, IsWasteOf}

@@ -1,7 +1,7 @@
 -- What a command answers to the texts of a policy, a trace and a history.
 use Rattle.std.specs.Prelude.{ℕ, List, IsFalse}
 use Rattle.policy_tree.specs.Meaning.{Meaning}
-use Rattle.policy_check.specs.Checks.{IsCheckOf}
+use Rattle.policy_answers.specs.Checks.{IsCheckOf}
 use Rattle.sched_io.specs.Told.{Told}
 use Rattle.trace_play.specs.declared.answer.PlayAnswer.{PlayAnswer}
 use Rattle.history_replay.specs.declared.answer.HistoryAnswer.{HistoryAnswer}

@@ -10,8 +10,8 @@ use Rattle.obligations.specs.Names.{ob_names}
 use Rattle.cert_file.specs.Answers.{IsUncrowded}
 use Rattle.cert_file.specs.BadLines.{IsFirstBadLine}
 use Rattle.cert_file.specs.Wrong.{IsWrongAt, Proves, count_systems}
-use Rattle.policy_check.specs.declared.verifying.VerifyAnswer.TheVariants.{BadLine, Wrong}
-use Rattle.policy_check.specs.Verifying.{verified_line, verify_line}
+use Rattle.policy_answers.specs.declared.verifying.VerifyAnswer.TheVariants.{BadLine, Wrong}
+use Rattle.policy_answers.specs.Verifying.{verified_line, verify_line}
 use Rattle.round_laws.specs.MainTheorem.{WastesNoCore}
 use Rattle.ipanema_cli.specs.Causes.{OneOf}
 use Rattle.ipanema_cli.specs.CheckTruths.{Holds, MaySpell, PaysForWaste, Refuses, Spells, TellsFault}

@@ -2,10 +2,10 @@
 
 ghost use Rattle.std.specs.Prelude.{◌≡◌, ℕ, IfErr, IfOk, IsFalse, List};
 ghost use Rattle.policy_tree.specs.Meaning.{meaning_of};
-ghost use Rattle.policy_check.specs.Checks.{IsCheckOf};
+ghost use Rattle.policy_answers.specs.Checks.{IsCheckOf};
 ghost use Rattle.ipanema_cli.specs.PolicyAnswers.{IsAccepted, accepts};
 
-use policy_check::CheckAnswer;
+use policy_answers::CheckAnswer;
 use policy_checker::{AcceptedPolicy, Verdict};
 
 /// The policy that this answer of `check` accepts. Else the answer, back.

@@ -31,7 +31,7 @@ use c_printer::c_text;
 use cert_file::{CertFileMemory, write_certs};
 use fair_policy::fair_policy;
 use history_replay::{HistoryAnswer, migrate_texts, replay_texts, report_texts};
-use policy_check::{
+use policy_answers::{
     BoundAnswer, CheckAnswer, ExplainAnswer, RestAnswer, VerifyAnswer, check_text, put_text,
 };
 use policy_checker::{AcceptedPolicy, CheckFault, PlayablePolicy, Verdict, check_policy, playable};

@@ -28,7 +28,7 @@ use crate::stop::Stop;
 use crate::texts::{TextKind, load, load_three};
 use command_words::{HistoryFiles, Request};
 use obligations::ObName;
-use policy_check::{bound_text, check_text, explain_text, rest_text, verify_text};
+use policy_answers::{bound_text, check_text, explain_text, rest_text, verify_text};
 use sched_io::{Files, Gate};
 use std::alloc::Global;
 use std::sync::Wait;

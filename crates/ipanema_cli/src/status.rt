@@ -6,7 +6,7 @@ ghost use Rattle.ipanema_cli.specs.Status.{history_refusal_status, history_statu
 ghost use Rattle.ipanema_cli.specs.Status.{refusal_status, simulation_status, verdict_status, verify_status};
 
 use history_replay::{HistoryAnswer, HistoryRefusal};
-use policy_check::{BoundAnswer, CheckAnswer, ExplainAnswer, Refusal, RestAnswer, VerifyAnswer};
+use policy_answers::{BoundAnswer, CheckAnswer, ExplainAnswer, Refusal, RestAnswer, VerifyAnswer};
 use policy_checker::{LeastGap, Outcome, Verdict};
 use trace_play::PlayedCores;
 use trace_simulation::{PlayedWaste, SimulationAnswer};

@@ -7,7 +7,7 @@ use crate::texts::TextKind;
 use bench_play::BenchMemory;
 use cert_file::CertFileMemory;
 use command_words::WordsMemory;
-use policy_check::CheckMemory;
+use policy_answers::CheckMemory;
 use std::alloc::AllocError;
 use trace_play::PlayMemory;
 use trace_simulation::SimulationMemory;

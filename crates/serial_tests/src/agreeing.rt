@@ -26,11 +26,7 @@ const PLANS: u32 = 500;
 const SEED: u64 = 2026;
 
 /// What all plans come to.
-pub(crate) fn of_all<R: Threads + Wait + Sync>(
-    rt: &R,
-    alloc: Global,
-    policy: &Policy,
-) -> Agreement
+pub(crate) fn of_all<R: Threads + Wait + Sync>(rt: &R, alloc: Global, policy: &Policy) -> Agreement
     requires { meaning_of policy.now ≡ in_batches 8 }
 {
     let mut dice = SEED;
@@ -43,12 +39,7 @@ pub(crate) fn of_all<R: Threads + Wait + Sync>(
 }
 
 /// What the plan of these dice comes to.
-fn of_one<R: Threads + Wait + Sync>(
-    rt: &R,
-    alloc: Global,
-    policy: &Policy,
-    dice: u64,
-) -> Agreement
+fn of_one<R: Threads + Wait + Sync>(rt: &R, alloc: Global, policy: &Policy, dice: u64) -> Agreement
     requires { meaning_of policy.now ≡ in_batches 8 }
 {
     match plan(alloc, dice) {
@@ -75,7 +66,14 @@ fn of_plan<R: Threads + Wait + Sync>(
     let alone = by_crew(rt, alloc, policy, plan, 1);
     Agreement {
         by_cores: whole && agrees(alloc, policy, plan, by_cores(alloc, policy, plan), &plain),
-        by_hand: whole && agrees(alloc, policy, plan, by_hand(rt, alloc, policy, plan), &plain),
+        by_hand: whole
+            && agrees(
+                alloc,
+                policy,
+                plan,
+                by_hand(rt, alloc, policy, plan),
+                &plain,
+            ),
         in_threads: comes_whole(alloc, policy, plan, in_threads(rt, alloc, policy, plan)),
         fails_alone: has_fails(&alone),
         by_crews: comes_whole(alloc, policy, plan, alone)

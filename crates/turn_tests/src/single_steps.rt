@@ -8,8 +8,7 @@ ghost use Rattle.turn_tests.specs.Follows.{IsSame};
 ghost use Rattle.turn_tests.specs.Memory.{IsReady, core_of, history_of};
 
 use crate::memory_calls::MemoryCalls;
-use core_calls::Turned;
-use core_calls::crew_step;
+use core_calls::{Turned, crew_step};
 use sched_io::Gate;
 use std::sync::Wait;
 use turn_steps::{Ask, Turning};

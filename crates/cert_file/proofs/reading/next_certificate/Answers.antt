@@ -2,7 +2,7 @@
 use Rattle.std.proofs.Common.{◌∷◌, [], length, length-append, ap, refl, arith}
 use Rattle.linear_cert.specs.Right.{cert_tree}
 use Rattle.sched_base.specs.declared.limits.TheConstants.{MAX_SPLITS}
-use Rattle.cert_text.specs.Faults.{IsFirstBadLine}
+use Rattle.cert_lines.specs.Faults.{IsFirstBadLine}
 use Rattle.cert_file.proofs.Certificates.{feeds_fit, next_certificate, no_certificate, short_certificate}
 use Rattle.cert_file.proofs.Sizes.{bad_from, bad_to}
 use Rattle.cert_file.proofs.reading.next_certificate.Goals as goal

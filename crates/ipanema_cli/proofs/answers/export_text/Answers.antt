@@ -1,6 +1,6 @@
 use Rattle.std.proofs.Common.{subst, sym}
 use Rattle.policy_tree.specs.Meaning.{meaning_of}
-use Rattle.policy_check.specs.Checks.{IsCheckOf}
+use Rattle.policy_answers.specs.Checks.{IsCheckOf}
 use Rattle.ipanema_cli.proofs.Failing.{if_failed}
 use Rattle.ipanema_cli.proofs.answers.export_text.Goals as goal
 

@@ -5,7 +5,7 @@ use Rattle.policy_tree.specs.declared.typed.Policy.{Policy}
 use Rattle.policy_tree.specs.Meaning.{meaning_of}
 use Rattle.policy_reader.proofs.Resolved.{spells_resolved}
 use Rattle.policy_checker.specs.Verdicts.{policy_of}
-use Rattle.policy_check.specs.Checks.{IsCheckOf, IsJudged}
+use Rattle.policy_answers.specs.Checks.{IsCheckOf, IsJudged}
 use Rattle.ipanema_cli.specs.Simulations.{IsPlayable}
 use Rattle.ipanema_cli.proofs.PolicyFacts.{handlers_of}
 use Rattle.ipanema_cli.proofs.answers.simulate_texts.Goals as goal

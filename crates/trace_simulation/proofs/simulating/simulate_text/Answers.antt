@@ -4,4 +4,3 @@ use Rattle.policy_tree.specs.Meaning.{meaning_of}
 use Rattle.trace_play.specs.declared.answer.PlayAnswer.TheVariants as answer
 use Rattle.trace_play.specs.Plays.{HasFault, IsPlayOf, IsShown, PlaysCores}
 use Rattle.trace_simulation.proofs.simulating.simulate_text.Goals as goal
-

@@ -1,0 +1,4 @@
+use Rattle.cert_lines.proofs.reading.+read_part.Given as goal
+
+abbrev pub decreases-read_part : goal.decreases-read_part
+decreases-read_part l = l.room

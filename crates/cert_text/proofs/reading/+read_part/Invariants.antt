@@ -1,4 +1,0 @@
-use Rattle.cert_text.proofs.reading.+read_part.Given as goal
-
-abbrev pub decreases-read_part : goal.decreases-read_part
-decreases-read_part l = l.room
