@@ -12,6 +12,7 @@ ghost use Rattle.bench_play.specs.Bench.{IsBench, IsSize};
 use crate::memory::BenchMemory;
 use crate::planning::made_plan;
 use policy_checker::AcceptedPolicy;
+use policy_tree::Policy;
 use round_model::{History, Plan};
 use sched_report::{Totals, report};
 use serial_steps::Played;
@@ -38,9 +39,10 @@ pub fn play_bench(
     requires size { IsSize size }
     ensures is { IfOk result (IsBench seed size) }
 {
-    let plan = made_plan(alloc, policy.policy(), seed, size)?;
-    let history = whole_history(alloc, policy, &plan)?;
-    let told = report(alloc, policy.policy(), &plan, &history)?;
+    let under = policy.policy();
+    let plan = made_plan(alloc, under, seed, size)?;
+    let history = whole_history(alloc, under, &plan)?;
+    let told = report(alloc, under, &plan, &history)?;
     Ok(BenchTotals {
         threads: size,
         totals: told.totals,
@@ -48,18 +50,14 @@ pub fn play_bench(
 }
 
 /// The serial history of a plan with room for its rounds. It is whole.
-fn whole_history(
-    alloc: Global,
-    policy: &AcceptedPolicy,
-    plan: &Plan,
-) -> Result<History, BenchMemory>
+fn whole_history(alloc: Global, policy: &Policy, plan: &Plan) -> Result<History, BenchMemory>
     requires policy { meaning_of policy.now ≡ fair_meaning }
     requires fits { Fits (meaning_of policy.now) plan.now }
     requires limits { IsWithinLimits plan.now }
     requires room { HasRoomForRounds plan.now }
     ensures { IfOk result (EndsWhole (meaning_of policy.now) plan.now) }
 {
-    match play_plan(alloc, policy.policy(), plan)? {
+    match play_plan(alloc, policy, plan)? {
         Played::Whole(history) => Ok(history),
         // No round comes due that might not fit.
         Played::Full(_history) => unreachable!(),

@@ -3,6 +3,7 @@
 ghost use Rattle.std.specs.Prelude.{◌<◌, ◌≡◌, ℕ, IfErr, IfOk, IsTrue, length};
 ghost use Rattle.policy_tree.specs.Meaning.{meaning_of};
 ghost use Rattle.policy_eval.specs.Obligations.{MeetsHandlerObligations};
+ghost use Rattle.policy_eval.specs.Resolved.{IsResolved};
 ghost use Rattle.round_model.specs.Fits.{Fits};
 ghost use Rattle.round_model.specs.Limits.{IsWithinLimits};
 ghost use Rattle.core_table.specs.Public.{Becomes, plan_of, policy_of};
@@ -49,9 +50,30 @@ pub fn run_text<R: Threads + Wait + Sync, G: Gate + Sync>(
     ensures shown { IfOk result IsShown }
     ensures passed { IfOk result (HavePassedFor (G.passed gate.now) (meaning_of policy.now) text.now) }
 {
-    match plan_text(alloc, policy.policy(), text) {
+    run_under(rt, alloc, policy.policy(), players, text, gate)
+}
+
+/// The same under a policy of which no more is known than that its handlers are right.
+fn run_under<R: Threads + Wait + Sync, G: Gate + Sync>(
+    rt: &R,
+    alloc: Global,
+    policy: &Policy,
+    players: Players,
+    text: &[u8],
+    gate: &G,
+) -> Result<PlayAnswer, PlayMemory>
+    requires resolved { IsResolved (meaning_of policy.now) }
+    requires handlers { MeetsHandlerObligations (meaning_of policy.now) }
+    requires text { length text.now < u32.MAX }
+    requires players { HasPlayers players }
+    requires gate { (c r : ℕ) → IsTrue (G.admits gate.now c r) }
+    ensures run { IfOk result (IsRunOf (meaning_of policy.now) text.now) }
+    ensures shown { IfOk result IsShown }
+    ensures passed { IfOk result (HavePassedFor (G.passed gate.now) (meaning_of policy.now) text.now) }
+{
+    match plan_text(alloc, policy, text) {
         Ok(plan) => {
-            let left = run_plan(rt, alloc, policy.policy(), players, &plan, gate)?;
+            let left = run_plan(rt, alloc, policy, players, &plan, gate)?;
             Ok(PlayAnswer::Played(left))
         }
         Err(PlanStop::Broken(fault)) => Ok(PlayAnswer::Broken(fault)),

@@ -28,8 +28,8 @@ pub fn simulate_text(
     ensures shown { IfOk result IsShown }
 {
     match play_under(alloc, policy.policy(), text)? {
-        PlayAnswer::Broken(fault) => Ok(SimulationAnswer::Broken(fault)),
-        PlayAnswer::Played(cores) => Ok(SimulationAnswer::Played(cores)),
+        PlayAnswer::Broken(told) => Ok(SimulationAnswer::Broken(told)),
+        PlayAnswer::Played(told) => Ok(SimulationAnswer::Played(told)),
     }
 }
 

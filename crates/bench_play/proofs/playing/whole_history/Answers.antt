@@ -11,3 +11,6 @@ unreachable-requires c =
     let p = meaning_of c.args.policy.now in let plan = c.args.plan.now in
     let stops : StopsFull p plan c.in-Full._history = subst (IsPlayed p plan) c.in-Full.is c.in_ok-history.ensures in
     room_suffices p plan c.in-Full._history c.requires.fits (subst MeetsHandlerObligations (sym c.requires.policy) fair_handlers_meet) c.requires.room stops.legal stops.full
+
+pub play_plan-requires-clause-handlers : goal.play_plan-requires-clause-handlers
+play_plan-requires-clause-handlers c = subst MeetsHandlerObligations (sym c.requires.policy) fair_handlers_meet
