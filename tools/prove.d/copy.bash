@@ -1,13 +1,45 @@
-# Where tools/prove has `rt ci` work: on a copy of the program's crates, in a folder of its own among the temporary files. To be read
-# by that script, which has set `top`, `order`, `sum` and `began`.
+# Where tools/prove and tools/try_same have `rt ci` work: on a copy of the program's crates, in a folder of its own among the temporary
+# files. To be read by these scripts, which have set `top`, `began`, `log`, `note`, and the function `refuse`.
 #
 # The copy can't stand in out/: a gate that runs in the repository refuses sources there, and a second crates.txt. The file
-# `mark` in its folder says whose it is, and out/prove.copy names the folder. So the next run removes it, should this one be
+# `mark` in its folder says whose it is, and the file `note` names the folder. So the next run removes it, should this one be
 # killed outright.
 COPY_MARK='a copy of tools/prove'
+declare -A below=() seen=()
+# The program's crates, each behind those that it stands on; the folder, and the copy in it.
+order=()
+folder=''
+copy=''
 # How many MB `rt ci` wants to be free, and how many must be for it to keep what it passed.
 ROOM=3000
 ROOM_TO_KEEP=5000
+
+# Reads which crates each crate of the repository stands on. A line may have words behind the name, before the colon.
+read_crates() {
+  local name rest
+  while IFS=: read -r name rest; do
+    name="${name%%[ #]*}"
+    if [ -n "$name" ]; then below[$name]="$rest"; fi
+  done <"$top/crates.txt"
+}
+
+# Puts the crate behind those that it stands on.
+put_in_order() {
+  local other
+  if [ -n "${seen[$1]:-}" ]; then return; fi
+  seen[$1]=yes
+  for other in ${below[$1]}; do
+    if [ -n "${below[$other]+there}" ]; then put_in_order "$other"; fi
+  done
+  order+=("$1")
+}
+
+# Finds which crates the program is made of.
+find_order() {
+  read_crates
+  [ -n "${below[ipanema]+there}" ] || refuse "crates.txt has no ipanema"
+  put_in_order ipanema
+}
 
 # Writes how many MB are free in that folder, if it can be told.
 free_in() {
@@ -46,19 +78,19 @@ remove_copy() {
   { read -r mark <"$1/mark"; } 2>/dev/null || true
   [ "$mark" = "$COPY_MARK" ] || return 0
   for ((tries = 0; tries < 40; tries++)); do
-    rm -rf -- "$1/repo" 2>/dev/null && break
+    rm -rf -- "$1"/[!m]* 2>/dev/null && break
     sleep 0.1
   done
   rm -rf -- "$1"
 }
 
+# Removes the copy of this run.
 clear_away() {
   if [ -z "$folder" ]; then return; fi
   cd -- "$top" || return
   remove_copy "$folder"
-  rm -f -- "$top/out/prove.copy"
+  rm -f -- "$note"
 }
-folder=''
 
 # Copies the crates without their wrong bodies and what was made of them, and the lines of crates.txt that name them.
 copy_crates() {
@@ -85,13 +117,13 @@ has_changed() (
 # Lays out the copy, of the sources that have the checksum.
 make_copy() {
   local place="${TMPDIR:-/tmp}" left=''
-  { read -r left <"$top/out/prove.copy"; } 2>/dev/null || true
+  { read -r left <"$note"; } 2>/dev/null || true
   remove_copy "$left"
   want_room "$place" '; TMPDIR may name a folder with more'
   folder="$(mktemp -d -- "$place/ipanema-prove.XXXXXX" 2>/dev/null)" || refuse "nothing can be written to $place"
   copy="$folder/repo"
   echo "$COPY_MARK" >"$folder/mark"
-  echo "$folder" >"$top/out/prove.copy"
+  echo "$folder" >"$note"
   copy_crates 2>>"$log" || refuse "the crates couldn't be copied to $place; see $log"
   ! has_changed || refuse "a source has changed as it was copied; call it again" 1
 }
