@@ -147,6 +147,19 @@ drop_old() {
   done 2>/dev/null
 }
 
+# Says of a proved program of other sources that it is kept here, the newest one, and of one that is installed that it is there.
+# Neither need be one of these sources, so neither is run.
+say_others() {
+  local file newest='' place version=''
+  for file in "$top"/out/proved/*/ipanema; do
+    if [ -x "$file" ] && [ "$file" != "$top/out/proved/$sum/ipanema" ] && { [ -z "$newest" ] || [ "$file" -nt "$newest" ]; }; then newest="$file"; fi
+  done
+  if [ -n "$newest" ]; then say "ipanema: a proved program of other sources is kept, as $newest"; fi
+  place="$(type -P ipanema)" && place="$(readlink -f -- "$place")" || return 0
+  { read -r version <"${place%/bin/*}/lib/ipanema/version"; } 2>/dev/null
+  if [[ "$version" = *'(proved)'* ]]; then say "ipanema: a proved program is installed, as $place: $version"; fi
+}
+
 # Builds the program. Without words it must say that they are bad.
 build() {
   local lock
@@ -155,6 +168,7 @@ build() {
   make_folder
   say "ipanema: building the program from its sources, in one to three minutes;" \
     "it isn't proved and is slow, and tools/prove makes the proved one"
+  say_others
   run_try
   if ! is_program "$work/program"; then
     mv -f -T -- "$work/log" "$kept/build.log"

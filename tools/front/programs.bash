@@ -22,6 +22,11 @@ place_of() {
   printf '%s/out/%s/%s/ipanema' "$top" "$1" "$2"
 }
 
+# Writes the checksum of a program.
+sum_of_program() {
+  sha256sum <"$1" | cut -c 1-64
+}
+
 # Writes the file of the program that ./ipanema runs, if there is one: the proved one, or else the other.
 program_of() {
   local sum kind place

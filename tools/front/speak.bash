@@ -47,7 +47,7 @@ end_by_signals() {
 # Ends what runs for the script by that signal, and then the script itself.
 end_by() {
   trap - EXIT HUP INT TERM
-  if [ -n "$running" ]; then { kill -s "$1" "$running"; wait "$running"; } 2>/dev/null; fi
+  if [ -n "$running" ]; then { kill -s "$1" "$running"; wait "$running"; } 2>/dev/null || true; fi
   "$at_end"
   kill -s "$1" "$BASHPID"
 }
