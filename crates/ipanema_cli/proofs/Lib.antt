@@ -2,10 +2,8 @@ pub mod BenchTruths
 pub mod BoundTruths
 pub mod RestTruths
 pub mod CodeLemmas
-pub mod CommandLaw
-pub mod Crowding
-pub mod Laws
-pub mod Stopped
+pub mod CommandLemmas
+pub mod TooLongLemmas
 pub mod CauseLemmas
 pub mod CheckTruths
 mod Concluding

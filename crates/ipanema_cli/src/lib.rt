@@ -5,7 +5,6 @@ mod accepted;
 mod answers;
 mod commands;
 mod ending;
-mod files;
 mod kinds;
 mod status;
 mod stop;
