@@ -7,6 +7,7 @@ use Rattle.round_model.specs.declared.plan.Plan.{Plan}
 use Rattle.round_model.specs.declared.plan.Planned.{Planned}
 use Rattle.round_model.specs.declared.state.Blocked.{Blocked}
 use Rattle.round_model.specs.After.{after, round_of}
+use Rattle.round_judge.specs.declared.past.Arrival.{Arrival}
 use Rattle.round_judge.specs.Past.{arrives_at, is_flagged}
 use Rattle.round_model.specs.Updates.{IsFirstAt}
 use Rattle.round_model.specs.Fits.{Fits}

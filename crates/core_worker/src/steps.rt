@@ -7,6 +7,9 @@ ghost use Rattle.round_model.specs.Updates.{IsFirstPlace};
 ghost use Rattle.round_model.specs.Fits.{Fits};
 ghost use Rattle.round_model.specs.Limits.{IsWithinLimits};
 ghost use Rattle.round_model.specs.Moves.{without_first};
+ghost use Rattle.round_judge.specs.declared.past.Arrival.{Arrival};
+ghost use Rattle.round_judge.specs.Additions.{ended_by};
+ghost use Rattle.round_judge.specs.Past.{arrives_at};
 ghost use Rattle.serial_steps.specs.Serial.{SerialState, step_of};
 ghost use Rattle.core_worker.specs.Runs.{Enters, HasLooked, IsAt, IsMoment, OwesLook, OwesUnit, Steps, Wakes};
 

@@ -11,4 +11,4 @@ pub use answer::PlayAnswer;
 pub use cores::PlayedCores;
 pub use fault::{FaultWord, LineFault};
 pub use planning::{PlanStop, plan_text};
-pub use playing::{PlayMemory, play_cores, play_plan, play_text};
+pub use playing::{PlayMemory, play_cores, play_plan, play_text, play_under};
