@@ -13,7 +13,7 @@ from pathlib import Path
 
 from building import build_scheduler
 from common import write
-from guests import Job, boot
+from guests import Job, answer_of, boot
 from places import TOP, WORKLOADS, Refused
 
 POLICIES = ["numa", "fair"]
@@ -112,7 +112,7 @@ def print_table(loader, cpus=4):
         jobs = {name: [job_of(name, workload, number) for number in range(TIMES)] for name in [OWN, *POLICIES]}
         done = boot([job for one in jobs.values() for job in one], files, cpus)
         for scheduler, one in jobs.items():
-            found = middle([measure(done[job.name], cpus) for job in one])
+            found = middle([measure(answer_of(done, job.name), cpus) for job in one])
             write(f"| `{workload}` | {scheduler if scheduler == OWN else f'`{scheduler}`'} | {found.seconds:.2f} s | "
                   f"{found.wasted * 1000:.0f} ms | {found.migrations:.0f} |\n")
     return 0

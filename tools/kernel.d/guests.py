@@ -12,7 +12,7 @@ import time
 from collections import namedtuple
 from pathlib import Path
 
-from places import ROOT, guest_kernel, unpacked, with_libraries
+from places import ROOT, Refused, guest_kernel, unpacked, with_libraries
 
 # A command of the guest's shell, which may write /tmp/record; and how many seconds it may take.
 Job = namedtuple("Job", "name command")
@@ -141,6 +141,13 @@ def boot(jobs, files, cpus=4, seconds=180, console=None):
         if console:
             Path(console).write_text(said, encoding="utf-8")
         return read_answers((folder / "data").read_bytes())
+
+
+def answer_of(done, name):
+    """The answer of a job that has to be there."""
+    if name not in done:
+        raise Refused(f"the guest ended before {name}")
+    return done[name]
 
 
 def bad_lines(log):

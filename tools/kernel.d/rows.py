@@ -10,7 +10,7 @@ from pathlib import Path
 
 from building import build_scheduler
 from common import write
-from guests import Job, boot
+from guests import Job, answer_of, boot
 from places import SOURCES, TOP, WORKLOADS, Refused
 
 POLICY = TOP / "examples/gallery/numa.policy"
@@ -61,10 +61,9 @@ def print_rows(loader):
              "crowd.txt": (WORKLOADS / "crowd.txt").read_bytes(), **TEXTS}
     done = boot([Job(name, command + AFTER) for name, command in ROWS.items()], files, 2)
     for name in ROWS:
-        if name not in done:
-            raise Refused(f"the guest ended before {name}")
-        *statuses, state = done[name].output.split()
+        answer = answer_of(done, name)
+        *statuses, state = answer.output.split()
         write(f"{name}: {' '.join(statuses)}{'' if state == 'disabled' else ', and the scheduler is still there'}\n")
-        for line in done[name].error.splitlines():
+        for line in answer.error.splitlines():
             write(f"  {line}\n")
     return 0
