@@ -1,8 +1,7 @@
 -- From how `bench` ends to the truth of what it writes.
-use Rattle.std.proofs.Common.{◌≡◌, ◌&&◌, ℕ, Bool, true, false, inl, inr, List, None, Option, refl, arith}
+use Rattle.std.proofs.Common.{◌≡◌, ◌&&◌, ℕ, Bool, true, false, List, None, Option, Some, refl, arith}
 use Rattle.std.specs.Prelude.{nat_le, IsTrue}
 use Rattle.std.proofs.lemmas.Bool.Decides.{nat_tests}
-use Rattle.sched_io.specs.Shown.{Shown}
 use Rattle.sched_base.specs.declared.limits.TheConstants.{MAX_THREADS}
 use Rattle.obligations.specs.Counts.{first_crowded}
 use Rattle.obligations.specs.Names.{ob_names}
@@ -15,14 +14,26 @@ use Rattle.fair_policy.proofs.FairMeets.{fair_meets}
 use Rattle.fair_policy.proofs.FairResolved.{fair_resolved}
 use Rattle.bench_play.specs.Bench.{IsSize}
 use Rattle.command_words.specs.Numbers.{is_size}
-use Rattle.ipanema_cli.specs.Answers.{AnswersBench}
-use Rattle.ipanema_cli.specs.Ends.{Writes}
 use Rattle.ipanema_cli.specs.BenchTruths.{BenchesTruly}
-use Rattle.ipanema_cli.specs.declared.answers.Answer.{Answer}
 use Rattle.ipanema_cli.specs.declared.answers.Answer.TheVariants as answer
-use Rattle.ipanema_cli.proofs.CheckTruths.{Stopped, at_4, at_5, at_6}
+use Rattle.ipanema_cli.proofs.Stopped.{Stopped, at_4, at_5, at_6}
 use Rattle.ipanema_cli.proofs.PolicyFacts.{told_truly}
-use Rattle.ipanema_cli.proofs.WritesLemmas.{code_among, whole}
+use Rattle.sched_io.specs.Puts.{joined}
+use Rattle.sched_io.specs.Written.{Adds}
+use Rattle.policy_tree.specs.declared.typed.Policy.{Policy}
+use Rattle.policy_checker.specs.declared.answer.Answered.{Answered}
+use Rattle.policy_answers.specs.Lines.{check_lines}
+use Rattle.policy_answers.specs.declared.answer.CheckAnswer.{CheckAnswer}
+use Rattle.bench_play.specs.Bench.{IsBench}
+use Rattle.bench_play.specs.Lines.{bench_lines}
+use Rattle.bench_play.specs.declared.playing.BenchTotals.{BenchTotals}
+use Rattle.command_words.specs.Command.{Asked, bench}
+use Rattle.ipanema_cli.specs.Causes.{OneOf}
+use Rattle.ipanema_cli.specs.Commands.{statuses_of}
+use Rattle.ipanema_cli.specs.Replies.{IsFairVerdict}
+use Rattle.ipanema_cli.specs.Status.{check_status, code_of}
+use Rattle.ipanema_cli.specs.Truths.{IsTruthful}
+use Rattle.ipanema_cli.proofs.CommandLaw.{CommandLaw, Crowds, Known, Shows, given_either}
 
 -- no obligation of the policy has too many cases
 pub few_cases : first_crowded fair_meaning ob_names ≡ None
@@ -55,50 +66,57 @@ stopped_bench seed size before after code stop read = elim stop [
   }
 ]
 
-pub benches : (seed size : ℕ) (before after : Shown) (code : ℕ) (a : Answer) → AnswersBench seed size a
-    → Writes a before after code → BenchesTruly seed size before.written after.written code
-benches seed size before after code (answer.Checked (checked.Judged (verdict.Accepted kept))) is writes = absurd (let bad = is.1 in cc)
-benches seed size before after code (answer.Checked (checked.Judged (verdict.Refused answers kept))) is writes =
-    absurd (unmet fair_meaning fair_resolved answers is.0 fair_meets)
-benches seed size before after code (answer.Checked (checked.Judged (verdict.Undecided answers kept))) is writes = elim (code_among _ _ _ _ writes) [
-  | inr e ↦ stopped_bench seed size before.written after.written code (at_5 e) (λ h. omega (arith, e, h))
-  | inl e ↦ record {
-    ends = rw e refl;
-    benches = λ h. absurd (omega (arith, e, h));
+-- the policy isn't refused, since it meets its obligations
+fair_verdict : (P : CheckAnswer → Type 0) → ((answers : List Answered) (kept : Policy) → IsFairVerdict (checked.Judged (verdict.Undecided answers kept)) → P (checked.Judged (verdict.Undecided answers kept)))
+    → (c : CheckAnswer) → IsFairVerdict c → P c
+fair_verdict P each (checked.Judged (verdict.Accepted kept)) is = absurd (let bad = is.1 in cc)
+fair_verdict P each (checked.Judged (verdict.Refused answers kept)) is = absurd (unmet fair_meaning fair_resolved answers is.0 fair_meets)
+fair_verdict P each (checked.Judged (verdict.Undecided answers kept)) is = each answers kept is
+fair_verdict P each (checked.Unjudged why) is = absurd is
+
+module _ (seed size : ℕ) (before after : Option (List ℕ)) (code : ℕ) where
+  verdict_shows : (c : CheckAnswer) → IsFairVerdict c → code ≡ code_of (check_status c) → Adds (joined (check_lines c)) before after → BenchesTruly seed size before after code
+  verdict_shows = fair_verdict (λ c. code ≡ code_of (check_status c) → Adds (joined (check_lines c)) before after → BenchesTruly seed size before after code) (λ answers kept is own added. record {
+    ends = rw own refl;
+    benches = λ h. absurd (omega (arith, own, h));
     lines = λ h. record {
       verdict = verdict.Undecided answers kept;
       of = is.2;
       reasons = is.0;
       words = told_truly fair_meaning (verdict.Undecided answers kept) fair_resolved is.0;
-      written = whole _ _ _ _ writes (λ five. omega (arith, five, h));
-      status = e;
+      written = added;
+      status = own;
     };
     decides = λ none. absurd (none (open_one fair_meaning fair_resolved answers is.0));
-  }
-]
-benches seed size before after code (answer.Checked (checked.Unjudged why)) is writes = absurd is
-benches seed size before after code (answer.Explained told) is writes = absurd is
-benches seed size before after code (answer.Bounded told) is writes = absurd is
-benches seed size before after code (answer.Rested told) is writes = absurd is
-benches seed size before after code (answer.Exported text) is writes = absurd is
-benches seed size before after code (answer.Verified v) is writes = absurd is
-benches seed size before after code (answer.Played outcome) is writes = absurd is
-benches seed size before after code (answer.Simulated outcome) is writes = absurd is
-benches seed size before after code (answer.Judged outcome) is writes = absurd is
-benches seed size before after code (answer.Made text) is writes = absurd is
-benches seed size before after code (answer.Benched told) is writes = elim (code_among _ _ _ _ writes) [
-  | inr e ↦ stopped_bench seed size before.written after.written code (at_5 e) (λ h. omega (arith, e, h))
-  | inl e ↦ record {
-    ends = rw e refl;
+  })
+
+  bench_shows : (told : BenchTotals) → IsBench seed size told → code ≡ 0 → Adds (joined (bench_lines told)) before after → BenchesTruly seed size before after code
+  bench_shows told is own added = record {
+    ends = rw own refl;
     benches = λ h. record {
       told = told;
       is = is;
       laws = main_theorem fair_meaning fair_meets is.plan _ is.planned.fits is.whole.legal;
-      written = whole _ _ _ _ writes (λ five. omega (arith, five, h));
+      written = added;
     };
-    lines = λ h. absurd (omega (arith, e, h));
-    decides = λ none. rw e refl;
+    lines = λ h. absurd (omega (arith, own, h));
+    decides = λ none. rw own refl;
   }
-]
-benches seed size before after code (answer.TooLong which) is writes = absurd is
-benches seed size before after code answer.BadWords is writes = absurd is
+
+pub bench_law : (Passed : ℕ → ℕ → Type 0) (seed size : ℕ) → CommandLaw Passed (Some (bench seed size))
+bench_law Passed seed size =
+    let asked : Option Asked = Some (bench seed size) in
+    record {
+      known = λ text a is.
+          given_either answer.Checked answer.Benched _ _ (Known asked)
+          (fair_verdict (λ c. OneOf (statuses_of asked) (code_of (check_status c))) (λ answers kept is. refl)) (λ told is. refl) a is;
+      crowds = λ told text before after a files is.
+          given_either answer.Checked answer.Benched _ _ (Crowds asked told before after)
+          (fair_verdict (λ c. Crowds asked told before after (answer.Checked c)) (λ answers kept is e added. absurd (omega arith)))
+          (λ given is e added. absurd (omega arith)) a is;
+      shows = λ told text before after code a files is.
+          given_either answer.Checked answer.Benched _ _ (Shows (IsTruthful Passed asked told before after code) before after code)
+          (verdict_shows seed size before after code) (bench_shows seed size before after code) a is;
+      long = λ told before after code which long own. absurd long;
+      stopped = λ told before after code stop file. stopped_bench seed size before after code stop file;
+    }

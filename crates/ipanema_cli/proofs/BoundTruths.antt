@@ -1,9 +1,8 @@
 -- From how `bound` ends to the truth of what it says.
-use Rattle.std.proofs.Common.{◌≡◌, ◌≢◌, ℕ, inl, inr, List, [], ◌∷◌, Option, refl, sym, ◌∙◌, arith, subst}
+use Rattle.std.proofs.Common.{◌≡◌, ◌≢◌, ℕ, inl, inr, List, [], ◌∷◌, Option, Some, refl, sym, arith, subst}
 use Rattle.std.proofs.lemmas.List.Elements.{All-contains}
 use Rattle.sched_base.specs.declared.limits.TheConstants.{CHECK_BUDGET}
 use Rattle.sched_io.specs.Puts.{joined}
-use Rattle.sched_io.specs.Shown.{Shown}
 use Rattle.sched_io.specs.Told.{Told}
 use Rattle.sched_io.specs.Written.{Adds}
 use Rattle.policy_tree.specs.Meaning.{Meaning}
@@ -34,19 +33,23 @@ use Rattle.policy_answers.specs.declared.bounding.BoundAnswer.{BoundAnswer}
 use Rattle.policy_answers.specs.declared.bounding.BoundAnswer.TheVariants as bounded
 use Rattle.policy_answers.specs.declared.bounding.Bounding.{Bounding}
 use Rattle.round_laws.proofs.MainTheorem.{main_theorem}
-use Rattle.ipanema_cli.specs.PolicyAnswers.{AnswersBound}
 use Rattle.ipanema_cli.specs.BoundTruths.{BoundsTruly, IsTrueOfLast, LastIsOpen, MustBound, ShowsTaking}
 use Rattle.ipanema_cli.specs.Causes.{OneOf}
 use Rattle.ipanema_cli.specs.CheckTruths.{AcceptedPolicy, Spells}
-use Rattle.ipanema_cli.specs.Ends.{Writes}
 use Rattle.ipanema_cli.specs.Status.{bound_status, code_of, outcome_status, verdict_status}
 use Rattle.ipanema_cli.specs.Texts.{MayBeLong, MayRead}
-use Rattle.ipanema_cli.specs.declared.answers.Answer.{Answer}
 use Rattle.ipanema_cli.specs.declared.answers.Answer.TheVariants as answer
 use Rattle.ipanema_cli.specs.declared.texts.TextKind.TheVariants as kind
-use Rattle.ipanema_cli.proofs.CheckTruths.{Stopped, at_4, at_5, at_6, long_refuses, low_or_stopped, not_long, pays_for_waste, pays_if_equal, refusal_high, refusal_not_0, stopped_not, stopped_refuses, tells_fault, verdict_answers}
+use Rattle.ipanema_cli.proofs.CheckTruths.{long_refuses, low_or_stopped, not_long, pays_for_waste, pays_if_equal, refusal_high, refusal_not_0, stopped_refuses, tells_fault, verdict_answers}
+use Rattle.ipanema_cli.proofs.Stopped.{Stopped, at_4, at_5, at_6, stopped_not}
 use Rattle.ipanema_cli.proofs.PolicyFacts.{judged_refuses, never_left, read_decides, read_refuses, refused_refuses, refused_text, resolved, same_policy}
-use Rattle.ipanema_cli.proofs.WritesLemmas.{code_among, no_stop, whole}
+use Rattle.command_words.specs.Command.{Asked, bound}
+use Rattle.ipanema_cli.specs.Commands.{statuses_of}
+use Rattle.ipanema_cli.specs.Truths.{IsTruthful}
+use Rattle.ipanema_cli.proofs.CheckTruths.{long_policy}
+use Rattle.ipanema_cli.proofs.CodeLemmas.{bound_among}
+use Rattle.ipanema_cli.proofs.CommandLaw.{CommandLaw, Crowds, Known, Shows, given}
+use Rattle.ipanema_cli.proofs.Crowding.{bound_crowds}
 
 -- the answers to the two statements tell the truth of the last waiting thread
 last_true : (p : Meaning) (f b : ObAnswer) → IsTrueOf p filter_leaves_last (outcome_of f) → IsTrueOf p batch_leaves_last (outcome_of b)
@@ -229,27 +232,16 @@ long_bound policy before after code long own = record {
   bad_text = λ h. absurd (omega arith);
 }
 
-pub bounds : (policy : Told) (before after : Shown) (code : ℕ) (a : Answer) → AnswersBound policy a
-    → Writes a before after code → BoundsTruly policy before.written after.written code
-bounds policy before after code (answer.Checked c) is writes = absurd is
-bounds policy before after code (answer.Explained told) is writes = absurd is
-bounds policy before after code (answer.Bounded b) (text, read, is) writes = elim (code_among _ _ _ _ writes) [
-  | inr e ↦ stopped_bound policy before.written after.written code (at_5 e)
-  | inl e ↦ read_bound policy text b before.written after.written code read is e (whole _ _ _ _ writes (λ five. (no_stop (answer.Bounded b)).1 (sym e ∙ five)))
-]
-bounds policy before after code (answer.Rested r) is writes = absurd is
-bounds policy before after code (answer.Exported text) is writes = absurd is
-bounds policy before after code (answer.Verified v) is writes = absurd is
-bounds policy before after code (answer.Played outcome) is writes = absurd is
-bounds policy before after code (answer.Simulated outcome) is writes = absurd is
-bounds policy before after code (answer.Judged outcome) is writes = absurd is
-bounds policy before after code (answer.Made text) is writes = absurd is
-bounds policy before after code (answer.Benched told) is writes = absurd is
-bounds policy before after code (answer.TooLong kind.Policy) long writes = elim (code_among _ _ _ _ writes) [
-  | inr e ↦ stopped_bound policy before.written after.written code (at_5 e)
-  | inl e ↦ long_bound policy before.written after.written code long e
-]
-bounds policy before after code (answer.TooLong kind.Trace) is writes = absurd is
-bounds policy before after code (answer.TooLong kind.History) is writes = absurd is
-bounds policy before after code (answer.TooLong kind.Certificates) is writes = absurd is
-bounds policy before after code answer.BadWords is writes = absurd is
+pub bound_law : (Passed : ℕ → ℕ → Type 0) (policy : List ℕ) → CommandLaw Passed (Some (bound policy))
+bound_law Passed policy =
+    let asked : Option Asked = Some (bound policy) in
+    record {
+      known = λ text a is. given answer.Bounded _ (Known asked) (λ b is. bound_among (statuses_of asked) refl refl refl refl refl b) a is;
+      crowds = λ told text before after a files is.
+          given answer.Bounded _ (Crowds asked told before after) (bound_crowds asked told before after policy (text kind.Policy) (inl (refl, refl)) files.0) a is;
+      shows = λ told text before after code a files is.
+          given answer.Bounded _ (Shows (IsTruthful Passed asked told before after code) before after code)
+          (λ b is own added. read_bound (told policy) (text kind.Policy) b before after code files.0 is own added) a is;
+      long = λ told before after code which long own. long_bound (told policy) before after code (long_policy which told policy long) own;
+      stopped = λ told before after code stop file. stopped_bound (told policy) before after code stop;
+    }

@@ -1,7 +1,6 @@
 -- From how `check` ends to the truth of what it says.
-use Rattle.std.proofs.Common.{◌≡◌, ◌≢◌, ℕ, inl, inr, List, [], ◌∷◌, Option, refl, sym, ◌∙◌, ap, arith, length}
+use Rattle.std.proofs.Common.{◌≡◌, ◌≢◌, ℕ, inl, inr, List, [], ◌∷◌, Option, Some, refl, ap, arith, length}
 use Rattle.sched_io.specs.Puts.{joined}
-use Rattle.sched_io.specs.Shown.{Shown}
 use Rattle.sched_io.specs.Told.{Told}
 use Rattle.sched_io.specs.Written.{Adds}
 use Rattle.policy_eval.specs.LastWaiting.{LeavesLastToIdle}
@@ -22,24 +21,23 @@ use Rattle.policy_answers.specs.declared.reading.Refusal.TheVariants as refusal
 use Rattle.round_laws.proofs.EqualWeights.{equal_weights}
 use Rattle.round_laws.proofs.MainTheorem.{main_theorem}
 use Rattle.round_laws.proofs.WastePaid.{waste_is_paid_law}
-use Rattle.ipanema_cli.specs.PolicyAnswers.{AnswersCheck}
 use Rattle.ipanema_cli.specs.Causes.{OneOf}
-use Rattle.ipanema_cli.specs.Ends.{Writes}
 use Rattle.ipanema_cli.specs.Status.{check_status, code_of, refusal_status, verdict_status}
 use Rattle.ipanema_cli.specs.Texts.{MayBeLong, MayRead}
 use Rattle.ipanema_cli.specs.CheckTruths.{AcceptedPolicy, AnswersFor, ChecksTruly, Decides, Holds, PaysForWaste, Refuses, TellsFault}
-use Rattle.ipanema_cli.specs.declared.answers.Answer.{Answer}
 use Rattle.ipanema_cli.specs.declared.answers.Answer.TheVariants as answer
 use Rattle.ipanema_cli.specs.declared.texts.TextKind.{TextKind}
 use Rattle.ipanema_cli.specs.declared.texts.TextKind.TheVariants as kind
 use Rattle.ipanema_cli.proofs.PolicyFacts.{never_left, read_decides, read_refuses, resolved, told_truly}
-use Rattle.ipanema_cli.proofs.WritesLemmas.{code_among, no_stop, one_line, whole}
-
--- the number of a stop
-pub data Stopped (code : ℕ) : Type 0 where
-  at_4 : code ≡ 4 → Stopped code
-  at_5 : code ≡ 5 → Stopped code
-  at_6 : code ≡ 6 → Stopped code
+use Rattle.ipanema_cli.proofs.Stopped.{Stopped, at_4, at_5, at_6, stopped_not}
+use Rattle.ipanema_cli.proofs.WritesLemmas.{one_line}
+use Rattle.command_words.specs.Command.{Asked, check}
+use Rattle.ipanema_cli.specs.Commands.{AskedFile, policy_file, statuses_of}
+use Rattle.ipanema_cli.specs.Files.{IsTooLongOf}
+use Rattle.ipanema_cli.specs.Truths.{IsTruthful}
+use Rattle.ipanema_cli.proofs.CodeLemmas.{check_among}
+use Rattle.ipanema_cli.proofs.CommandLaw.{CommandLaw, Crowds, Known, Shows, given}
+use Rattle.ipanema_cli.proofs.Crowding.{check_crowds}
 
 -- and it isn't too long
 pub not_long : (which : TextKind) (told : Told) (held : List ℕ) → MayBeLong which told → Holds which told held → ⊥
@@ -49,9 +47,6 @@ not_long which told held (text, may, long) holding =
 -- the numbers of answers to a policy are none of a stop
 pub low_or_stopped : (code : ℕ) → OneOf (0 ∷ 1 ∷ 3 ∷ []) code → Stopped code → ⊥
 low_or_stopped code low stop = elim stop [ at_4 e ↦ (let bad = rw e at low in cc) | at_5 e ↦ (let bad = rw e at low in cc) | at_6 e ↦ (let bad = rw e at low in cc) ]
-
-pub stopped_not : (code n : ℕ) → n ≢ 4 → n ≢ 5 → n ≢ 6 → Stopped code → code ≢ n
-stopped_not code n a b c stop e = elim stop [ at_4 f ↦ a (sym e ∙ f) | at_5 f ↦ b (sym e ∙ f) | at_6 f ↦ c (sym e ∙ f) ]
 
 pub stopped_decides : (policy : Told) (code : ℕ) → Stopped code → Decides policy code
 stopped_decides policy code stop = record {
@@ -178,27 +173,32 @@ long_check policy before after code long own = record {
   bad_text = λ h. absurd (omega arith);
 }
 
-pub checks : (policy : Told) (before after : Shown) (code : ℕ) (a : Answer) → AnswersCheck policy a
-    → Writes a before after code → ChecksTruly policy before.written after.written code
-checks policy before after code (answer.Checked c) (text, read, is) writes = elim (code_among _ _ _ _ writes) [
-  | inr e ↦ stopped_check policy before.written after.written code (at_5 e)
-  | inl e ↦ read_check policy text c before.written after.written code read is e (whole _ _ _ _ writes (λ five. (no_stop (answer.Checked c)).1 (sym e ∙ five)))
-]
-checks policy before after code (answer.Explained told) is writes = absurd is
-checks policy before after code (answer.Bounded told) is writes = absurd is
-checks policy before after code (answer.Rested told) is writes = absurd is
-checks policy before after code (answer.Exported text) is writes = absurd is
-checks policy before after code (answer.Verified v) is writes = absurd is
-checks policy before after code (answer.Judged outcome) is writes = absurd is
-checks policy before after code (answer.Made text) is writes = absurd is
-checks policy before after code (answer.Benched told) is writes = absurd is
-checks policy before after code (answer.Played outcome) is writes = absurd is
-checks policy before after code (answer.Simulated outcome) is writes = absurd is
-checks policy before after code (answer.TooLong kind.Policy) long writes = elim (code_among _ _ _ _ writes) [
-  | inr e ↦ stopped_check policy before.written after.written code (at_5 e)
-  | inl e ↦ long_check policy before.written after.written code long e
-]
-checks policy before after code (answer.TooLong kind.Trace) is writes = absurd is
-checks policy before after code (answer.TooLong kind.History) is writes = absurd is
-checks policy before after code (answer.TooLong kind.Certificates) is writes = absurd is
-checks policy before after code answer.BadWords is writes = absurd is
+-- each file holds a text that isn't too long
+abbrev AllHeld : (List ℕ → Told) → List AskedFile → Type 0
+AllHeld told [] = Unit {0}
+AllHeld told (file ∷ files) = ((text : List ℕ) × Holds file.which (told file.name) text) × AllHeld told files
+
+-- so none of them is
+pub never_long : (which : TextKind) (told : List ℕ → Told) (files : List AskedFile) → IsTooLongOf which told files → AllHeld told files → ⊥
+never_long which told [] long held = long
+never_long which told (file ∷ files) (inl (same, long)) ((text, holding), held) = not_long file.which (told file.name) text long holding
+never_long which told (file ∷ files) (inr (read, long)) (holding, held) = never_long which told files long held
+
+-- the file of a command on a policy alone is the one that is too long
+pub long_policy : (which : TextKind) (told : List ℕ → Told) (policy : List ℕ) → IsTooLongOf which told (policy_file policy) → MayBeLong kind.Policy (told policy)
+long_policy which told policy (inl (same, long)) = long
+long_policy which told policy (inr (read, none)) = absurd none
+
+pub check_law : (Passed : ℕ → ℕ → Type 0) (policy : List ℕ) → CommandLaw Passed (Some (check policy))
+check_law Passed policy =
+    let asked : Option Asked = Some (check policy) in
+    record {
+      known = λ text a is. given answer.Checked _ (Known asked) (λ c is. check_among (statuses_of asked) refl refl refl refl refl c) a is;
+      crowds = λ told text before after a files is.
+          given answer.Checked _ (Crowds asked told before after) (check_crowds asked told before after policy (text kind.Policy) (inl (refl, refl)) files.0) a is;
+      shows = λ told text before after code a files is.
+          given answer.Checked _ (Shows (IsTruthful Passed asked told before after code) before after code)
+          (λ c is own added. read_check (told policy) (text kind.Policy) c before after code files.0 is own added) a is;
+      long = λ told before after code which long own. long_check (told policy) before after code (long_policy which told policy long) own;
+      stopped = λ told before after code stop file. stopped_check (told policy) before after code stop;
+    }

@@ -1,9 +1,9 @@
 -- From what a call came to, to how it ends.
-use Rattle.std.proofs.Common.{◌≡◌, ◌⊎◌, ℕ, List, [], ◌∷◌, Option, Result, Ok, Err, IfErr, IfOk, IsErrOf, OnOk, inl, inr, subst}
+use Rattle.std.proofs.Common.{◌≡◌, ◌⊎◌, ℕ, List, [], ◌∷◌, Option, Result, Ok, Err, IfErr, IfOk, IsErrOf, OnOk, inl, inr, refl, subst}
 use Rattle.sched_io.specs.Shown.{Shown}
 use Rattle.sched_io.specs.Told.{Told}
 use Rattle.command_words.specs.Command.{Asked}
-use Rattle.ipanema_cli.specs.Answers.{IsGatedAnswer}
+use Rattle.ipanema_cli.specs.Replies.{IsGatedAnswer, too_long}
 use Rattle.ipanema_cli.specs.Causes.{OneOf}
 use Rattle.ipanema_cli.specs.Ends.{Concludes, Ends, Writes, answered, cut_off, no_memory, unread, written}
 use Rattle.ipanema_cli.specs.Stops.{IsStop}
@@ -23,7 +23,7 @@ module _ (before after : Shown) (code : ℕ) where
   pub ends : (Passed : ℕ → ℕ → Type 0) (asked : Option Asked) (told : List ℕ → Told) (fault : Type 0) (r : Result Answer Stop) → IfOk r (IsGatedAnswer Passed asked told)
       → IfErr r (IsStop asked told fault) → Concludes r before after code → Ends asked told fault before after code
   ends Passed asked told fault (Ok a) is why end = answered a (plain Passed asked told a is) end
-  ends Passed asked told fault (Err (stop.TooLong kind)) is why end = answered (answer.TooLong kind) why end
+  ends Passed asked told fault (Err (stop.TooLong kind)) is why end = answered (answer.TooLong kind) (too_long kind refl why) end
   ends Passed asked told fault (Err stop.Unread) is why end = unread end.0 why end.1
   ends Passed asked told fault (Err stop.Memory) is why end = no_memory end.0 end.1
 

@@ -1,8 +1,7 @@
 -- From how `explain` ends to the truth of what it says.
-use Rattle.std.proofs.Common.{◌≡◌, ◌≢◌, ℕ, inl, inr, List, [], ◌∷◌, Option, refl, sym, ◌∙◌, arith, subst}
+use Rattle.std.proofs.Common.{◌≡◌, ◌≢◌, ℕ, inl, List, [], ◌∷◌, Option, Some, refl, arith, subst}
 use Rattle.sched_base.specs.declared.limits.TheConstants.{CHECK_BUDGET}
 use Rattle.sched_io.specs.Puts.{joined}
-use Rattle.sched_io.specs.Shown.{Shown}
 use Rattle.sched_io.specs.Told.{Told}
 use Rattle.sched_io.specs.Written.{Adds}
 use Rattle.policy_tree.specs.Meaning.{Meaning}
@@ -24,19 +23,24 @@ use Rattle.policy_answers.specs.Lines.{explain_lines}
 use Rattle.policy_answers.specs.declared.explaining.ExplainAnswer.{ExplainAnswer}
 use Rattle.policy_answers.specs.declared.explaining.ExplainAnswer.TheVariants as explained
 use Rattle.policy_answers.specs.declared.explaining.Explanation.{Explanation}
-use Rattle.ipanema_cli.specs.PolicyAnswers.{AnswersExplain}
 use Rattle.ipanema_cli.specs.Causes.{OneOf}
-use Rattle.ipanema_cli.specs.Ends.{Writes}
 use Rattle.ipanema_cli.specs.Status.{code_of, explain_status, outcome_status}
 use Rattle.ipanema_cli.specs.Texts.{MayBeLong, MayRead}
 use Rattle.ipanema_cli.specs.CheckTruths.{Spells}
 use Rattle.ipanema_cli.specs.ExplainTruths.{ExplainsTruly, ShowsFailure}
-use Rattle.ipanema_cli.specs.declared.answers.Answer.{Answer}
 use Rattle.ipanema_cli.specs.declared.answers.Answer.TheVariants as answer
 use Rattle.ipanema_cli.specs.declared.texts.TextKind.TheVariants as kind
-use Rattle.ipanema_cli.proofs.CheckTruths.{Stopped, at_4, at_5, at_6, long_refuses, low_or_stopped, not_long, refusal_high, stopped_not, stopped_refuses, tells_fault}
+use Rattle.ipanema_cli.proofs.CheckTruths.{long_refuses, low_or_stopped, not_long, refusal_high, stopped_refuses, tells_fault}
+use Rattle.ipanema_cli.proofs.Stopped.{Stopped, at_4, at_5, at_6, stopped_not}
 use Rattle.ipanema_cli.proofs.PolicyFacts.{judged_refuses, refused_refuses, refused_text, resolved, same_policy}
-use Rattle.ipanema_cli.proofs.WritesLemmas.{code_among, no_stop, one_line, whole}
+use Rattle.ipanema_cli.proofs.WritesLemmas.{one_line}
+use Rattle.command_words.specs.Command.{Asked, explain}
+use Rattle.ipanema_cli.specs.Commands.{statuses_of}
+use Rattle.ipanema_cli.specs.Truths.{IsTruthful}
+use Rattle.ipanema_cli.proofs.CheckTruths.{long_policy}
+use Rattle.ipanema_cli.proofs.CodeLemmas.{explain_among}
+use Rattle.ipanema_cli.proofs.CommandLaw.{CommandLaw, Crowds, Known, Shows, given}
+use Rattle.ipanema_cli.proofs.Crowding.{explain_crowds}
 
 pub stopped_explain : (policy : Told) (name : ObName) (before after : Option (List ℕ)) (code : ℕ) → Stopped code → ExplainsTruly policy name before after code
 stopped_explain policy name before after code stop = record {
@@ -124,27 +128,16 @@ long_explain policy name before after code long own = record {
   bad_text = λ h. absurd (omega arith);
 }
 
-pub explains : (policy : Told) (name : ObName) (before after : Shown) (code : ℕ) (a : Answer) → AnswersExplain policy name a
-    → Writes a before after code → ExplainsTruly policy name before.written after.written code
-explains policy name before after code (answer.Checked c) is writes = absurd is
-explains policy name before after code (answer.Explained told) (text, read, is) writes = elim (code_among _ _ _ _ writes) [
-  | inr e ↦ stopped_explain policy name before.written after.written code (at_5 e)
-  | inl e ↦ read_explain policy text name told before.written after.written code read is e (whole _ _ _ _ writes (λ five. (no_stop (answer.Explained told)).1 (sym e ∙ five)))
-]
-explains policy name before after code (answer.Bounded b) is writes = absurd is
-explains policy name before after code (answer.Rested b) is writes = absurd is
-explains policy name before after code (answer.Exported text) is writes = absurd is
-explains policy name before after code (answer.Verified v) is writes = absurd is
-explains policy name before after code (answer.Played outcome) is writes = absurd is
-explains policy name before after code (answer.Simulated outcome) is writes = absurd is
-explains policy name before after code (answer.Judged outcome) is writes = absurd is
-explains policy name before after code (answer.Made text) is writes = absurd is
-explains policy name before after code (answer.Benched told) is writes = absurd is
-explains policy name before after code (answer.TooLong kind.Policy) long writes = elim (code_among _ _ _ _ writes) [
-  | inr e ↦ stopped_explain policy name before.written after.written code (at_5 e)
-  | inl e ↦ long_explain policy name before.written after.written code long e
-]
-explains policy name before after code (answer.TooLong kind.Trace) is writes = absurd is
-explains policy name before after code (answer.TooLong kind.History) is writes = absurd is
-explains policy name before after code (answer.TooLong kind.Certificates) is writes = absurd is
-explains policy name before after code answer.BadWords is writes = absurd is
+pub explain_law : (Passed : ℕ → ℕ → Type 0) (policy : List ℕ) (name : ObName) → CommandLaw Passed (Some (explain policy name))
+explain_law Passed policy name =
+    let asked : Option Asked = Some (explain policy name) in
+    record {
+      known = λ text a is. given answer.Explained _ (Known asked) (λ e is. explain_among (statuses_of asked) refl refl refl refl refl e) a is;
+      crowds = λ told text before after a files is.
+          given answer.Explained _ (Crowds asked told before after) (explain_crowds asked told before after policy (text kind.Policy) (inl (refl, refl)) files.0 name) a is;
+      shows = λ told text before after code a files is.
+          given answer.Explained _ (Shows (IsTruthful Passed asked told before after code) before after code)
+          (λ e is own added. read_explain (told policy) (text kind.Policy) name e before after code files.0 is own added) a is;
+      long = λ told before after code which long own. long_explain (told policy) name before after code (long_policy which told policy long) own;
+      stopped = λ told before after code stop file. stopped_explain (told policy) name before after code stop;
+    }

@@ -1,8 +1,7 @@
 -- From how a command ends that writes a text of an accepted policy to the truth of what it says.
 use Rattle.std.specs.Prelude.{IsFalse}
-use Rattle.std.proofs.Common.{◌≡◌, ◌≢◌, ℕ, inl, inr, List, Option, refl, sym, ◌∙◌, arith, subst}
+use Rattle.std.proofs.Common.{◌≡◌, ◌≢◌, ℕ, inl, List, Option, Some, refl, arith, subst}
 use Rattle.sched_io.specs.Puts.{joined}
-use Rattle.sched_io.specs.Shown.{Shown}
 use Rattle.sched_io.specs.Told.{Told}
 use Rattle.sched_io.specs.Written.{Adds}
 use Rattle.policy_eval.specs.Obligations.{MeetsObligations}
@@ -16,8 +15,7 @@ use Rattle.policy_answers.specs.declared.answer.CheckAnswer.{CheckAnswer}
 use Rattle.policy_answers.specs.declared.answer.CheckAnswer.TheVariants as checked
 use Rattle.policy_answers.proofs.FirstLines.{joined_lines}
 use Rattle.round_laws.proofs.MainTheorem.{main_theorem}
-use Rattle.ipanema_cli.specs.PolicyAnswers.{AnswersExport, Exporting, IsAccepted, accepts}
-use Rattle.ipanema_cli.specs.Ends.{Writes}
+use Rattle.ipanema_cli.specs.PolicyAnswers.{Exporting, IsAccepted, IsHeader, accepts}
 use Rattle.ipanema_cli.specs.Status.{check_status, code_of, verdict_status}
 use Rattle.ipanema_cli.specs.Texts.{MayBeLong, MayRead}
 use Rattle.ipanema_cli.specs.CheckTruths.{Decides}
@@ -25,10 +23,18 @@ use Rattle.ipanema_cli.specs.ExportTruths.{ExportsTruly}
 use Rattle.ipanema_cli.specs.declared.answers.Answer.{Answer}
 use Rattle.ipanema_cli.specs.declared.answers.Answer.TheVariants as answer
 use Rattle.ipanema_cli.specs.declared.texts.TextKind.TheVariants as kind
-use Rattle.ipanema_cli.proofs.CheckTruths.{Stopped, at_5, long_decides, long_refuses, pays_if_equal, refusal_not_0, stopped_decides, stopped_not, stopped_refuses, tells_fault, verdict_answers}
+use Rattle.ipanema_cli.proofs.CheckTruths.{long_decides, long_refuses, pays_if_equal, refusal_not_0, stopped_decides, stopped_refuses, tells_fault, verdict_answers}
+use Rattle.ipanema_cli.proofs.Stopped.{Stopped, stopped_not}
 use Rattle.ipanema_cli.proofs.PolicyFacts.{judged_refuses, never_left, read_decides, read_refuses, resolved, same_policy}
 use Rattle.ipanema_cli.proofs.TraceTruths.{low_or_stopped, no_line}
-use Rattle.ipanema_cli.proofs.WritesLemmas.{code_among, no_stop, whole}
+use Rattle.cert_file.specs.Wrong.{Proves}
+use Rattle.command_words.specs.Command.{Asked, emit, prove}
+use Rattle.ipanema_cli.specs.Commands.{statuses_of}
+use Rattle.ipanema_cli.specs.Replies.{RepliesExport}
+use Rattle.ipanema_cli.proofs.CheckTruths.{long_policy}
+use Rattle.ipanema_cli.proofs.CodeLemmas.{check_among}
+use Rattle.ipanema_cli.proofs.CommandLaw.{CommandLaw, Crowds, Known, Shows, given_either}
+use Rattle.ipanema_cli.proofs.Crowding.{check_crowds}
 
 pub stopped_export : (Is : Exporting) (policy : Told) (before after : Option (List ℕ)) (code : ℕ) → Stopped code → ExportsTruly Is policy before after code
 stopped_export Is policy before after code stop = record {
@@ -115,31 +121,37 @@ long_export Is policy before after code long own = record {
   bad_text = λ h. absurd (omega arith);
 }
 
-pub exports : (Is : Exporting) (policy : Told) (before after : Shown) (code : ℕ) (a : Answer) → AnswersExport Is policy a
-    → Writes a before after code → ExportsTruly Is policy before.written after.written code
-exports Is policy before after code (answer.Checked c) is writes = elim (code_among _ _ _ _ writes) [
-  | inr e ↦ stopped_export Is policy before.written after.written code (at_5 e)
-  | inl e ↦ unaccepted Is policy c is.text before.written after.written code is.read is.answers.0 is.answers.1 e (whole _ _ _ _ writes (λ five. (no_stop (answer.Checked c)).1 (sym e ∙ five)))
-]
-exports Is policy before after code (answer.Explained told) is writes = absurd is
-exports Is policy before after code (answer.Bounded told) is writes = absurd is
-exports Is policy before after code (answer.Rested told) is writes = absurd is
-exports Is policy before after code (answer.Exported text) is writes = elim (code_among _ _ _ _ writes) [
-  | inr e ↦ stopped_export Is policy before.written after.written code (at_5 e)
-  | inl e ↦ export_written Is policy is.text text.items is.answers.0 before.written after.written code is.read is.answers.1 is.answers.2 e
-      (subst (λ (bytes : List ℕ). Adds bytes before.written after.written) (joined_lines text.items) (whole _ _ _ _ writes (λ five. omega (arith, five, e))))
-]
-exports Is policy before after code (answer.Verified v) is writes = absurd is
-exports Is policy before after code (answer.Played outcome) is writes = absurd is
-exports Is policy before after code (answer.Simulated outcome) is writes = absurd is
-exports Is policy before after code (answer.Judged outcome) is writes = absurd is
-exports Is policy before after code (answer.Made text) is writes = absurd is
-exports Is policy before after code (answer.Benched told) is writes = absurd is
-exports Is policy before after code (answer.TooLong kind.Policy) long writes = elim (code_among _ _ _ _ writes) [
-  | inr e ↦ stopped_export Is policy before.written after.written code (at_5 e)
-  | inl e ↦ long_export Is policy before.written after.written code long e
-]
-exports Is policy before after code (answer.TooLong kind.Trace) is writes = absurd is
-exports Is policy before after code (answer.TooLong kind.History) is writes = absurd is
-exports Is policy before after code (answer.TooLong kind.Certificates) is writes = absurd is
-exports Is policy before after code answer.BadWords is writes = absurd is
+-- what such a command answers is true
+export_shows : (Is : Exporting) (policy : Told) (text : List ℕ) (before after : Option (List ℕ)) (code : ℕ) → MayRead kind.Policy policy text → (a : Answer)
+    → RepliesExport Is text a → Shows (ExportsTruly Is policy before after code) before after code a
+export_shows Is policy text before after code read a is =
+    given_either answer.Checked answer.Exported _ _ (Shows (ExportsTruly Is policy before after code) before after code)
+    (λ c is own added. unaccepted Is policy c text before after code read is.0 is.1 own added)
+    (λ given is own added. export_written Is policy text given.items is.0 before after code read is.1 is.2 own
+    (subst (λ (bytes : List ℕ). Adds bytes before after) (joined_lines given.items) added)) a is
+
+pub prove_law : (Passed : ℕ → ℕ → Type 0) (policy : List ℕ) → CommandLaw Passed (Some (prove policy))
+prove_law Passed policy =
+    let asked : Option Asked = Some (prove policy) in
+    record {
+      known = λ text a is. given_either answer.Checked answer.Exported _ _ (Known asked) (λ c is. check_among (statuses_of asked) refl refl refl refl refl c) (λ text is. refl) a is;
+      crowds = λ told text before after a files is.
+          given_either answer.Checked answer.Exported _ _ (Crowds asked told before after)
+          (λ c is. check_crowds asked told before after policy (text kind.Policy) (inl (refl, refl)) files.0 c is.0) (λ text is e added. absurd (omega arith)) a is;
+      shows = λ told text before after code a files is. export_shows Proves (told policy) (text kind.Policy) before after code files.0 a is;
+      long = λ told before after code which long own. long_export Proves (told policy) before after code (long_policy which told policy long) own;
+      stopped = λ told before after code stop file. stopped_export Proves (told policy) before after code stop;
+    }
+
+pub emit_law : (Passed : ℕ → ℕ → Type 0) (policy : List ℕ) → CommandLaw Passed (Some (emit policy))
+emit_law Passed policy =
+    let asked : Option Asked = Some (emit policy) in
+    record {
+      known = λ text a is. given_either answer.Checked answer.Exported _ _ (Known asked) (λ c is. check_among (statuses_of asked) refl refl refl refl refl c) (λ text is. refl) a is;
+      crowds = λ told text before after a files is.
+          given_either answer.Checked answer.Exported _ _ (Crowds asked told before after)
+          (λ c is. check_crowds asked told before after policy (text kind.Policy) (inl (refl, refl)) files.0 c is.0) (λ text is e added. absurd (omega arith)) a is;
+      shows = λ told text before after code a files is. export_shows IsHeader (told policy) (text kind.Policy) before after code files.0 a is;
+      long = λ told before after code which long own. long_export IsHeader (told policy) before after code (long_policy which told policy long) own;
+      stopped = λ told before after code stop file. stopped_export IsHeader (told policy) before after code stop;
+    }

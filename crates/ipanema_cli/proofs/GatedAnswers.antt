@@ -1,105 +1,65 @@
 -- Answers, with what they say of the gate and without.
-use Rattle.std.proofs.Common.{ℕ, List, Option, Some, None}
+use Rattle.std.proofs.Common.{◌≡◌, ℕ, List, inl, inr, Option, Some, Result, Ok, Err, IfErr, IfOk, subst, sym}
 use Rattle.sched_io.specs.Told.{Told}
-use Rattle.command_words.specs.Command.{Asked, IsSerial, bench, bound, check, crew, emit, explain, make, migrate, play, prove, replay, report, rest, run, simulate, verify, waste}
+use Rattle.command_words.specs.Command.{Asked, IsSerial, crew, run}
 use Rattle.trace_run.specs.Runs.{IsGatedRunOf, IsRunOf}
-use Rattle.ipanema_cli.specs.TraceAnswers.{AnswersPlay}
-use Rattle.ipanema_cli.specs.Answers.{IsAnswer, IsGatedAnswer}
+use Rattle.ipanema_cli.specs.Commands.{asked_files}
+use Rattle.ipanema_cli.specs.Files.{AreRead}
+use Rattle.ipanema_cli.specs.Replies.{Answers, IsAnswer, IsGatedAnswer, Replies, RepliesPlay, replies, too_long}
+use Rattle.ipanema_cli.specs.Stops.{IsStop}
+use Rattle.ipanema_cli.specs.TraceAnswers.{Playing}
+use Rattle.ipanema_cli.specs.Truths.{IsTruthful, NonePassed}
 use Rattle.ipanema_cli.specs.declared.answers.Answer.{Answer}
-use Rattle.ipanema_cli.specs.declared.answers.Answer.TheVariants as answer
+use Rattle.ipanema_cli.specs.declared.stop.Stop.{Stop}
+use Rattle.ipanema_cli.specs.declared.stop.Stop.TheVariants as stop
 use Rattle.ipanema_cli.specs.declared.texts.TextKind.{TextKind}
 use Rattle.ipanema_cli.specs.declared.texts.TextKind.TheVariants as kind
 
 module _ (Passed : ℕ → ℕ → Type 0) where
   -- what a run answers, without the gate
-  plain_run : (policy trace : Told) (a : Answer) → AnswersPlay (IsGatedRunOf Passed) policy trace a → AnswersPlay IsRunOf policy trace a
-  plain_run policy trace (answer.Checked c) is = record { text = is.text; jobs = is.jobs; policy_read = is.policy_read; trace_read = is.trace_read; answers = is.answers }
-  plain_run policy trace (answer.Explained e) is = absurd is
-  plain_run policy trace (answer.Bounded e) is = absurd is
-  plain_run policy trace (answer.Rested e) is = absurd is
-  plain_run policy trace (answer.Exported text) is = absurd is
-  plain_run policy trace (answer.Verified v) is = absurd is
-  plain_run policy trace (answer.Played outcome) is = record {
-    text = is.text;
-    jobs = is.jobs;
-    policy_read = is.policy_read;
-    trace_read = is.trace_read;
-    answers = (is.answers.0, is.answers.1, is.answers.2.0);
-  }
-  plain_run policy trace (answer.Simulated outcome) is = absurd is
-  plain_run policy trace (answer.Judged outcome) is = absurd is
-  plain_run policy trace (answer.Made text) is = absurd is
-  plain_run policy trace (answer.Benched told) is = absurd is
-  plain_run policy trace (answer.TooLong kind.Policy) is = is
-  plain_run policy trace (answer.TooLong kind.Trace) is = is
-  plain_run policy trace (answer.TooLong kind.History) is = absurd is
-  plain_run policy trace (answer.TooLong kind.Certificates) is = absurd is
-  plain_run policy trace answer.BadWords is = absurd is
+  plain_run : (policy trace : List ℕ) (a : Answer) → RepliesPlay (IsGatedRunOf Passed) policy trace a → RepliesPlay IsRunOf policy trace a
+  plain_run policy trace a (inl is) = inl is
+  plain_run policy trace a (inr (outcome, same, is)) = inr (outcome, same, (is.0, is.1, is.2.0))
+
+  plain_reply : (asked : Option Asked) (text : TextKind → List ℕ) (a : Answer) → Replies (IsGatedRunOf Passed) asked text a → Replies IsRunOf asked text a
+  plain_reply (Some (run policy trace)) text a is = plain_run (text kind.Policy) (text kind.Trace) a is
+  plain_reply (Some (crew policy trace workers)) text a is = plain_run (text kind.Policy) (text kind.Trace) a is
+  plain_reply asked text a is = is
 
   pub plain : (asked : Option Asked) (told : List ℕ → Told) (a : Answer) → IsGatedAnswer Passed asked told a → IsAnswer asked told a
-  plain None told a is = is
-  plain (Some (check policy)) told a is = is
-  plain (Some (explain policy name)) told a is = is
-  plain (Some (prove policy)) told a is = is
-  plain (Some (emit policy)) told a is = is
-  plain (Some (bound policy)) told a is = is
-  plain (Some (rest policy)) told a is = is
-  plain (Some (verify policy certs)) told a is = is
-  plain (Some (play policy trace)) told a is = is
-  plain (Some (run policy trace)) told a is = plain_run (told policy) (told trace) a is
-  plain (Some (crew policy trace workers)) told a is = plain_run (told policy) (told trace) a is
-  plain (Some (simulate policy trace)) told a is = is
-  plain (Some (waste policy trace)) told a is = is
-  plain (Some (replay policy trace history)) told a is = is
-  plain (Some (report policy trace history)) told a is = is
-  plain (Some (migrate policy trace history)) told a is = is
-  plain (Some (make seed size)) told a is = is
-  plain (Some (bench seed size)) told a is = is
+  plain asked told a (replies text read is) = replies text read (plain_reply asked text a is)
+  plain asked told a (too_long which same long) = too_long which same long
 
   -- what plays no cores side by side says nothing of the gate
+  pub gated_reply : (asked : Option Asked) (text : TextKind → List ℕ) (a : Answer) → IsSerial asked → Replies IsRunOf asked text a → Replies (IsGatedRunOf Passed) asked text a
+  gated_reply (Some (run policy trace)) text a other is = absurd other
+  gated_reply (Some (crew policy trace workers)) text a other is = absurd other
+  gated_reply asked text a other is = is
+
   pub ungated : (asked : Option Asked) (told : List ℕ → Told) (a : Answer) → IsSerial asked → IsAnswer asked told a → IsGatedAnswer Passed asked told a
-  ungated None told a other is = is
-  ungated (Some (check policy)) told a other is = is
-  ungated (Some (explain policy name)) told a other is = is
-  ungated (Some (prove policy)) told a other is = is
-  ungated (Some (emit policy)) told a other is = is
-  ungated (Some (bound policy)) told a other is = is
-  ungated (Some (rest policy)) told a other is = is
-  ungated (Some (verify policy certs)) told a other is = is
-  ungated (Some (play policy trace)) told a other is = is
-  ungated (Some (run policy trace)) told a other is = absurd other
-  ungated (Some (crew policy trace workers)) told a other is = absurd other
-  ungated (Some (simulate policy trace)) told a other is = is
-  ungated (Some (waste policy trace)) told a other is = is
-  ungated (Some (replay policy trace history)) told a other is = is
-  ungated (Some (report policy trace history)) told a other is = is
-  ungated (Some (migrate policy trace history)) told a other is = is
-  ungated (Some (make seed size)) told a other is = is
-  ungated (Some (bench seed size)) told a other is = is
+  ungated asked told a other (replies text read is) = replies text read (gated_reply asked text a other is)
+  ungated asked told a other (too_long which same long) = too_long which same long
 
-  -- and neither does that a text is too long
-  long_run : (policy trace : Told) (which : TextKind) → AnswersPlay IsRunOf policy trace (answer.TooLong which) → AnswersPlay (IsGatedRunOf Passed) policy trace (answer.TooLong which)
-  long_run policy trace kind.Policy is = is
-  long_run policy trace kind.Trace is = is
-  long_run policy trace kind.History is = absurd is
-  long_run policy trace kind.Certificates is = absurd is
+  -- and neither does what is said of it
+  pub passed_by_any : (asked : Option Asked) (told : List ℕ → Told) (before after : Option (List ℕ)) (code : ℕ) → IsSerial asked
+      → IsTruthful NonePassed asked told before after code → IsTruthful Passed asked told before after code
+  passed_by_any (Some (run policy trace)) told before after code other is = absurd other
+  passed_by_any (Some (crew policy trace workers)) told before after code other is = absurd other
+  passed_by_any asked told before after code other is = is
 
-  pub gated_length : (asked : Option Asked) (told : List ℕ → Told) (which : TextKind) → IsAnswer asked told (answer.TooLong which) → IsGatedAnswer Passed asked told (answer.TooLong which)
-  gated_length None told which is = is
-  gated_length (Some (check policy)) told which is = is
-  gated_length (Some (explain policy name)) told which is = is
-  gated_length (Some (prove policy)) told which is = is
-  gated_length (Some (emit policy)) told which is = is
-  gated_length (Some (bound policy)) told which is = is
-  gated_length (Some (rest policy)) told which is = is
-  gated_length (Some (verify policy certs)) told which is = is
-  gated_length (Some (play policy trace)) told which is = is
-  gated_length (Some (run policy trace)) told which is = long_run (told policy) (told trace) which is
-  gated_length (Some (crew policy trace workers)) told which is = long_run (told policy) (told trace) which is
-  gated_length (Some (simulate policy trace)) told which is = is
-  gated_length (Some (waste policy trace)) told which is = is
-  gated_length (Some (replay policy trace history)) told which is = is
-  gated_length (Some (report policy trace history)) told which is = is
-  gated_length (Some (migrate policy trace history)) told which is = is
-  gated_length (Some (make seed size)) told which is = is
-  gated_length (Some (bench seed size)) told which is = is
+  -- so it is where the texts were read
+  pub gated_by : (asked : Option Asked) (told : List ℕ → Told) (text : TextKind → List ℕ) (r : Result Answer Stop) → IsSerial asked → AreRead told text (asked_files asked)
+      → IfOk r (Replies IsRunOf asked text) → IfOk r (IsGatedAnswer Passed asked told)
+  gated_by asked told text (Ok a) other read is = replies text read (gated_reply asked text a other is)
+  gated_by asked told text (Err why) other read is = is
+
+-- where the texts were read, the answer to them is the command's
+pub answered_by : (Ran : Playing) (asked : Option Asked) (told : List ℕ → Told) (text : TextKind → List ℕ) (r : Result Answer Stop) → AreRead told text (asked_files asked)
+    → IfOk r (Replies Ran asked text) → IfOk r (Answers Ran asked told)
+answered_by Ran asked told text (Ok a) read is = replies text read is
+answered_by Ran asked told text (Err why) read is = is
+
+-- want of memory stops each command
+pub memory_stops : (asked : Option Asked) (told : List ℕ → Told) (fault : Type 0) (r : Result Answer Stop) → IfErr r (λ why. why ≡ stop.Memory) → IfErr r (IsStop asked told fault)
+memory_stops asked told fault (Ok a) is = is
+memory_stops asked told fault (Err why) is = subst (IsStop asked told fault) (sym is) tt

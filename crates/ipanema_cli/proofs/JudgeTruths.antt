@@ -1,7 +1,6 @@
 -- From how a command that judges a history ends to the truth of what it says.
-use Rattle.std.proofs.Common.{◌≡◌, ◌≢◌, ℕ, inl, inr, List, Option, refl, sym, ◌∙◌, ap, arith, subst}
+use Rattle.std.proofs.Common.{◌≡◌, ◌≢◌, ℕ, inl, List, Option, Some, refl, sym, ap, arith, subst}
 use Rattle.sched_io.specs.Puts.{joined}
-use Rattle.sched_io.specs.Shown.{Shown}
 use Rattle.sched_io.specs.Told.{Told}
 use Rattle.sched_io.specs.Written.{Adds}
 use Rattle.policy_eval.specs.Obligations.{MeetsObligations}
@@ -22,8 +21,7 @@ use Rattle.history_replay.specs.Judges.{IsMigrationOf, IsReplayOf, IsReportOf}
 use Rattle.history_replay.proofs.Migrating.{can_be_printed}
 use Rattle.history_replay.specs.Lines as histories
 use Rattle.sched_report.specs.Lines.{report_lines}
-use Rattle.ipanema_cli.specs.TraceAnswers.{AnswersJudging, JudgesTexts, Judging}
-use Rattle.ipanema_cli.specs.Ends.{Writes}
+use Rattle.ipanema_cli.specs.TraceAnswers.{Judging}
 use Rattle.ipanema_cli.specs.Status.{check_status, code_of, history_status, refusal_status, verdict_status}
 use Rattle.ipanema_cli.specs.CheckTruths.{Decides, Holds, Refuses, Spells}
 use Rattle.ipanema_cli.specs.JudgeTruths.{DoHoldAll, JudgesTruly, MustJudge, SaysMigrated, SaysReport, SaysWhole}
@@ -31,11 +29,28 @@ use Rattle.ipanema_cli.specs.declared.answers.Answer.{Answer}
 use Rattle.ipanema_cli.specs.declared.answers.Answer.TheVariants as answer
 use Rattle.ipanema_cli.specs.declared.texts.TextKind.TheVariants as kind
 use Rattle.ipanema_cli.proofs.SimulationTruths.{text_of_lines}
-use Rattle.ipanema_cli.proofs.CheckTruths.{Stopped, at_4, at_5, at_6, not_long, refusal_not_0, stopped_not, stopped_refuses, tells_fault, verdict_answers}
+use Rattle.ipanema_cli.proofs.CheckTruths.{refusal_not_0, stopped_refuses, tells_fault, verdict_answers}
+use Rattle.ipanema_cli.proofs.Stopped.{Stopped, at_4, at_5, at_6, stopped_not}
 use Rattle.ipanema_cli.proofs.TraceTruths.{low_or_stopped, no_line, refused_left}
 use Rattle.ipanema_cli.proofs.PolicyFacts.{read_decides, read_refuses, refused_text}
-use Rattle.ipanema_cli.proofs.WritesLemmas.{code_among, no_stop, one_line, whole}
+use Rattle.ipanema_cli.proofs.WritesLemmas.{one_line}
 use Rattle.ipanema_cli.proofs.Judgements.{Read, Saying, judged_whole, refused_history}
+use Rattle.std.specs.Prelude.{IsFalse}
+use Rattle.policy_answers.specs.Checks.{IsCheckOf}
+use Rattle.history_replay.specs.declared.refusal.HistoryRefusal.TheVariants as no_history
+use Rattle.command_words.specs.Command.{Asked, migrate, replay, report}
+use Rattle.ipanema_cli.specs.Answers.{status_of}
+use Rattle.ipanema_cli.specs.Causes.{OneOf}
+use Rattle.ipanema_cli.specs.Commands.{history_files, statuses_of}
+use Rattle.ipanema_cli.specs.Files.{AreRead, IsFileOf}
+use Rattle.ipanema_cli.specs.PolicyAnswers.{accepts}
+use Rattle.ipanema_cli.specs.Replies.{RepliesJudging}
+use Rattle.ipanema_cli.specs.Texts.{MayRead}
+use Rattle.ipanema_cli.specs.declared.texts.TextKind.{TextKind}
+use Rattle.ipanema_cli.proofs.CheckTruths.{never_long}
+use Rattle.ipanema_cli.proofs.CodeLemmas.{check_among, history_among}
+use Rattle.ipanema_cli.proofs.CommandLaw.{CommandLaw, Crowds, Shows, given_either}
+use Rattle.ipanema_cli.proofs.Crowding.{check_crowds}
 
 stopped_must : (policy trace history : Told) (code : ℕ) → Stopped code → MustJudge policy trace history code
 stopped_must policy trace history code stop = record {
@@ -97,17 +112,17 @@ must_of policy trace history code left decides refuses = record {
   unjudged = λ jobs lines also too. refuses;
 }
 
-module _ (Is : Judging) (Says : Saying) (policy trace history : Told) where
+module _ (Says : Saying) (policy trace history : Told) where
   -- the policy was judged, and isn't accepted
-  verdict_judge : (v : Verdict) (before after : Option (List ℕ)) (code : ℕ) → JudgesTexts Is policy trace history (answer.Checked (checked.Judged v))
+  verdict_judge : (v : Verdict) (text : List ℕ) (before after : Option (List ℕ)) (code : ℕ) → MayRead kind.Policy policy text → IsCheckOf text (checked.Judged v)
       → code ≡ code_of (verdict_status v) → code ≢ 0 → code ≢ 9 → code ≢ 2 → ((p : Meaning) → Spells policy p → MeetsObligations p → code ≡ 3)
       → Adds (joined (check_lines (checked.Judged v))) before after → JudgesTruly Says policy trace history before after code
-  verdict_judge v before after code texts own not_0 not_9 not_2 left added = record {
+  verdict_judge v text before after code read is own not_0 not_9 not_2 left added = record {
     whole = λ h. absurd (not_0 h);
     not_whole = λ h. absurd (not_9 h);
-    must = must_of policy trace history code left (read_decides policy texts.text (checked.Judged v) code texts.policy_read texts.answers.0 own)
-        (read_refuses policy texts.text (checked.Judged v) code texts.policy_read texts.answers.0 own);
-    lines = λ low. verdict_answers policy texts.text v before after code texts.policy_read texts.answers.0 own added;
+    must = must_of policy trace history code left (read_decides policy text (checked.Judged v) code read is own)
+        (read_refuses policy text (checked.Judged v) code read is own);
+    lines = λ low. verdict_answers policy text v before after code read is own added;
     bad_text = λ h. absurd (not_2 h);
   }
 
@@ -116,23 +131,21 @@ module _ (Is : Judging) (Says : Saying) (policy trace history : Told) where
   refusal_not_9 (refusal.Crowded name) code own e = omega arith
 
   -- the policy isn't accepted
-  unaccepted : (c : CheckAnswer) (before after : Option (List ℕ)) (code : ℕ) → JudgesTexts Is policy trace history (answer.Checked c)
+  unaccepted : (c : CheckAnswer) (text : List ℕ) (before after : Option (List ℕ)) (code : ℕ) → MayRead kind.Policy policy text → IsCheckOf text c → IsFalse (accepts c)
       → code ≡ code_of (check_status c) → Adds (joined (check_lines c)) before after → JudgesTruly Says policy trace history before after code
-  unaccepted (checked.Judged (verdict.Accepted kept)) before after code texts own added =
-      absurd (let refusal = texts.answers.1 in let clash : ⊥ = cc in clash)
-  unaccepted (checked.Judged (verdict.Refused answers kept)) before after code texts own added =
-      verdict_judge (verdict.Refused answers kept) before after code texts own (λ e. omega arith) (λ e. omega arith) (λ e. omega arith)
-      (refused_left policy texts.text answers kept code texts.policy_read texts.answers.0) added
-  unaccepted (checked.Judged (verdict.Undecided answers kept)) before after code texts own added =
-      verdict_judge (verdict.Undecided answers kept) before after code texts own (λ e. omega arith) (λ e. omega arith) (λ e. omega arith) (λ p held met. own) added
-  unaccepted (checked.Unjudged why) before after code texts own added = record {
+  unaccepted (checked.Judged (verdict.Accepted kept)) text before after code read is refusal own added = absurd (cc)
+  unaccepted (checked.Judged (verdict.Refused answers kept)) text before after code read is refusal own added =
+      verdict_judge (verdict.Refused answers kept) text before after code read is own (λ e. omega arith) (λ e. omega arith) (λ e. omega arith)
+      (refused_left policy text answers kept code read is) added
+  unaccepted (checked.Judged (verdict.Undecided answers kept)) text before after code read is refusal own added =
+      verdict_judge (verdict.Undecided answers kept) text before after code read is own (λ e. omega arith) (λ e. omega arith) (λ e. omega arith) (λ p held met. own) added
+  unaccepted (checked.Unjudged why) text before after code read is refusal own added = record {
     whole = λ h. absurd (refusal_not_0 why code own h);
     not_whole = λ h. absurd (refusal_not_9 why code own h);
-    must = must_of policy trace history code (λ p held met. absurd (refused_text policy texts.text why p texts.policy_read texts.answers.0 held))
-        (read_decides policy texts.text (checked.Unjudged why) code texts.policy_read texts.answers.0 own)
-        (read_refuses policy texts.text (checked.Unjudged why) code texts.policy_read texts.answers.0 own);
+    must = must_of policy trace history code (λ p held met. absurd (refused_text policy text why p read is held))
+        (read_decides policy text (checked.Unjudged why) code read is own) (read_refuses policy text (checked.Unjudged why) code read is own);
     lines = λ low. absurd (no_line why code own low);
-    bad_text = λ h. inl (tells_fault policy texts.text why before after code texts.policy_read texts.answers.0 own added h);
+    bad_text = λ h. inl (tells_fault policy text why before after code read is own added h);
   }
 
 -- the answers of `replay` to a history that was judged
@@ -142,7 +155,7 @@ replay_answer policy trace history text jobs lines p read (judged.Whole count) b
     let line : List ℕ = histories.whole_line count in
     judged_whole policy trace history text jobs lines p read SaysWhole is.plan is.history line before after code is.gives is.whole
     (ap histories.whole_line is.count_is) own (one_line line before after added)
-replay_answer policy trace history text jobs lines p read (judged.Reported report) before after code is own added = absurd is
+replay_answer policy trace history text jobs lines p read (judged.Reported told) before after code is own added = absurd is
 replay_answer policy trace history text jobs lines p read (judged.Migrated given) before after code is own added = absurd is
 replay_answer policy trace history text jobs lines p read (judged.Refused why) before after code is own added =
     refused_history policy trace history text jobs lines p read SaysWhole why before after code is own (one_line (histories.refusal_line why) before after added)
@@ -162,7 +175,7 @@ report_answer policy trace history text jobs lines p read (judged.Refused why) b
 migrate_answer : (policy trace history : Told) (text jobs lines : List ℕ) (p : Meaning) → Read policy trace history text jobs lines p → (h : HistoryAnswer) (before after : Option (List ℕ)) (code : ℕ)
     → IsMigrationOf p jobs lines h → code ≡ code_of (history_status h) → Adds (joined (histories.lines_of h)) before after → JudgesTruly SaysMigrated policy trace history before after code
 migrate_answer policy trace history text jobs lines p read (judged.Whole count) before after code is own added = absurd is
-migrate_answer policy trace history text jobs lines p read (judged.Reported report) before after code is own added = absurd is
+migrate_answer policy trace history text jobs lines p read (judged.Reported told) before after code is own added = absurd is
 migrate_answer policy trace history text jobs lines p read (judged.Migrated given) before after code is own added =
     let cores : ℕ = given.plan.cores in let entries = given.history in
     let same = text_of_lines cores entries in
@@ -173,52 +186,74 @@ migrate_answer policy trace history text jobs lines p read (judged.Refused why) 
     refused_history policy trace history text jobs lines p read SaysMigrated why before after code is own (one_line (histories.refusal_line why) before after added)
 
 -- what follows for a command from what its answers to judged histories are worth
-judges : (Is : Judging) (Says : Saying) → ((policy trace history : Told) (text jobs lines : List ℕ) (p : Meaning) → Read policy trace history text jobs lines p → (h : HistoryAnswer) (before after : Option (List ℕ)) (code : ℕ)
+judging_shows : (Is : Judging) (Says : Saying) → ((policy trace history : Told) (text jobs lines : List ℕ) (p : Meaning) → Read policy trace history text jobs lines p → (h : HistoryAnswer) (before after : Option (List ℕ)) (code : ℕ)
     → Is p jobs lines h → code ≡ code_of (history_status h) → Adds (joined (histories.lines_of h)) before after → JudgesTruly Says policy trace history before after code)
-    → (policy trace history : Told) (before after : Shown) (code : ℕ) (a : Answer) → AnswersJudging Is policy trace history a
-    → Writes a before after code → JudgesTruly Says policy trace history before.written after.written code
-judges Is Says worth policy trace history before after code (answer.Checked c) texts writes = elim (code_among _ _ _ _ writes) [
-  | inr e ↦ stopped_judge Says policy trace history before.written after.written code (at_5 e)
-  | inl e ↦ unaccepted Is Says policy trace history c before.written after.written code texts e (whole _ _ _ _ writes (λ five. (no_stop (answer.Checked c)).1 (sym e ∙ five)))
-]
-judges Is Says worth policy trace history before after code (answer.Explained told) is writes = absurd is
-judges Is Says worth policy trace history before after code (answer.Bounded told) is writes = absurd is
-judges Is Says worth policy trace history before after code (answer.Rested told) is writes = absurd is
-judges Is Says worth policy trace history before after code (answer.Exported text) is writes = absurd is
-judges Is Says worth policy trace history before after code (answer.Verified v) is writes = absurd is
-judges Is Says worth policy trace history before after code (answer.Played outcome) is writes = absurd is
-judges Is Says worth policy trace history before after code (answer.Simulated outcome) is writes = absurd is
-judges Is Says worth policy trace history before after code (answer.Judged h) texts writes = elim (code_among _ _ _ _ writes) [
-  | inr e ↦ stopped_judge Says policy trace history before.written after.written code (at_5 e)
-  | inl e ↦ worth policy trace history texts.text texts.jobs texts.entries texts.answers.0
-      (record { policy_read = texts.policy_read; trace_read = texts.trace_read; history_read = texts.history_read; accepted = texts.answers.1 })
-      h before.written after.written code texts.answers.2 e (whole _ _ _ _ writes (λ five. (no_stop (answer.Judged h)).1 (sym e ∙ five)))
-]
-judges Is Says worth policy trace history before after code (answer.Made text) is writes = absurd is
-judges Is Says worth policy trace history before after code (answer.Benched told) is writes = absurd is
-judges Is Says worth policy trace history before after code (answer.TooLong kind.Policy) long writes = elim (code_among _ _ _ _ writes) [
-  | inr e ↦ stopped_judge Says policy trace history before.written after.written code (at_5 e)
-  | inl e ↦ long_judge Says policy trace history before.written after.written code (λ text jobs lines held also too. not_long kind.Policy policy text long held) e
-]
-judges Is Says worth policy trace history before after code (answer.TooLong kind.Trace) long writes = elim (code_among _ _ _ _ writes) [
-  | inr e ↦ stopped_judge Says policy trace history before.written after.written code (at_5 e)
-  | inl e ↦ long_judge Says policy trace history before.written after.written code (λ text jobs lines held also too. not_long kind.Trace trace jobs long.1 also) e
-]
-judges Is Says worth policy trace history before after code (answer.TooLong kind.History) long writes = elim (code_among _ _ _ _ writes) [
-  | inr e ↦ stopped_judge Says policy trace history before.written after.written code (at_5 e)
-  | inl e ↦ long_judge Says policy trace history before.written after.written code (λ text jobs lines held also too. not_long kind.History history lines long.2 too) e
-]
-judges Is Says worth policy trace history before after code (answer.TooLong kind.Certificates) is writes = absurd is
-judges Is Says worth policy trace history before after code answer.BadWords is writes = absurd is
+    → (told : List ℕ → Told) (policy trace history : List ℕ) (text : TextKind → List ℕ) (before after : Option (List ℕ)) (code : ℕ) (a : Answer) → AreRead told text (history_files policy trace history)
+    → RepliesJudging Is (text kind.Policy) (text kind.Trace) (text kind.History) a → Shows (JudgesTruly Says (told policy) (told trace) (told history) before after code) before after code a
+judging_shows Is Says worth told policy trace history text before after code a files is =
+    given_either answer.Checked answer.Judged _ _ (Shows (JudgesTruly Says (told policy) (told trace) (told history) before after code) before after code)
+    (λ c is own added. unaccepted Says (told policy) (told trace) (told history) c (text kind.Policy) before after code files.0 is.0 is.1 own added)
+    (λ h is own added. worth (told policy) (told trace) (told history) (text kind.Policy) (text kind.Trace) (text kind.History) is.0
+    (record { policy_read = files.0; trace_read = files.1.0; history_read = files.1.1.0; accepted = is.1 }) h before after code is.2 own added) a is
 
-pub replays : (policy trace history : Told) (before after : Shown) (code : ℕ) (a : Answer) → AnswersJudging IsReplayOf policy trace history a
-    → Writes a before after code → JudgesTruly SaysWhole policy trace history before.written after.written code
-replays = judges IsReplayOf SaysWhole replay_answer
+history_not_10 : (h : HistoryAnswer) → code_of (history_status h) ≢ 10
+history_not_10 (judged.Whole count) e = omega arith
+history_not_10 (judged.Reported report) e = omega arith
+history_not_10 (judged.Migrated given) e = omega arith
+history_not_10 (judged.Refused (no_history.Trace fault)) e = omega arith
+history_not_10 (judged.Refused (no_history.BadLine line)) e = omega arith
+history_not_10 (judged.Refused (no_history.Illegal position)) e = omega arith
+history_not_10 (judged.Refused (no_history.Short count)) e = omega arith
 
-pub reports : (policy trace history : Told) (before after : Shown) (code : ℕ) (a : Answer) → AnswersJudging IsReportOf policy trace history a
-    → Writes a before after code → JudgesTruly SaysReport policy trace history before.written after.written code
-reports = judges IsReportOf SaysReport report_answer
+module _ (Is : Judging) (text : TextKind → List ℕ) (a : Answer) (is : RepliesJudging Is (text kind.Policy) (text kind.Trace) (text kind.History) a) where
+  -- its number is one of these
+  judging_known : (codes : List ℕ) → OneOf codes 0 → OneOf codes 1 → OneOf codes 2 → OneOf codes 3 → OneOf codes 9 → OneOf codes 10 → OneOf codes (code_of (status_of a))
+  judging_known codes done refused bad undecided not_whole much =
+      given_either answer.Checked answer.Judged _ _ (λ a. OneOf codes (code_of (status_of a)))
+      (λ c is. check_among codes bad much done refused undecided c) (λ h is. history_among codes bad done not_whole h) a is
 
-pub migrates : (policy trace history : Told) (before after : Shown) (code : ℕ) (a : Answer) → AnswersJudging IsMigrationOf policy trace history a
-    → Writes a before after code → JudgesTruly SaysMigrated policy trace history before.written after.written code
-migrates = judges IsMigrationOf SaysMigrated migrate_answer
+  -- and 10 where an obligation has too many cases
+  judging_crowds : (asked : Option Asked) (told : List ℕ → Told) (before after : Option (List ℕ)) (policy : List ℕ) → IsFileOf asked kind.Policy policy
+      → MayRead kind.Policy (told policy) (text kind.Policy) → Crowds asked told before after a
+  judging_crowds asked told before after policy file read =
+      given_either answer.Checked answer.Judged _ _ (Crowds asked told before after)
+      (λ c is. check_crowds asked told before after policy (text kind.Policy) file read c is.0) (λ h is e added. absurd (history_not_10 h e)) a is
+
+pub replay_law : (Passed : ℕ → ℕ → Type 0) (policy trace history : List ℕ) → CommandLaw Passed (Some (replay policy trace history))
+replay_law Passed policy trace history =
+    let asked : Option Asked = Some (replay policy trace history) in
+    record {
+      known = λ text a is. judging_known IsReplayOf text a is (statuses_of asked) refl refl refl refl refl refl;
+      crowds = λ told text before after a files is. judging_crowds IsReplayOf text a is asked told before after policy (inl (refl, refl)) files.0;
+      shows = λ told text before after code a files is. judging_shows IsReplayOf SaysWhole replay_answer told policy trace history text before after code a files is;
+      long = λ told before after code which long own.
+          long_judge SaysWhole (told policy) (told trace) (told history) before after code
+          (λ text jobs lines held also too. never_long which told (history_files policy trace history) long ((text, held), ((jobs, also), ((lines, too), tt)))) own;
+      stopped = λ told before after code stop file. stopped_judge SaysWhole (told policy) (told trace) (told history) before after code stop;
+    }
+
+pub report_law : (Passed : ℕ → ℕ → Type 0) (policy trace history : List ℕ) → CommandLaw Passed (Some (report policy trace history))
+report_law Passed policy trace history =
+    let asked : Option Asked = Some (report policy trace history) in
+    record {
+      known = λ text a is. judging_known IsReportOf text a is (statuses_of asked) refl refl refl refl refl refl;
+      crowds = λ told text before after a files is. judging_crowds IsReportOf text a is asked told before after policy (inl (refl, refl)) files.0;
+      shows = λ told text before after code a files is. judging_shows IsReportOf SaysReport report_answer told policy trace history text before after code a files is;
+      long = λ told before after code which long own.
+          long_judge SaysReport (told policy) (told trace) (told history) before after code
+          (λ text jobs lines held also too. never_long which told (history_files policy trace history) long ((text, held), ((jobs, also), ((lines, too), tt)))) own;
+      stopped = λ told before after code stop file. stopped_judge SaysReport (told policy) (told trace) (told history) before after code stop;
+    }
+
+pub migrate_law : (Passed : ℕ → ℕ → Type 0) (policy trace history : List ℕ) → CommandLaw Passed (Some (migrate policy trace history))
+migrate_law Passed policy trace history =
+    let asked : Option Asked = Some (migrate policy trace history) in
+    record {
+      known = λ text a is. judging_known IsMigrationOf text a is (statuses_of asked) refl refl refl refl refl refl;
+      crowds = λ told text before after a files is. judging_crowds IsMigrationOf text a is asked told before after policy (inl (refl, refl)) files.0;
+      shows = λ told text before after code a files is. judging_shows IsMigrationOf SaysMigrated migrate_answer told policy trace history text before after code a files is;
+      long = λ told before after code which long own.
+          long_judge SaysMigrated (told policy) (told trace) (told history) before after code
+          (λ text jobs lines held also too. never_long which told (history_files policy trace history) long ((text, held), ((jobs, also), ((lines, too), tt)))) own;
+      stopped = λ told before after code stop file. stopped_judge SaysMigrated (told policy) (told trace) (told history) before after code stop;
+    }

@@ -2,8 +2,10 @@ pub mod BenchTruths
 pub mod BoundTruths
 pub mod RestTruths
 pub mod CodeLemmas
-pub mod CommandLemmas
-pub mod TooLongLemmas
+pub mod CommandLaw
+pub mod Crowding
+pub mod Laws
+pub mod Stopped
 pub mod CauseLemmas
 pub mod CheckTruths
 mod Concluding

@@ -1,9 +1,8 @@
 -- From how `make` ends to the truth of what it writes.
-use Rattle.std.proofs.Common.{◌≡◌, ◌∙◌, ℕ, zero, suc, ◌+◌, ◌≤◌, ◌++◌, ◌==◌, ◌||◌, Bool, true, false, cond, inl, inr, List, [], ◌∷◌, Ok, Err, Option, refl, ap, ap₂, subst, arith, length, length-append}
+use Rattle.std.proofs.Common.{◌≡◌, ◌∙◌, ℕ, zero, suc, ◌+◌, ◌≤◌, ◌++◌, ◌==◌, ◌||◌, Bool, true, false, cond, List, [], ◌∷◌, Ok, Err, Option, Some, refl, ap, ap₂, subst, arith, length, length-append}
 use Rattle.std.specs.Prelude.{nat_lt}
 use Rattle.std.proofs.lemmas.Bool.Decides.{nat_tests}
 use Rattle.sched_base.specs.declared.limits.TheConstants.{MAX_THREADS}
-use Rattle.sched_io.specs.Shown.{Shown}
 use Rattle.sched_io.specs.Written.{Adds}
 use Rattle.job_trace.specs.declared.trace.Numbered.{Numbered}
 use Rattle.job_trace.specs.TraceText.{SpellsTrace, numbered}
@@ -13,13 +12,13 @@ use Rattle.trace_maker.specs.declared.fault.MakeFault.TheVariants.{Size}
 use Rattle.trace_maker.proofs.MadeLemmas.{made-keeps}
 use Rattle.trace_printer.specs.Printed.{renumbered, trace_text}
 use Rattle.trace_printer.proofs.ReadAgain.{read-again}
-use Rattle.ipanema_cli.specs.Answers.{AnswersMake}
-use Rattle.ipanema_cli.specs.Ends.{Writes}
 use Rattle.ipanema_cli.specs.MakeTruths.{MakesTruly}
-use Rattle.ipanema_cli.specs.declared.answers.Answer.{Answer}
 use Rattle.ipanema_cli.specs.declared.answers.Answer.TheVariants as answer
-use Rattle.ipanema_cli.proofs.CheckTruths.{Stopped, at_4, at_5, at_6}
-use Rattle.ipanema_cli.proofs.WritesLemmas.{code_among, one_line, whole}
+use Rattle.ipanema_cli.proofs.Stopped.{Stopped, at_4, at_5, at_6}
+use Rattle.command_words.specs.Command.{Asked, make}
+use Rattle.ipanema_cli.specs.Truths.{IsTruthful}
+use Rattle.ipanema_cli.proofs.CommandLaw.{CommandLaw, Crowds, Known, Shows, given}
+use Rattle.ipanema_cli.proofs.WritesLemmas.{one_line}
 
 renumbered-push : (number : ℕ) (front : List Numbered) (n : Numbered) →
     renumbered number (front ++ n ∷ []) ≡ renumbered number front ++ numbered (number + length front) n.line ∷ []
@@ -71,30 +70,22 @@ stopped_make seed size before after code stop read = elim stop [
   | at_6 e ↦ record { ends = rw e refl; makes = λ h. absurd (omega (arith, e, h)) }
 ]
 
-pub makes : (seed size : ℕ) (before after : Shown) (code : ℕ) (a : Answer) → AnswersMake seed size a
-    → Writes a before after code → MakesTruly seed size before.written after.written code
-makes seed size before after code (answer.Checked c) is writes = absurd is
-makes seed size before after code (answer.Explained told) is writes = absurd is
-makes seed size before after code (answer.Bounded told) is writes = absurd is
-makes seed size before after code (answer.Rested told) is writes = absurd is
-makes seed size before after code (answer.Exported text) is writes = absurd is
-makes seed size before after code (answer.Verified v) is writes = absurd is
-makes seed size before after code (answer.Played outcome) is writes = absurd is
-makes seed size before after code (answer.Simulated outcome) is writes = absurd is
-makes seed size before after code (answer.Judged outcome) is writes = absurd is
-makes seed size before after code (answer.Made text) (trace, made, is) writes = elim (code_among _ _ _ _ writes) [
-  | inr e ↦ stopped_make seed size before.written after.written code (at_5 e) (λ h. omega (arith, e, h))
-  | inl e ↦ record {
-    ends = rw e refl;
-    makes = λ h. record {
-      trace = trace;
-      made = made;
-      spells = made-spells seed size trace made;
-      written = subst (λ (bytes : List ℕ). Adds bytes before.written after.written) is
-          (one_line text.items before.written after.written (whole _ _ _ _ writes (λ five. omega (arith, five, h))));
-    };
-  }
-]
-makes seed size before after code (answer.Benched told) is writes = absurd is
-makes seed size before after code (answer.TooLong which) is writes = absurd is
-makes seed size before after code answer.BadWords is writes = absurd is
+pub make_law : (Passed : ℕ → ℕ → Type 0) (seed size : ℕ) → CommandLaw Passed (Some (make seed size))
+make_law Passed seed size =
+    let asked : Option Asked = Some (make seed size) in
+    record {
+      known = λ text a is. given answer.Made _ (Known asked) (λ made is. refl) a is;
+      crowds = λ told text before after a files is. given answer.Made _ (Crowds asked told before after) (λ made is e added. absurd (omega arith)) a is;
+      shows = λ told text before after code a files is.
+          given answer.Made _ (Shows (IsTruthful Passed asked told before after code) before after code) (λ made is own added. record {
+            ends = rw own refl;
+            makes = λ h. record {
+              trace = is.0;
+              made = is.1;
+              spells = made-spells seed size is.0 is.1;
+              written = subst (λ (bytes : List ℕ). Adds bytes before after) is.2 (one_line made.items before after added);
+            };
+          }) a is;
+      long = λ told before after code which long own. absurd long;
+      stopped = λ told before after code stop file. stopped_make seed size before after code stop file;
+    }

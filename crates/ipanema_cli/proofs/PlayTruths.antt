@@ -1,6 +1,5 @@
 -- From how `play` ends to the truth of what it says.
-use Rattle.std.proofs.Common.{◌≡◌, ℕ, List, [], ◌∷◌, length, Option, refl, sym, arith, subst}
-use Rattle.sched_io.specs.Shown.{Shown}
+use Rattle.std.proofs.Common.{◌≡◌, ℕ, inl, List, [], ◌∷◌, length, Option, Some, refl, sym, arith, subst}
 use Rattle.sched_io.specs.Told.{Told}
 use Rattle.sched_io.specs.Written.{Adds}
 use Rattle.policy_tree.specs.Meaning.{Meaning}
@@ -17,15 +16,16 @@ use Rattle.trace_play.specs.declared.answer.PlayAnswer.{PlayAnswer}
 use Rattle.trace_play.specs.declared.answer.PlayAnswer.TheVariants as play_answer
 use Rattle.trace_play.specs.declared.cores.PlayedCores.TheVariants as cores
 use Rattle.trace_play.specs.Plays as plays
-use Rattle.ipanema_cli.specs.TraceAnswers.{AnswersPlay}
 use Rattle.ipanema_cli.specs.Answers.{play_status}
 use Rattle.ipanema_cli.specs.Causes.{OneOf}
-use Rattle.ipanema_cli.specs.Ends.{Writes}
 use Rattle.ipanema_cli.specs.Status.{code_of}
 use Rattle.ipanema_cli.specs.TraceTruths.{DoPlay, MustAnswer, MustPlay, PlaysTruly}
-use Rattle.ipanema_cli.specs.declared.answers.Answer.{Answer}
-use Rattle.ipanema_cli.proofs.CheckTruths.{Stopped}
-use Rattle.ipanema_cli.proofs.TraceTruths.{Read, broken_trace, held_play, may_play, others_played, same_plan, stopped_trace, traces_truly, weaker_0, weaker_8}
+use Rattle.ipanema_cli.proofs.Stopped.{Stopped}
+use Rattle.ipanema_cli.proofs.TraceTruths.{Read, broken_trace, held_play, long_trace, may_play, others_played, play_crowds, play_known, same_plan, stopped_trace, trace_shows, weaker_0, weaker_8}
+use Rattle.command_words.specs.Command.{Asked, play}
+use Rattle.ipanema_cli.specs.Commands.{statuses_of, trace_files}
+use Rattle.ipanema_cli.proofs.CheckTruths.{never_long}
+use Rattle.ipanema_cli.proofs.CommandLaw.{CommandLaw}
 
 must_of : (policy trace : Told) (code : ℕ) → ((p : Meaning) (plan : Plan) → DoPlay policy trace p plan → OneOf (3 ∷ 4 ∷ 5 ∷ 6 ∷ []) code) → MustAnswer policy trace code → MustPlay policy trace code
 must_of policy trace code low others = record {
@@ -91,6 +91,16 @@ answered_trace policy trace text jobs p (play_answer.Broken fault) before after 
 answered_trace policy trace text jobs p (play_answer.Played (cores.Whole closed)) before after code read is own added = played_whole policy trace text jobs p (merged closed) before after code read is.plays own (of_plan closed is.plays.plan before after is.count added)
 answered_trace policy trace text jobs p (play_answer.Played (cores.Full closed)) before after code read is own added = played_full policy trace text jobs p (merged closed) before after code read is.plays own (of_plan closed is.plays.plan before after is.count added)
 
-pub plays_truly : (policy trace : Told) (before after : Shown) (code : ℕ) (a : Answer) → AnswersPlay plays.IsPlayOf policy trace a
-    → Writes a before after code → PlaysTruly policy trace before.written after.written code
-plays_truly policy trace before after code a is writes = traces_truly EndsWhole StopsFull MustPlay must_of plays.IsPlayOf answered_trace policy trace before after code a is writes
+pub play_law : (Passed : ℕ → ℕ → Type 0) (policy trace : List ℕ) → CommandLaw Passed (Some (play policy trace))
+play_law Passed policy trace =
+    let asked : Option Asked = Some (play policy trace) in
+    record {
+      known = λ text a is. play_known plays.IsPlayOf text a is (statuses_of asked) refl refl refl refl refl refl;
+      crowds = λ told text before after a files is. play_crowds plays.IsPlayOf text a is asked told before after policy (inl (refl, refl)) files.0;
+      shows = λ told text before after code a files is.
+          trace_shows EndsWhole StopsFull MustPlay must_of plays.IsPlayOf answered_trace told policy trace text before after code a files is;
+      long = λ told before after code which long own.
+          long_trace EndsWhole StopsFull MustPlay must_of (told policy) (told trace) before after code
+          (λ text jobs held also. never_long which told (trace_files policy trace) long ((text, held), ((jobs, also), tt))) own;
+      stopped = λ told before after code stop file. stopped_play (told policy) (told trace) before after code stop;
+    }

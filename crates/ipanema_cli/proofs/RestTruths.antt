@@ -1,10 +1,9 @@
 -- From how `rest` ends to the truth of what it says.
-use Rattle.std.proofs.Common.{◌≡◌, ◌≢◌, ℕ, suc, ◌+◌, ◌≤◌, ℤ, pos, ◌+ℤ◌, ◌≤ℤ◌, true, false, true≢false, not, ◌&&◌, inl, inr, List, [], ◌∷◌, Option, min, refl, sym, ◌∙◌, arith, subst}
+use Rattle.std.proofs.Common.{◌≡◌, ◌≢◌, ℕ, suc, ◌+◌, ◌≤◌, ℤ, pos, ◌+ℤ◌, ◌≤ℤ◌, true, false, true≢false, not, ◌&&◌, inl, inr, List, [], ◌∷◌, Option, Some, min, refl, sym, ◌∙◌, arith, subst}
 use Rattle.std.proofs.lemmas.Int.{ints}
 use Rattle.std.proofs.lemmas.List.Elements.{All-contains}
 use Rattle.sched_base.specs.declared.limits.TheConstants.{CHECK_BUDGET, MAX_LOAD}
 use Rattle.sched_io.specs.Puts.{joined}
-use Rattle.sched_io.specs.Shown.{Shown}
 use Rattle.sched_io.specs.Told.{Told}
 use Rattle.sched_io.specs.Written.{Adds}
 use Rattle.policy_tree.specs.declared.variables.TheConstants.{OTHER_LOAD, SELF_LOAD}
@@ -43,19 +42,23 @@ use Rattle.policy_answers.specs.declared.resting.RestAnswer.TheVariants as reste
 use Rattle.policy_answers.specs.declared.resting.Resting.{Resting}
 use Rattle.rest_laws.proofs.Gap as cores
 use Rattle.round_laws.proofs.MainTheorem.{main_theorem}
-use Rattle.ipanema_cli.specs.PolicyAnswers.{AnswersRest}
 use Rattle.ipanema_cli.specs.Causes.{OneOf}
 use Rattle.ipanema_cli.specs.CheckTruths.{AcceptedPolicy, SomeIsOpen, Spells}
-use Rattle.ipanema_cli.specs.Ends.{Writes}
 use Rattle.ipanema_cli.specs.RestTruths.{GapIsOpen, HasJustGap, IsTrueOfGap, MustRest, RestedPolicy, RestsTruly, RestsWithin}
 use Rattle.ipanema_cli.specs.Status.{code_of, gap_status, rest_status, verdict_status}
 use Rattle.ipanema_cli.specs.Texts.{MayBeLong, MayRead}
-use Rattle.ipanema_cli.specs.declared.answers.Answer.{Answer}
 use Rattle.ipanema_cli.specs.declared.answers.Answer.TheVariants as answer
 use Rattle.ipanema_cli.specs.declared.texts.TextKind.TheVariants as kind
-use Rattle.ipanema_cli.proofs.CheckTruths.{Stopped, at_4, at_5, at_6, long_refuses, low_or_stopped, not_long, pays_if_equal, refusal_high, refusal_not_0, stopped_not, stopped_refuses, tells_fault, verdict_answers}
+use Rattle.ipanema_cli.proofs.CheckTruths.{long_refuses, low_or_stopped, not_long, pays_if_equal, refusal_high, refusal_not_0, stopped_refuses, tells_fault, verdict_answers}
+use Rattle.ipanema_cli.proofs.Stopped.{Stopped, at_4, at_5, at_6, stopped_not}
 use Rattle.ipanema_cli.proofs.PolicyFacts.{judged_refuses, never_left, read_decides, read_refuses, refused_refuses, refused_text, resolved, same_policy}
-use Rattle.ipanema_cli.proofs.WritesLemmas.{code_among, no_stop, whole}
+use Rattle.command_words.specs.Command.{Asked, rest}
+use Rattle.ipanema_cli.specs.Commands.{statuses_of}
+use Rattle.ipanema_cli.specs.Truths.{IsTruthful}
+use Rattle.ipanema_cli.proofs.CheckTruths.{long_policy}
+use Rattle.ipanema_cli.proofs.CodeLemmas.{rest_among}
+use Rattle.ipanema_cli.proofs.CommandLaw.{CommandLaw, Crowds, Known, Shows, given}
+use Rattle.ipanema_cli.proofs.Crowding.{rest_crowds}
 
 -- a load that is greater than another by more than one less than the gap, and by no more than the gap, is greater by the gap
 just_between : (least before own victim : ℕ) → least ≡ before + 1 → victim ≤ MAX_LOAD → (pos own +ℤ pos (suc (min before MAX_LOAD))) ≤ℤ pos victim → victim ≤ own + least
@@ -267,27 +270,16 @@ long_rest policy before after code long own = record {
   bad_text = λ h. absurd (omega arith);
 }
 
-pub rests : (policy : Told) (before after : Shown) (code : ℕ) (a : Answer) → AnswersRest policy a
-    → Writes a before after code → RestsTruly policy before.written after.written code
-rests policy before after code (answer.Checked c) is writes = absurd is
-rests policy before after code (answer.Explained told) is writes = absurd is
-rests policy before after code (answer.Bounded b) is writes = absurd is
-rests policy before after code (answer.Rested r) (text, read, is) writes = elim (code_among _ _ _ _ writes) [
-  | inr e ↦ stopped_rest policy before.written after.written code (at_5 e)
-  | inl e ↦ read_rest policy text r before.written after.written code read is e (whole _ _ _ _ writes (λ five. (no_stop (answer.Rested r)).1 (sym e ∙ five)))
-]
-rests policy before after code (answer.Exported text) is writes = absurd is
-rests policy before after code (answer.Verified v) is writes = absurd is
-rests policy before after code (answer.Played outcome) is writes = absurd is
-rests policy before after code (answer.Simulated outcome) is writes = absurd is
-rests policy before after code (answer.Judged outcome) is writes = absurd is
-rests policy before after code (answer.Made text) is writes = absurd is
-rests policy before after code (answer.Benched told) is writes = absurd is
-rests policy before after code (answer.TooLong kind.Policy) long writes = elim (code_among _ _ _ _ writes) [
-  | inr e ↦ stopped_rest policy before.written after.written code (at_5 e)
-  | inl e ↦ long_rest policy before.written after.written code long e
-]
-rests policy before after code (answer.TooLong kind.Trace) is writes = absurd is
-rests policy before after code (answer.TooLong kind.History) is writes = absurd is
-rests policy before after code (answer.TooLong kind.Certificates) is writes = absurd is
-rests policy before after code answer.BadWords is writes = absurd is
+pub rest_law : (Passed : ℕ → ℕ → Type 0) (policy : List ℕ) → CommandLaw Passed (Some (rest policy))
+rest_law Passed policy =
+    let asked : Option Asked = Some (rest policy) in
+    record {
+      known = λ text a is. given answer.Rested _ (Known asked) (λ r is. rest_among (statuses_of asked) refl refl refl refl refl r) a is;
+      crowds = λ told text before after a files is.
+          given answer.Rested _ (Crowds asked told before after) (rest_crowds asked told before after policy (text kind.Policy) (inl (refl, refl)) files.0) a is;
+      shows = λ told text before after code a files is.
+          given answer.Rested _ (Shows (IsTruthful Passed asked told before after code) before after code)
+          (λ r is own added. read_rest (told policy) (text kind.Policy) r before after code files.0 is own added) a is;
+      long = λ told before after code which long own. long_rest (told policy) before after code (long_policy which told policy long) own;
+      stopped = λ told before after code stop file. stopped_rest (told policy) before after code stop;
+    }

@@ -1,6 +1,5 @@
 -- From how `run` ends to the truth of what it says.
-use Rattle.std.proofs.Common.{◌≡◌, ℕ, List, [], ◌∷◌, Option, refl, sym, arith, subst}
-use Rattle.sched_io.specs.Shown.{Shown}
+use Rattle.std.proofs.Common.{◌≡◌, ℕ, inl, List, [], ◌∷◌, Option, Some, refl, sym, arith, subst}
 use Rattle.sched_io.specs.Told.{Told}
 use Rattle.sched_io.specs.Written.{Adds}
 use Rattle.policy_eval.proofs.Statements.{handler_obligations}
@@ -21,17 +20,18 @@ use Rattle.trace_play.specs.declared.cores.PlayedCores.TheVariants as cores
 use Rattle.trace_play.specs.Plays as plays
 use Rattle.parallel_play.specs.Runs.{AllPassed, HadRoom}
 use Rattle.parallel_play.proofs.Beginnings.{never_whole}
-use Rattle.trace_run.specs.Runs.{GatedEnds, GatedStops, HavePassedFor, IsGatedRunOf, RunsText}
-use Rattle.ipanema_cli.specs.TraceAnswers.{AnswersPlay}
+use Rattle.trace_run.specs.Runs.{GatedEnds, GatedStops, HavePassedFor, IsGatedRunOf, IsRunOf, RunsText}
 use Rattle.ipanema_cli.specs.Answers.{play_status}
 use Rattle.ipanema_cli.specs.Causes.{OneOf}
-use Rattle.ipanema_cli.specs.Ends.{Writes}
 use Rattle.ipanema_cli.specs.Status.{code_of}
 use Rattle.ipanema_cli.specs.TraceTruths.{DoPlay, MustAnswer, MustRun, RunsTruly}
-use Rattle.ipanema_cli.specs.declared.answers.Answer.{Answer}
-use Rattle.ipanema_cli.proofs.CheckTruths.{Stopped}
+use Rattle.ipanema_cli.proofs.Stopped.{Stopped}
 use Rattle.ipanema_cli.proofs.PlayTruths.{of_plan}
-use Rattle.ipanema_cli.proofs.TraceTruths.{Read, broken_trace, held_play, may_play, others_played, same_plan, stopped_trace, traces_truly, weaker_0, weaker_8, weaker_both}
+use Rattle.ipanema_cli.proofs.TraceTruths.{Read, broken_trace, held_play, long_trace, may_play, others_played, play_crowds, play_known, same_plan, stopped_trace, trace_shows, weaker_0, weaker_8, weaker_both}
+use Rattle.command_words.specs.Command.{Asked, crew, run}
+use Rattle.ipanema_cli.specs.Commands.{statuses_of, trace_files}
+use Rattle.ipanema_cli.proofs.CheckTruths.{never_long}
+use Rattle.ipanema_cli.proofs.CommandLaw.{CommandLaw}
 
 must_of : (policy trace : Told) (code : ℕ) → ((p : Meaning) (plan : Plan) → DoPlay policy trace p plan → OneOf (3 ∷ 4 ∷ 5 ∷ 6 ∷ []) code) → MustAnswer policy trace code → MustRun policy trace code
 must_of policy trace code low others = record {
@@ -108,6 +108,30 @@ module _ (Passed : ℕ → ℕ → Type 0) where
   answered_trace policy trace text jobs p (play_answer.Played (cores.Full closed)) before after code read is own added =
       ran_full policy trace text jobs p (merged closed) before after code read is.0.runs (past_by Passed p jobs (cores.Full closed) is.1 is.0.runs) own (of_plan closed is.0.runs.plan before after is.0.count added)
 
-  pub runs_truly : (policy trace : Told) (before after : Shown) (code : ℕ) (a : Answer) → AnswersPlay (IsGatedRunOf Passed) policy trace a
-      → Writes a before after code → RunsTruly Passed policy trace before.written after.written code
-  runs_truly policy trace before after code a is writes = traces_truly (GatedEnds Passed) (GatedStops Passed) MustRun must_of (IsGatedRunOf Passed) answered_trace policy trace before after code a is writes
+pub run_law : (Passed : ℕ → ℕ → Type 0) (policy trace : List ℕ) → CommandLaw Passed (Some (run policy trace))
+run_law Passed policy trace =
+    let asked : Option Asked = Some (run policy trace) in
+    record {
+      known = λ text a is. play_known IsRunOf text a is (statuses_of asked) refl refl refl refl refl refl;
+      crowds = λ told text before after a files is. play_crowds IsRunOf text a is asked told before after policy (inl (refl, refl)) files.0;
+      shows = λ told text before after code a files is.
+          trace_shows (GatedEnds Passed) (GatedStops Passed) MustRun must_of (IsGatedRunOf Passed) (answered_trace Passed) told policy trace text before after code a files is;
+      long = λ told before after code which long own.
+          long_trace (GatedEnds Passed) (GatedStops Passed) MustRun must_of (told policy) (told trace) before after code
+          (λ text jobs held also. never_long which told (trace_files policy trace) long ((text, held), ((jobs, also), tt))) own;
+      stopped = λ told before after code stop file. stopped_run Passed (told policy) (told trace) before after code stop;
+    }
+
+pub crew_law : (Passed : ℕ → ℕ → Type 0) (policy trace : List ℕ) (workers : ℕ) → CommandLaw Passed (Some (crew policy trace workers))
+crew_law Passed policy trace workers =
+    let asked : Option Asked = Some (crew policy trace workers) in
+    record {
+      known = λ text a is. play_known IsRunOf text a is (statuses_of asked) refl refl refl refl refl refl;
+      crowds = λ told text before after a files is. play_crowds IsRunOf text a is asked told before after policy (inl (refl, refl)) files.0;
+      shows = λ told text before after code a files is.
+          trace_shows (GatedEnds Passed) (GatedStops Passed) MustRun must_of (IsGatedRunOf Passed) (answered_trace Passed) told policy trace text before after code a files is;
+      long = λ told before after code which long own.
+          long_trace (GatedEnds Passed) (GatedStops Passed) MustRun must_of (told policy) (told trace) before after code
+          (λ text jobs held also. never_long which told (trace_files policy trace) long ((text, held), ((jobs, also), tt))) own;
+      stopped = λ told before after code stop file. stopped_run Passed (told policy) (told trace) before after code stop;
+    }

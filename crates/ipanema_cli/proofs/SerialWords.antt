@@ -10,30 +10,15 @@ use Rattle.command_words.specs.Command.{Asked, IsSerial, asked_by, asked_by_one,
 use Rattle.command_words.specs.Numbers.{seed_in, size_in}
 use Rattle.obligations.specs.declared.names.ObName.{ObName}
 use Rattle.command_words.specs.declared.request.Request.{Request}
-use Rattle.command_words.specs.declared.request.Request.TheVariants.{Bench, Bound, Check, Crew, Emit, Explain, Make, Migrate, Play, Prove, Replay, Report, Rest, Run, Simulate, Unknown, Verify, Waste}
+use Rattle.command_words.specs.declared.request.Request.TheVariants.{Crew, Run}
 
 module _ (request : Request) (no_run : (policy trace : Bor (List ℕ)) → request ≡ Run policy trace → ⊥)
     (no_crew : (policy trace : Bor (List ℕ)) (workers : ℕ) → request ≡ Crew policy trace workers → ⊥) where
   -- a request that is neither a run nor a crew
   pub serial_request : (r : Request) → request ≡ r → IsSerial (asked r)
-  serial_request (Check p) same = tt
-  serial_request (Explain p name) same = tt
-  serial_request (Prove p) same = tt
-  serial_request (Bound p) same = tt
-  serial_request (Rest p) same = tt
-  serial_request (Emit p) same = tt
-  serial_request (Verify p c) same = tt
-  serial_request (Play p t) same = tt
   serial_request (Run p t) same = absurd (no_run p t same)
   serial_request (Crew p t w) same = absurd (no_crew p t w same)
-  serial_request (Simulate p t) same = tt
-  serial_request (Waste p t) same = tt
-  serial_request (Replay files) same = tt
-  serial_request (Report files) same = tt
-  serial_request (Migrate files) same = tt
-  serial_request (Make seed size) same = tt
-  serial_request (Bench seed size) same = tt
-  serial_request Unknown same = tt
+  serial_request other same = tt
 
 sized : (asks : ℕ → ℕ → Asked) → ((s n : ℕ) → IsSerial (Some (asks s n))) → (seed size : List ℕ) → IsSerial (sized_by asks seed size)
 sized asks serial seed size = first (seed_in seed)

@@ -1,9 +1,8 @@
 -- From how a command that simulates a trace ends to the truth of what it says.
 use Rattle.std.specs.Prelude.{IsFalse}
-use Rattle.std.proofs.Common.{◌≡◌, ◌≢◌, ℕ, ◌≤◌, inl, inr, List, [], ◌∷◌, ◌++◌, length, take, Option, append-nil, ap, refl, sym, ◌∙◌, arith, subst}
+use Rattle.std.proofs.Common.{◌≡◌, ◌≢◌, ℕ, ◌≤◌, inl, inr, List, [], ◌∷◌, ◌++◌, length, take, Option, Some, append-nil, ap, refl, sym, arith, subst}
 use Rattle.std.proofs.lemmas.List.Folds.{flat_map-map}
 use Rattle.sched_io.specs.Puts.{joined}
-use Rattle.sched_io.specs.Shown.{Shown}
 use Rattle.sched_io.specs.Told.{Told}
 use Rattle.sched_io.specs.Written.{Adds}
 use Rattle.policy_eval.specs.Obligations.{MeetsHandlerObligations, MeetsObligations}
@@ -20,10 +19,10 @@ use Rattle.policy_answers.specs.declared.answer.CheckAnswer.{CheckAnswer}
 use Rattle.policy_answers.specs.declared.answer.CheckAnswer.TheVariants as checked
 use Rattle.round_model.specs.declared.entry.Entry.{Entry}
 use Rattle.round_model.specs.declared.plan.Plan.{Plan}
-use Rattle.serial_steps.specs.declared.serial.Played.{Played}
-use Rattle.trace_play.specs.declared.cores.PlayedCores.TheVariants as cores
 use Rattle.round_model.specs.Legal.{Legal}
 use Rattle.round_model.specs.OnePlace.{OnePlace}
+use Rattle.serial_steps.specs.declared.serial.Played.{Played}
+use Rattle.trace_play.specs.declared.cores.PlayedCores.TheVariants as cores
 use Rattle.serial_steps.specs.SerialEnds.{EndsWhole, IsFull, StopsFull}
 use Rattle.serial_steps.specs.SerialRounds.{serial_rounds}
 use Rattle.round_laws.specs.MainTheorem.{KeepsLaws}
@@ -44,8 +43,7 @@ use Rattle.trace_simulation.specs.declared.answer.SimulationAnswer.TheVariants a
 use Rattle.trace_simulation.specs.Lines as simulations
 use Rattle.trace_simulation.specs.Simulations.{IsSimulationOf, IsWasteOf, Simulates}
 use Rattle.ipanema_cli.specs.Causes.{OneOf}
-use Rattle.ipanema_cli.specs.Ends.{Writes}
-use Rattle.ipanema_cli.specs.Simulations.{AnswersSimulation, IsPlayable, Simulating, lets_play}
+use Rattle.ipanema_cli.specs.Simulations.{IsPlayable, Simulating, lets_play}
 use Rattle.ipanema_cli.specs.Status.{check_status, code_of, simulation_status, verdict_status}
 use Rattle.ipanema_cli.specs.Texts.{MayRead}
 use Rattle.ipanema_cli.specs.CheckTruths.{Holds, Spells}
@@ -53,10 +51,20 @@ use Rattle.ipanema_cli.specs.SimulationTruths.{DoHoldPlayable, DoSimulate, MayHo
 use Rattle.ipanema_cli.specs.declared.answers.Answer.{Answer}
 use Rattle.ipanema_cli.specs.declared.answers.Answer.TheVariants as answer
 use Rattle.ipanema_cli.specs.declared.texts.TextKind.TheVariants as kind
-use Rattle.ipanema_cli.proofs.CheckTruths.{Stopped, at_4, at_5, at_6, answered_policy, not_long, refusal_not_0, stopped_not, stopped_refuses, tells_fault, verdict_answers}
+use Rattle.ipanema_cli.proofs.CheckTruths.{answered_policy, refusal_not_0, stopped_refuses, tells_fault, verdict_answers}
+use Rattle.ipanema_cli.proofs.Stopped.{Stopped, at_4, at_5, at_6, stopped_not}
 use Rattle.ipanema_cli.proofs.PolicyFacts.{judged_refuses, read_refuses, refused_text, resolved, same_policy, text_read}
 use Rattle.ipanema_cli.proofs.TraceTruths.{SamePlay, low_or_stopped, no_line, refusal_not_8, same_plan}
-use Rattle.ipanema_cli.proofs.WritesLemmas.{code_among, no_stop, whole}
+use Rattle.command_words.specs.Command.{Asked, simulate, waste}
+use Rattle.ipanema_cli.specs.Answers.{status_of}
+use Rattle.ipanema_cli.specs.Commands.{statuses_of, trace_files}
+use Rattle.ipanema_cli.specs.Files.{AreRead, IsFileOf}
+use Rattle.ipanema_cli.specs.Replies.{RepliesSimulation}
+use Rattle.ipanema_cli.specs.declared.texts.TextKind.{TextKind}
+use Rattle.ipanema_cli.proofs.CheckTruths.{never_long}
+use Rattle.ipanema_cli.proofs.CodeLemmas.{check_among, simulation_among}
+use Rattle.ipanema_cli.proofs.CommandLaw.{CommandLaw, Crowds, Shows, given_either}
+use Rattle.ipanema_cli.proofs.Crowding.{check_crowds}
 
 -- What serial play of the trace came to: a fault of it, or a history of which this is said.
 data Came (Says : Meaning → Plan → List Entry → List ℕ → Type 0) (p : Meaning) (jobs bytes : List ℕ) (code : ℕ) : Type 0 where
@@ -85,7 +93,7 @@ simulation_comes p jobs (simulation.Played (cores.Whole closed)) code is own =
 simulation_comes p jobs (simulation.Played (cores.Full closed)) code is own =
     filled (merged closed) (record { plan = is.plays.plan; means = means_plan p jobs _ is.plays; ends = is.plays.played })
     (text_of_lines (length closed.cores) (merged closed) ∙ ap (λ cores. text_of_history cores (merged closed)) is.count) own
-simulation_comes p jobs (simulation.Wasted waste) code is own = absurd is
+simulation_comes p jobs (simulation.Wasted told) code is own = absurd is
 
 waste_comes : Comes IsWasteOf SaysWaste
 waste_comes p jobs (simulation.Broken fault) code has own = broke fault has (append-nil (trace_faults.fault_line fault)) own
@@ -293,43 +301,58 @@ module _ (Says : Meaning → Plan → List Entry → List ℕ → Type 0) where
     bad_text = λ h. inl (tells_fault policy text why before after code read is own added h);
   }
 
-  simulates_truly : (Is : Simulating) → Comes Is Says → (policy trace : Told) (before after : Shown) (code : ℕ) (a : Answer) → AnswersSimulation Is policy trace a
-      → Writes a before after code → SimulatesTruly Says policy trace before.written after.written code
-  simulates_truly Is comes policy trace before after code (answer.Checked c) texts writes = elim (code_among _ _ _ _ writes) [
-    | inr e ↦ stopped_simulation policy trace before.written after.written code (at_5 e)
-    | inl e ↦ unplayed policy trace c texts.text before.written after.written code texts.policy_read texts.answers.0 texts.answers.1 e (whole _ _ _ _ writes (λ five. (no_stop (answer.Checked c)).1 (sym e ∙ five)))
-  ]
-  simulates_truly Is comes policy trace before after code (answer.Explained told) is writes = absurd is
-  simulates_truly Is comes policy trace before after code (answer.Bounded told) is writes = absurd is
-  simulates_truly Is comes policy trace before after code (answer.Rested told) is writes = absurd is
-  simulates_truly Is comes policy trace before after code (answer.Exported text) is writes = absurd is
-  simulates_truly Is comes policy trace before after code (answer.Verified v) is writes = absurd is
-  simulates_truly Is comes policy trace before after code (answer.Played outcome) is writes = absurd is
-  simulates_truly Is comes policy trace before after code (answer.Simulated s) texts writes = elim (code_among _ _ _ _ writes) [
-    | inr e ↦ stopped_simulation policy trace before.written after.written code (at_5 e)
-    | inl e ↦ came_truly policy trace texts.answers.0 texts.jobs (may_hold policy trace texts.text texts.jobs texts.answers.0 texts.policy_read texts.trace_read texts.answers.1) Says
-        (joined (simulations.lines_of s)) before.written after.written code (comes texts.answers.0 texts.jobs s code texts.answers.2 e)
-        (whole _ _ _ _ writes (λ five. (no_stop (answer.Simulated s)).1 (sym e ∙ five)))
-  ]
-  simulates_truly Is comes policy trace before after code (answer.Judged outcome) is writes = absurd is
-  simulates_truly Is comes policy trace before after code (answer.Made text) is writes = absurd is
-  simulates_truly Is comes policy trace before after code (answer.Benched told) is writes = absurd is
-  simulates_truly Is comes policy trace before after code (answer.TooLong kind.Policy) long writes = elim (code_among _ _ _ _ writes) [
-    | inr e ↦ stopped_simulation policy trace before.written after.written code (at_5 e)
-    | inl e ↦ long_simulation policy trace before.written after.written code (λ text jobs held also. not_long kind.Policy policy text long held) e
-  ]
-  simulates_truly Is comes policy trace before after code (answer.TooLong kind.Trace) long writes = elim (code_among _ _ _ _ writes) [
-    | inr e ↦ stopped_simulation policy trace before.written after.written code (at_5 e)
-    | inl e ↦ long_simulation policy trace before.written after.written code (λ text jobs held also. not_long kind.Trace trace jobs long.1 also) e
-  ]
-  simulates_truly Is comes policy trace before after code (answer.TooLong kind.History) is writes = absurd is
-  simulates_truly Is comes policy trace before after code (answer.TooLong kind.Certificates) is writes = absurd is
-  simulates_truly Is comes policy trace before after code answer.BadWords is writes = absurd is
+  simulation_shows : (Is : Simulating) → Comes Is Says → (told : List ℕ → Told) (policy trace : List ℕ) (text : TextKind → List ℕ) (before after : Option (List ℕ)) (code : ℕ) (a : Answer)
+      → AreRead told text (trace_files policy trace) → RepliesSimulation Is (text kind.Policy) (text kind.Trace) a → Shows (SimulatesTruly Says (told policy) (told trace) before after code) before after code a
+  simulation_shows Is comes told policy trace text before after code a files is =
+      given_either answer.Checked answer.Simulated _ _ (Shows (SimulatesTruly Says (told policy) (told trace) before after code) before after code)
+      (λ c is own added. unplayed (told policy) (told trace) c (text kind.Policy) before after code files.0 is.0 is.1 own added)
+      (λ s is own added. came_truly (told policy) (told trace) is.0 (text kind.Trace)
+      (may_hold (told policy) (told trace) (text kind.Policy) (text kind.Trace) is.0 files.0 files.1.0 is.1) Says
+      (joined (simulations.lines_of s)) before after code (comes is.0 (text kind.Trace) s code is.2 own) added) a is
 
-pub simulates : (policy trace : Told) (before after : Shown) (code : ℕ) (a : Answer) → AnswersSimulation IsSimulationOf policy trace a
-    → Writes a before after code → SimulatesTruly SaysHistory policy trace before.written after.written code
-simulates = simulates_truly SaysHistory IsSimulationOf simulation_comes
+simulation_not_10 : (s : SimulationAnswer) → code_of (simulation_status s) ≢ 10
+simulation_not_10 (simulation.Broken fault) e = omega arith
+simulation_not_10 (simulation.Played (cores.Whole closed)) e = omega arith
+simulation_not_10 (simulation.Played (cores.Full closed)) e = omega arith
+simulation_not_10 (simulation.Wasted (wasted.Whole told)) e = omega arith
+simulation_not_10 (simulation.Wasted (wasted.Full told)) e = omega arith
 
-pub wastes : (policy trace : Told) (before after : Shown) (code : ℕ) (a : Answer) → AnswersSimulation IsWasteOf policy trace a
-    → Writes a before after code → SimulatesTruly SaysWaste policy trace before.written after.written code
-wastes = simulates_truly SaysWaste IsWasteOf waste_comes
+module _ (Is : Simulating) (text : TextKind → List ℕ) (a : Answer) (is : RepliesSimulation Is (text kind.Policy) (text kind.Trace) a) where
+  -- its number is one of these
+  simulation_known : (codes : List ℕ) → OneOf codes 0 → OneOf codes 1 → OneOf codes 2 → OneOf codes 3 → OneOf codes 8 → OneOf codes 10 → OneOf codes (code_of (status_of a))
+  simulation_known codes done refused bad undecided full much =
+      given_either answer.Checked answer.Simulated _ _ (λ a. OneOf codes (code_of (status_of a)))
+      (λ c is. check_among codes bad much done refused undecided c) (λ s is. simulation_among codes bad done full s) a is
+
+  -- and 10 where an obligation has too many cases
+  simulation_crowds : (asked : Option Asked) (told : List ℕ → Told) (before after : Option (List ℕ)) (policy : List ℕ) → IsFileOf asked kind.Policy policy
+      → MayRead kind.Policy (told policy) (text kind.Policy) → Crowds asked told before after a
+  simulation_crowds asked told before after policy file read =
+      given_either answer.Checked answer.Simulated _ _ (Crowds asked told before after)
+      (λ c is. check_crowds asked told before after policy (text kind.Policy) file read c is.0) (λ s is e added. absurd (simulation_not_10 s e)) a is
+
+pub simulate_law : (Passed : ℕ → ℕ → Type 0) (policy trace : List ℕ) → CommandLaw Passed (Some (simulate policy trace))
+simulate_law Passed policy trace =
+    let asked : Option Asked = Some (simulate policy trace) in
+    record {
+      known = λ text a is. simulation_known IsSimulationOf text a is (statuses_of asked) refl refl refl refl refl refl;
+      crowds = λ told text before after a files is. simulation_crowds IsSimulationOf text a is asked told before after policy (inl (refl, refl)) files.0;
+      shows = λ told text before after code a files is. simulation_shows SaysHistory IsSimulationOf simulation_comes told policy trace text before after code a files is;
+      long = λ told before after code which long own.
+          long_simulation SaysHistory (told policy) (told trace) before after code
+          (λ text jobs held also. never_long which told (trace_files policy trace) long ((text, held), ((jobs, also), tt))) own;
+      stopped = λ told before after code stop file. stopped_simulation SaysHistory (told policy) (told trace) before after code stop;
+    }
+
+pub waste_law : (Passed : ℕ → ℕ → Type 0) (policy trace : List ℕ) → CommandLaw Passed (Some (waste policy trace))
+waste_law Passed policy trace =
+    let asked : Option Asked = Some (waste policy trace) in
+    record {
+      known = λ text a is. simulation_known IsWasteOf text a is (statuses_of asked) refl refl refl refl refl refl;
+      crowds = λ told text before after a files is. simulation_crowds IsWasteOf text a is asked told before after policy (inl (refl, refl)) files.0;
+      shows = λ told text before after code a files is. simulation_shows SaysWaste IsWasteOf waste_comes told policy trace text before after code a files is;
+      long = λ told before after code which long own.
+          long_simulation SaysWaste (told policy) (told trace) before after code
+          (λ text jobs held also. never_long which told (trace_files policy trace) long ((text, held), ((jobs, also), tt))) own;
+      stopped = λ told before after code stop file. stopped_simulation SaysWaste (told policy) (told trace) before after code stop;
+    }

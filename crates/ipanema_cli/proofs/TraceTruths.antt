@@ -1,10 +1,9 @@
 -- From how a command that plays a trace ends to the truth of what it says, as far as that isn't of its play.
 use Rattle.std.specs.List.{list_any}
 use Rattle.std.specs.Prelude.{IsFalse}
-use Rattle.std.proofs.Common.{◌≡◌, ◌≢◌, ℕ, ◌==◌, ◌||◌, Bool, true, false, inl, inr, List, [], ◌∷◌, ◌++◌, length, Option, append-nil, ap, refl, sym, ◌∙◌, arith, subst}
+use Rattle.std.proofs.Common.{◌≡◌, ◌≢◌, ℕ, ◌==◌, ◌||◌, Bool, true, false, inl, inr, List, [], ◌∷◌, ◌++◌, length, Option, append-nil, ap, refl, sym, arith, subst}
 use Rattle.std.proofs.lemmas.List.Folds.{flat_map-map}
 use Rattle.sched_io.specs.Puts.{joined}
-use Rattle.sched_io.specs.Shown.{Shown}
 use Rattle.sched_io.specs.Told.{Told}
 use Rattle.sched_io.specs.Written.{Adds}
 use Rattle.policy_eval.specs.Obligations.{MeetsObligations}
@@ -37,11 +36,10 @@ use Rattle.sched_history.specs.Lines.{entry_lines}
 use Rattle.sched_history.specs.Spelling.{header, line_of, second_form}
 use Rattle.history_merge.specs.Merged.{merged}
 use Rattle.trace_play.proofs.OnePlay.{never_faulty, one_plan, one_trace}
-use Rattle.ipanema_cli.specs.TraceAnswers.{AnswersPlay, Playing}
+use Rattle.ipanema_cli.specs.TraceAnswers.{Playing}
 use Rattle.ipanema_cli.specs.PolicyAnswers.{IsAccepted, accepts}
-use Rattle.ipanema_cli.specs.Answers.{play_status}
+use Rattle.ipanema_cli.specs.Answers.{play_status, status_of}
 use Rattle.ipanema_cli.specs.Causes.{OneOf}
-use Rattle.ipanema_cli.specs.Ends.{Writes}
 use Rattle.ipanema_cli.specs.Status.{check_status, code_of, refusal_status, verdict_status}
 use Rattle.ipanema_cli.specs.Texts.{MayRead}
 use Rattle.ipanema_cli.specs.CheckTruths.{Decides, Holds, Refuses, Spells}
@@ -49,9 +47,18 @@ use Rattle.ipanema_cli.specs.TraceTruths.{DoHold, DoPlay, MayPlay, MustAnswer, T
 use Rattle.ipanema_cli.specs.declared.answers.Answer.{Answer}
 use Rattle.ipanema_cli.specs.declared.answers.Answer.TheVariants as answer
 use Rattle.ipanema_cli.specs.declared.texts.TextKind.TheVariants as kind
-use Rattle.ipanema_cli.proofs.CheckTruths.{Stopped, at_4, at_5, at_6, not_long, refusal_not_0, stopped_not, stopped_refuses, tells_fault, verdict_answers}
+use Rattle.ipanema_cli.proofs.CheckTruths.{refusal_not_0, stopped_refuses, tells_fault, verdict_answers}
+use Rattle.ipanema_cli.proofs.Stopped.{Stopped, at_4, at_5, at_6, stopped_not}
 use Rattle.ipanema_cli.proofs.PolicyFacts.{judged_refuses, read_decides, read_refuses, refused_text, resolved, same_policy, text_read}
-use Rattle.ipanema_cli.proofs.WritesLemmas.{code_among, no_stop, whole}
+use Rattle.trace_play.specs.declared.cores.PlayedCores.TheVariants as cores
+use Rattle.command_words.specs.Command.{Asked}
+use Rattle.ipanema_cli.specs.Commands.{trace_files}
+use Rattle.ipanema_cli.specs.Files.{AreRead, IsFileOf}
+use Rattle.ipanema_cli.specs.Replies.{RepliesPlay}
+use Rattle.ipanema_cli.specs.declared.texts.TextKind.{TextKind}
+use Rattle.ipanema_cli.proofs.CodeLemmas.{check_among, play_among}
+use Rattle.ipanema_cli.proofs.CommandLaw.{Crowds, Shows, given_either}
+use Rattle.ipanema_cli.proofs.Crowding.{check_crowds}
 
 -- the statuses that are always possible
 pub weaker_0 : (code : ℕ) → OneOf (3 ∷ 4 ∷ 5 ∷ 6 ∷ []) code → OneOf (0 ∷ 3 ∷ 4 ∷ 5 ∷ 6 ∷ []) code
@@ -202,7 +209,7 @@ module _ (Ends Stops : Meaning → Plan → List Entry → Type 0) (Must : Told 
   }
 
   -- a file is too long, which one doesn't matter
-  long_trace : (policy trace : Told) (before after : Option (List ℕ)) (code : ℕ) → ((text jobs : List ℕ) → Holds kind.Policy policy text → Holds kind.Trace trace jobs → ⊥) → code ≡ 10
+  pub long_trace : (policy trace : Told) (before after : Option (List ℕ)) (code : ℕ) → ((text jobs : List ℕ) → Holds kind.Policy policy text → Holds kind.Trace trace jobs → ⊥) → code ≡ 10
       → TracesTruly Ends Stops (Must policy trace) policy trace before after code
   long_trace policy trace before after code none own = record {
     whole = λ h. absurd (omega arith);
@@ -284,35 +291,30 @@ module _ (Ends Stops : Meaning → Plan → List Entry → Type 0) (Must : Told 
   -- so what the command says is true, if that is so of what it played
   module _ (Is : Playing) (played_truly : (policy trace : Told) (text jobs : List ℕ) (p : Meaning) (play : PlayAnswer) (before after : Option (List ℕ)) (code : ℕ) → Read policy trace text jobs p
       → Is p jobs play → code ≡ code_of (play_status play) → Adds (plays.output_of play) before after → TracesTruly Ends Stops (Must policy trace) policy trace before after code) where
-    pub traces_truly : (policy trace : Told) (before after : Shown) (code : ℕ) (a : Answer) → AnswersPlay Is policy trace a
-        → Writes a before after code → TracesTruly Ends Stops (Must policy trace) policy trace before.written after.written code
-    traces_truly policy trace before after code (answer.Checked c) texts writes = elim (code_among _ _ _ _ writes) [
-      | inr e ↦ stopped_trace policy trace before.written after.written code (at_5 e)
-      | inl e ↦ unaccepted policy trace c texts.text before.written after.written code texts.policy_read texts.answers.0 texts.answers.1 e (whole _ _ _ _ writes (λ five. (no_stop (answer.Checked c)).1 (sym e ∙ five)))
-    ]
-    traces_truly policy trace before after code (answer.Explained told) is writes = absurd is
-    traces_truly policy trace before after code (answer.Bounded told) is writes = absurd is
-    traces_truly policy trace before after code (answer.Rested told) is writes = absurd is
-    traces_truly policy trace before after code (answer.Exported text) is writes = absurd is
-    traces_truly policy trace before after code (answer.Verified v) is writes = absurd is
-    traces_truly policy trace before after code (answer.Simulated outcome) is writes = absurd is
-    traces_truly policy trace before after code (answer.Judged outcome) is writes = absurd is
-    traces_truly policy trace before after code (answer.Made text) is writes = absurd is
-    traces_truly policy trace before after code (answer.Benched told) is writes = absurd is
-    traces_truly policy trace before after code (answer.Played outcome) texts writes = elim (code_among _ _ _ _ writes) [
-      | inr e ↦ stopped_trace policy trace before.written after.written code (at_5 e)
-      | inl e ↦ played_truly policy trace texts.text texts.jobs texts.answers.0 outcome before.written after.written code
-          (record { policy_read = texts.policy_read; trace_read = texts.trace_read; accepted = texts.answers.1 })
-          texts.answers.2 e (subst (λ (bytes : List ℕ). Adds bytes before.written after.written) (played_lines outcome) (whole _ _ _ _ writes (λ five. (no_stop (answer.Played outcome)).1 (sym e ∙ five))))
-    ]
-    traces_truly policy trace before after code (answer.TooLong kind.Policy) long writes = elim (code_among _ _ _ _ writes) [
-      | inr e ↦ stopped_trace policy trace before.written after.written code (at_5 e)
-      | inl e ↦ long_trace policy trace before.written after.written code (λ text jobs held also. not_long kind.Policy policy text long held) e
-    ]
-    traces_truly policy trace before after code (answer.TooLong kind.Trace) long writes = elim (code_among _ _ _ _ writes) [
-      | inr e ↦ stopped_trace policy trace before.written after.written code (at_5 e)
-      | inl e ↦ long_trace policy trace before.written after.written code (λ text jobs held also. not_long kind.Trace trace jobs long.1 also) e
-    ]
-    traces_truly policy trace before after code (answer.TooLong kind.History) is writes = absurd is
-    traces_truly policy trace before after code (answer.TooLong kind.Certificates) is writes = absurd is
-    traces_truly policy trace before after code answer.BadWords is writes = absurd is
+    pub trace_shows : (told : List ℕ → Told) (policy trace : List ℕ) (text : TextKind → List ℕ) (before after : Option (List ℕ)) (code : ℕ) (a : Answer) → AreRead told text (trace_files policy trace)
+        → RepliesPlay Is (text kind.Policy) (text kind.Trace) a → Shows (TracesTruly Ends Stops (Must (told policy) (told trace)) (told policy) (told trace) before after code) before after code a
+    trace_shows told policy trace text before after code a files is =
+        given_either answer.Checked answer.Played _ _ (Shows (TracesTruly Ends Stops (Must (told policy) (told trace)) (told policy) (told trace) before after code) before after code)
+        (λ c is own added. unaccepted (told policy) (told trace) c (text kind.Policy) before after code files.0 is.0 is.1 own added)
+        (λ outcome is own added. played_truly (told policy) (told trace) (text kind.Policy) (text kind.Trace) is.0 outcome before after code
+        (record { policy_read = files.0; trace_read = files.1.0; accepted = is.1 }) is.2 own
+        (subst (λ (bytes : List ℕ). Adds bytes before after) (played_lines outcome) added)) a is
+
+play_not_10 : (play : PlayAnswer) → code_of (play_status play) ≢ 10
+play_not_10 (play_answer.Broken fault) e = omega arith
+play_not_10 (play_answer.Played (cores.Whole closed)) e = omega arith
+play_not_10 (play_answer.Played (cores.Full closed)) e = omega arith
+
+module _ (Is : Playing) (text : TextKind → List ℕ) (a : Answer) (is : RepliesPlay Is (text kind.Policy) (text kind.Trace) a) where
+  -- its number is one of these
+  pub play_known : (codes : List ℕ) → OneOf codes 0 → OneOf codes 1 → OneOf codes 2 → OneOf codes 3 → OneOf codes 8 → OneOf codes 10 → OneOf codes (code_of (status_of a))
+  play_known codes done refused bad undecided full much =
+      given_either answer.Checked answer.Played _ _ (λ a. OneOf codes (code_of (status_of a)))
+      (λ c is. check_among codes bad much done refused undecided c) (λ outcome is. play_among codes bad done full outcome) a is
+
+  -- and 10 where an obligation has too many cases
+  pub play_crowds : (asked : Option Asked) (told : List ℕ → Told) (before after : Option (List ℕ)) (policy : List ℕ) → IsFileOf asked kind.Policy policy
+      → MayRead kind.Policy (told policy) (text kind.Policy) → Crowds asked told before after a
+  play_crowds asked told before after policy file read =
+      given_either answer.Checked answer.Played _ _ (Crowds asked told before after)
+      (λ c is. check_crowds asked told before after policy (text kind.Policy) file read c is.0) (λ outcome is e added. absurd (play_not_10 outcome e)) a is

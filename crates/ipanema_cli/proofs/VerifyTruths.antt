@@ -1,7 +1,6 @@
 -- From how `verify` ends to the truth of what it says.
-use Rattle.std.proofs.Common.{◌≡◌, ◌≢◌, ℕ, inl, inr, List, [], ◌∷◌, Option, Result, Err, refl, sym, ◌∙◌, arith, subst}
+use Rattle.std.proofs.Common.{◌≡◌, ◌≢◌, ℕ, inl, inr, List, [], ◌∷◌, Option, Some, Result, Err, refl, sym, arith, subst}
 use Rattle.sched_io.specs.Puts.{joined}
-use Rattle.sched_io.specs.Shown.{Shown}
 use Rattle.sched_io.specs.Told.{Told}
 use Rattle.sched_io.specs.Written.{Adds}
 use Rattle.policy_tree.specs.Meaning.{Meaning}
@@ -24,19 +23,24 @@ use Rattle.policy_answers.specs.declared.reading.Refusal.TheVariants as refusal
 use Rattle.policy_answers.specs.declared.verifying.VerifyAnswer.{VerifyAnswer}
 use Rattle.policy_answers.specs.declared.verifying.VerifyAnswer.TheVariants as found
 use Rattle.round_laws.proofs.MainTheorem.{main_theorem}
-use Rattle.ipanema_cli.specs.PolicyAnswers.{AnswersVerify}
 use Rattle.ipanema_cli.specs.Causes.{OneOf}
-use Rattle.ipanema_cli.specs.Ends.{Writes}
 use Rattle.ipanema_cli.specs.Status.{code_of, refusal_status, verify_status}
 use Rattle.ipanema_cli.specs.Texts.{MayRead}
 use Rattle.ipanema_cli.specs.CheckTruths.{Holds, Refuses, Spells}
 use Rattle.ipanema_cli.specs.VerifyTruths.{MayVerify, VerifiesTruly}
-use Rattle.ipanema_cli.specs.declared.answers.Answer.{Answer}
 use Rattle.ipanema_cli.specs.declared.answers.Answer.TheVariants as answer
 use Rattle.ipanema_cli.specs.declared.texts.TextKind.TheVariants as kind
-use Rattle.ipanema_cli.proofs.CheckTruths.{Stopped, at_4, at_5, at_6, not_long, pays_if_equal, refusal_not_0, stopped_not, stopped_refuses, tells_fault}
+use Rattle.ipanema_cli.proofs.CheckTruths.{pays_if_equal, refusal_not_0, stopped_refuses, tells_fault}
+use Rattle.ipanema_cli.proofs.Stopped.{Stopped, at_4, at_5, at_6, stopped_not}
 use Rattle.ipanema_cli.proofs.PolicyFacts.{judged_refuses, refused_refuses, refused_text, resolved, same_policy, text_read}
-use Rattle.ipanema_cli.proofs.WritesLemmas.{code_among, no_stop, one_line, whole}
+use Rattle.ipanema_cli.proofs.WritesLemmas.{one_line}
+use Rattle.command_words.specs.Command.{Asked, verify}
+use Rattle.ipanema_cli.specs.Commands.{certified_files, statuses_of}
+use Rattle.ipanema_cli.specs.Truths.{IsTruthful}
+use Rattle.ipanema_cli.proofs.CheckTruths.{never_long}
+use Rattle.ipanema_cli.proofs.CodeLemmas.{verify_among}
+use Rattle.ipanema_cli.proofs.CommandLaw.{CommandLaw, Crowds, Known, Shows, given}
+use Rattle.ipanema_cli.proofs.Crowding.{verify_crowds}
 
 pub stopped_verify : (policy certs : Told) (before after : Option (List ℕ)) (code : ℕ) → Stopped code → VerifiesTruly policy certs before after code
 stopped_verify policy certs before after code stop = record {
@@ -212,31 +216,19 @@ module _ (policy certs : Told) (text file : List ℕ) (read : MayRead kind.Polic
       wrong_truly p spells few name place before after code wrong own (one_line (verify_line (found.Wrong name place)) before after added)
   read_verify (found.Unjudged why) before after code is own added = unjudged why before after code is own added
 
-pub verifies : (policy certs : Told) (before after : Shown) (code : ℕ) (a : Answer) → AnswersVerify policy certs a
-    → Writes a before after code → VerifiesTruly policy certs before.written after.written code
-verifies policy certs before after code (answer.Checked c) is writes = absurd is
-verifies policy certs before after code (answer.Explained told) is writes = absurd is
-verifies policy certs before after code (answer.Bounded told) is writes = absurd is
-verifies policy certs before after code (answer.Rested told) is writes = absurd is
-verifies policy certs before after code (answer.Exported text) is writes = absurd is
-verifies policy certs before after code (answer.Verified v) is writes = elim (code_among _ _ _ _ writes) [
-  | inr e ↦ stopped_verify policy certs before.written after.written code (at_5 e)
-  | inl e ↦ read_verify policy certs is.text is.file is.policy_read is.certs_read v before.written after.written code is.answers e
-      (whole _ _ _ _ writes (λ five. (no_stop (answer.Verified v)).1 (sym e ∙ five)))
-]
-verifies policy certs before after code (answer.Played outcome) is writes = absurd is
-verifies policy certs before after code (answer.Simulated outcome) is writes = absurd is
-verifies policy certs before after code (answer.Judged outcome) is writes = absurd is
-verifies policy certs before after code (answer.Made text) is writes = absurd is
-verifies policy certs before after code (answer.Benched told) is writes = absurd is
-verifies policy certs before after code (answer.TooLong kind.Policy) long writes = elim (code_among _ _ _ _ writes) [
-  | inr e ↦ stopped_verify policy certs before.written after.written code (at_5 e)
-  | inl e ↦ long_verify policy certs before.written after.written code (λ text file held also. not_long kind.Policy policy text long held) e
-]
-verifies policy certs before after code (answer.TooLong kind.Trace) is writes = absurd is
-verifies policy certs before after code (answer.TooLong kind.History) is writes = absurd is
-verifies policy certs before after code (answer.TooLong kind.Certificates) long writes = elim (code_among _ _ _ _ writes) [
-  | inr e ↦ stopped_verify policy certs before.written after.written code (at_5 e)
-  | inl e ↦ long_verify policy certs before.written after.written code (λ text file held also. not_long kind.Certificates certs file long.1 also) e
-]
-verifies policy certs before after code answer.BadWords is writes = absurd is
+pub verify_law : (Passed : ℕ → ℕ → Type 0) (policy certs : List ℕ) → CommandLaw Passed (Some (verify policy certs))
+verify_law Passed policy certs =
+    let asked : Option Asked = Some (verify policy certs) in
+    record {
+      known = λ text a is. given answer.Verified _ (Known asked) (λ v is. verify_among (statuses_of asked) refl refl refl refl v) a is;
+      crowds = λ told text before after a files is.
+          given answer.Verified _ (Crowds asked told before after)
+          (verify_crowds asked told before after policy (text kind.Policy) (inl (refl, refl)) files.0 (text kind.Certificates)) a is;
+      shows = λ told text before after code a files is.
+          given answer.Verified _ (Shows (IsTruthful Passed asked told before after code) before after code)
+          (λ v is own added. read_verify (told policy) (told certs) (text kind.Policy) (text kind.Certificates) files.0 files.1.0 v before after code is own added) a is;
+      long = λ told before after code which long own.
+          long_verify (told policy) (told certs) before after code
+          (λ text file held also. never_long which told (certified_files policy certs) long ((text, held), ((file, also), tt))) own;
+      stopped = λ told before after code stop file. stopped_verify (told policy) (told certs) before after code stop;
+    }

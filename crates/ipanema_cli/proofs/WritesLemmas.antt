@@ -1,6 +1,5 @@
 -- What a status tells of what was written.
-use Rattle.std.proofs.Common.{◌≡◌, ◌≢◌, ℕ, ◌⊎◌, inl, inr, List, [], ◌∷◌, Option, None, append-nil, refl, sym, ◌∙◌, subst, arith}
-use Rattle.sched_io.specs.Told.{Told}
+use Rattle.std.proofs.Common.{◌≡◌, ◌≢◌, ℕ, ◌⊎◌, inl, inr, List, [], ◌∷◌, Option, append-nil, refl, sym, ◌∙◌, subst, arith}
 use Rattle.sched_io.specs.Puts.{WritesPart, joined}
 use Rattle.sched_io.specs.Shown.{Shown}
 use Rattle.sched_io.specs.Written.{Adds}
@@ -27,12 +26,11 @@ use Rattle.trace_play.specs.declared.cores.PlayedCores.TheVariants as cores
 use Rattle.trace_simulation.specs.declared.answer.PlayedWaste.TheVariants as wasted
 use Rattle.trace_simulation.specs.declared.answer.SimulationAnswer.{SimulationAnswer}
 use Rattle.trace_simulation.specs.declared.answer.SimulationAnswer.TheVariants as simulation
-use Rattle.ipanema_cli.specs.Answers.{IsAnswer, lines_of, output_of, play_status, status_of}
+use Rattle.ipanema_cli.specs.Answers.{lines_of, output_of, play_status, status_of}
 use Rattle.history_replay.specs.declared.answer.HistoryAnswer.{HistoryAnswer}
 use Rattle.history_replay.specs.declared.answer.HistoryAnswer.TheVariants as judged
 use Rattle.history_replay.specs.declared.refusal.HistoryRefusal.TheVariants as no_history
-use Rattle.command_words.specs.Command.{Asked}
-use Rattle.ipanema_cli.specs.Ends.{Ends, Writes, answered, written, cut_off}
+use Rattle.ipanema_cli.specs.Ends.{Writes, cut_off, written}
 use Rattle.ipanema_cli.specs.Status.{bound_status, check_status, code_of, explain_status, gap_status, rest_status, history_status, outcome_status, refusal_status, simulation_status, verify_status}
 use Rattle.ipanema_cli.specs.declared.answers.Answer.{Answer}
 use Rattle.ipanema_cli.specs.declared.answers.Answer.TheVariants as answer
@@ -154,9 +152,3 @@ whole a before after code (cut_off e part) not_cut = absurd (not_cut e)
 pub cut : (a : Answer) (before after : Shown) (code : ℕ) → Writes a before after code → code_of (status_of a) ≢ 5 → code ≡ 5 → WritesPart (lines_of a) before after
 cut a before after code (written e all) other h = absurd (other (sym e ∙ h))
 cut a before after code (cut_off e part) other h = part
-
--- words that are no command end so
-pub no_command_ends : (asked : Option Asked) (told : List ℕ → Told) (read_fault : Type 0) (before after : Shown) (code : ℕ) → asked ≡ None
-    → Writes answer.BadWords before after code → Ends asked told read_fault before after code
-no_command_ends asked told read_fault before after code none writes =
-    answered answer.BadWords (subst (λ (x : Option Asked). IsAnswer x told answer.BadWords) (sym none) tt) writes

@@ -3,7 +3,8 @@ use Rattle.std.specs.Prelude.{◌≡◌, ℕ, List, [], Option, Result, Ok, Err}
 use Rattle.sched_io.specs.Puts.{WritesAll, WritesPart}
 use Rattle.sched_io.specs.Shown.{Shown}
 use Rattle.sched_io.specs.Told.{Told}
-use Rattle.ipanema_cli.specs.Answers.{IsAnswer, lines_of, status_of}
+use Rattle.ipanema_cli.specs.Answers.{lines_of, status_of}
+use Rattle.ipanema_cli.specs.Replies.{IsAnswer}
 use Rattle.command_words.specs.Command.{Asked}
 use Rattle.ipanema_cli.specs.Status.{code_of}
 use Rattle.ipanema_cli.specs.Stops.{IsUnread}

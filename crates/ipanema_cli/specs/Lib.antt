@@ -1,6 +1,9 @@
 pub mod PolicyAnswers
 pub mod TraceAnswers
 pub mod Answers
+pub mod Replies
+pub mod Commands
+pub mod Files
 pub mod BenchTruths
 pub mod BoundTruths
 pub mod RestTruths

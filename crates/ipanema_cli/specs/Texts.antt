@@ -5,6 +5,7 @@ use Rattle.sched_base.specs.declared.limits.TheConstants.{MAX_TRACE_BYTES}
 use Rattle.sched_io.specs.Told.{Told, MayHold}
 use Rattle.ipanema_cli.specs.declared.texts.TextKind.{TextKind}
 use Rattle.ipanema_cli.specs.declared.texts.TextKind.TheVariants as kind
+use Rattle.ipanema_cli.specs.declared.texts.Texts.{Texts}
 
 -- the most bytes of such a text
 abbrev pub room_of : TextKind → ℕ
@@ -28,3 +29,15 @@ pub record MayRead (which : TextKind) (told : Told) (text : List ℕ) : Type 0 w
 -- The file may hold a text that is longer.
 abbrev pub MayBeLong : TextKind → Told → Type 0
 MayBeLong which told = (text : List ℕ) × MayHold told text × (room_of which < length text)
+
+-- the text of that kind among the texts of a command's files
+abbrev pub text_of : Texts → TextKind → List ℕ
+text_of texts kind.Policy = texts.policy.items
+text_of texts kind.Trace = texts.trace.items
+text_of texts kind.History = texts.history.items
+text_of texts kind.Certificates = texts.certificates.items
+
+-- None of them is longer than such a text may be, of those kinds whose readers ask for it.
+pub record AreShort (texts : Texts) : Type 0 where
+  pub policy : length texts.policy.items ≤ MAX_POLICY_BYTES
+  pub trace : length texts.trace.items ≤ MAX_TRACE_BYTES

@@ -3,19 +3,20 @@
 ghost use Rattle.std.specs.Prelude.{◌≡◌, ◌≤◌, ℕ, IfErr, IfOk, IsTrue, length};
 ghost use Rattle.sched_base.specs.declared.limits.TheConstants.{MAX_POLICY_BYTES, MAX_TRACE_BYTES};
 ghost use Rattle.sched_io.specs.Puts.{Puts};
-ghost use Rattle.ipanema_cli.specs.Answers.{AnswersBench, AnswersMake, CanBePut};
-ghost use Rattle.ipanema_cli.specs.PolicyAnswers.{IsExportOfText};
-ghost use Rattle.ipanema_cli.specs.TraceAnswers.{IsJudgingOfTexts};
-ghost use Rattle.ipanema_cli.specs.TraceAnswers.{IsPlayOfTexts, judging_of};
+ghost use Rattle.ipanema_cli.specs.Answers.{CanBePut, lines_of, status_of};
 ghost use Rattle.ipanema_cli.specs.PolicyAnswers.{exporting_of};
-ghost use Rattle.ipanema_cli.specs.Answers.{lines_of, status_of};
-ghost use Rattle.ipanema_cli.specs.Simulations.{IsSimulationOfTexts, simulating_of};
+ghost use Rattle.ipanema_cli.specs.Replies.{IsGiven, IsMade, RepliesBench, RepliesExport, RepliesJudging};
+ghost use Rattle.ipanema_cli.specs.Replies.{RepliesPlay, RepliesSimulation};
+ghost use Rattle.ipanema_cli.specs.Simulations.{simulating_of};
+ghost use Rattle.ipanema_cli.specs.Texts.{AreShort};
+ghost use Rattle.ipanema_cli.specs.TraceAnswers.{judging_of};
 ghost use Rattle.policy_tree.specs.Meaning.{meaning_of};
 ghost use Rattle.command_words.specs.Numbers.{is_size};
 ghost use Rattle.trace_play.specs.Plays.{IsPlayOf};
 ghost use Rattle.trace_run.specs.Runs.{HasPlayers, IsGatedRunOf};
 ghost use Rattle.history_replay.specs.Lines.{IsShown as IsShownHistory};
 ghost use Rattle.trace_simulation.specs.Simulations.{IsShown};
+ghost use Rattle.ipanema_cli.specs.declared.answers.Answer.TheVariants as answer;
 ghost use Rattle.ipanema_cli.specs.declared.stop.Stop.TheVariants as stop;
 
 use crate::accepted::accepted_in;
@@ -80,7 +81,7 @@ pub enum Answer {
 /// The answer to a policy's text within its limit of a command that writes a text of an accepted policy.
 pub fn export_text(alloc: Global, command: ExportCommand, policy: &[u8]) -> Result<Answer, Stop>
     requires { length policy.now ≤ MAX_POLICY_BYTES }
-    ensures answer { IfOk result (IsExportOfText (exporting_of command) policy.now) }
+    ensures answer { IfOk result (RepliesExport (exporting_of command) policy.now) }
     ensures shown { IfOk result CanBePut }
     ensures memory { IfErr result (λ why. why ≡ stop.Memory) }
 {
@@ -108,7 +109,7 @@ fn exported_of(
 pub fn play_texts(alloc: Global, policy: &[u8], trace: &[u8]) -> Result<Answer, Stop>
     requires policy { length policy.now ≤ MAX_POLICY_BYTES }
     requires trace { length trace.now ≤ MAX_TRACE_BYTES }
-    ensures answer { IfOk result (IsPlayOfTexts IsPlayOf policy.now trace.now) }
+    ensures answer { IfOk result (RepliesPlay IsPlayOf policy.now trace.now) }
     ensures shown { IfOk result CanBePut }
     ensures memory { IfErr result (λ why. why ≡ stop.Memory) }
 {
@@ -119,6 +120,9 @@ pub fn play_texts(alloc: Global, policy: &[u8], trace: &[u8]) -> Result<Answer, 
 }
 
 /// The answer of `run` to texts within their limits, or of `crew`, whose players are a crew.
+///
+/// The players take the turns of the cores side by side, where threads can be started, and each core passes the gate
+/// between its unit and its look. That it passes is a clause, and neither the thread nor the place in the turn is.
 pub fn run_texts<R: Threads + Wait + Sync, G: Gate + Sync>(
     rt: &R,
     alloc: Global,
@@ -131,7 +135,7 @@ pub fn run_texts<R: Threads + Wait + Sync, G: Gate + Sync>(
     requires trace { length trace.now ≤ MAX_TRACE_BYTES }
     requires players { HasPlayers players }
     requires gate { (c r : ℕ) → IsTrue (G.admits gate.now c r) }
-    ensures answer { IfOk result (IsPlayOfTexts (IsGatedRunOf (G.passed gate.now)) policy.now trace.now) }
+    ensures answer { IfOk result (RepliesPlay (IsGatedRunOf (G.passed gate.now)) policy.now trace.now) }
     ensures shown { IfOk result CanBePut }
     ensures memory { IfErr result (λ why. why ≡ stop.Memory) }
 {
@@ -153,7 +157,7 @@ pub fn simulate_texts(
 ) -> Result<Answer, Stop>
     requires policy { length policy.now ≤ MAX_POLICY_BYTES }
     requires trace { length trace.now ≤ MAX_TRACE_BYTES }
-    ensures answer { IfOk result (IsSimulationOfTexts (simulating_of command) policy.now trace.now) }
+    ensures answer { IfOk result (RepliesSimulation (simulating_of command) policy.now trace.now) }
     ensures shown { IfOk result CanBePut }
     ensures memory { IfErr result (λ why. why ≡ stop.Memory) }
 {
@@ -186,9 +190,8 @@ fn simulated_under(
 
 /// The answer to texts within their limits of a command that judges a history.
 pub fn judge(alloc: Global, command: HistoryCommand, texts: &Texts) -> Result<Answer, Stop>
-    requires policy { length texts.now.policy.items ≤ MAX_POLICY_BYTES }
-    requires trace { length texts.now.trace.items ≤ MAX_TRACE_BYTES }
-    ensures answer { IfOk result (IsJudgingOfTexts (judging_of command)
+    requires { AreShort texts.now }
+    ensures answer { IfOk result (RepliesJudging (judging_of command)
         texts.now.policy.items texts.now.trace.items texts.now.history.items) }
     ensures shown { IfOk result CanBePut }
     ensures memory { IfErr result (λ why. why ≡ stop.Memory) }
@@ -226,7 +229,7 @@ fn judged_under(
 /// The answer of `make`: the text of the trace of so many threads that the seed determines.
 pub fn make(alloc: Global, seed: u64, size: u32) -> Result<Answer, Stop>
     requires { IsTrue (is_size size) }
-    ensures answer { IfOk result (AnswersMake seed size) }
+    ensures answer { IfOk result (IsGiven answer.Made (λ given. IsMade seed size given.items)) }
     ensures shown { IfOk result CanBePut }
     ensures memory { IfErr result (λ why. why ≡ stop.Memory) }
 {
@@ -238,7 +241,7 @@ pub fn make(alloc: Global, seed: u64, size: u32) -> Result<Answer, Stop>
 /// `fair`. It is checked as any other policy.
 pub fn bench(alloc: Global, seed: u64, size: u32) -> Result<Answer, Stop>
     requires { IsTrue (is_size size) }
-    ensures answer { IfOk result (AnswersBench seed size) }
+    ensures answer { IfOk result (RepliesBench seed size) }
     ensures shown { IfOk result CanBePut }
     ensures memory { IfErr result (λ why. why ≡ stop.Memory) }
 {

@@ -5,6 +5,7 @@ mod accepted;
 mod answers;
 mod commands;
 mod ending;
+mod files;
 mod kinds;
 mod status;
 mod stop;

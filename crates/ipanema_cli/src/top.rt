@@ -5,16 +5,18 @@ ghost use Rattle.std.specs.Prelude.{IsTrue, OnOk, Some, codes, slice_get};
 ghost use Rattle.sched_io.specs.Faults.{Rose};
 ghost use Rattle.sched_io.specs.Loads.{AreRequested};
 ghost use Rattle.command_words.specs.Command.{IsSerial, asked_by, words_of};
-ghost use Rattle.ipanema_cli.specs.Answers.{CanBePut, IsAnswer, IsGatedAnswer};
+ghost use Rattle.ipanema_cli.specs.Answers.{CanBePut};
 ghost use Rattle.ipanema_cli.specs.Ends.{Ends};
 ghost use Rattle.ipanema_cli.specs.Causes.{HasCause, OneOf};
 ghost use Rattle.ipanema_cli.specs.Loads.{FirstAreLoaded, files_of};
+ghost use Rattle.ipanema_cli.specs.Replies.{IsAnswer, IsGatedAnswer};
 ghost use Rattle.ipanema_cli.specs.Stops.{IsStop};
 ghost use Rattle.ipanema_cli.specs.Truths.{IsTruthful, NonePassed};
 
-use crate::answers::Answer;
-use crate::commands::{answer_of, run};
+use crate::answers::{Answer, run_texts};
+use crate::commands::reply;
 use crate::ending::conclude;
+use crate::files::load_asked;
 use crate::stop::Stop;
 use command_words::{Request, request_of};
 use sched_io::{Files, Gate, Sink};
@@ -116,7 +118,8 @@ fn serial_answer<F: Files>(alloc: Global, words: &[String], files: &mut F) -> Re
     ensures calm { IsErrOf result Stop.Unread ⊎ (F.faults files.new ≡ F.faults files.old) }
 {
     let request = request_of(alloc, words)?;
-    answer_of(alloc, request, files)
+    let texts = load_asked(alloc, files, request)?;
+    reply(alloc, request, &texts)
 }
 
 /// The answer to what the words ask for.
@@ -139,23 +142,14 @@ fn answer<R: Threads + Wait + Sync, F: Files, G: Gate + Sync>(
         (F.requested files.old) (F.requested files.new)) }
     ensures calm { IsErrOf result Stop.Unread ⊎ (F.faults files.new ≡ F.faults files.old) }
 {
-    match request_of(alloc, words)? {
-        Request::Run { policy, trace } => {
-            run(rt, alloc, Players::ThreadEach, policy, trace, files, gate)
+    let request = request_of(alloc, words)?;
+    let texts = load_asked(alloc, files, request)?;
+    let (policy, trace) = (texts.policy.as_slice(), texts.trace.as_slice());
+    match request {
+        Request::Run { .. } => run_texts(rt, alloc, Players::ThreadEach, policy, trace, gate),
+        Request::Crew { workers, .. } => {
+            run_texts(rt, alloc, Players::Crew(workers), policy, trace, gate)
         }
-        Request::Crew {
-            policy,
-            trace,
-            workers,
-        } => run(
-            rt,
-            alloc,
-            Players::Crew(workers),
-            policy,
-            trace,
-            files,
-            gate,
-        ),
-        other => answer_of(alloc, other, files),
+        other => reply(alloc, other, &texts),
     }
 }

@@ -1,3 +1,4 @@
+use Rattle.std.proofs.Common.{inr, refl}
 use Rattle.policy_tree.specs.Meaning.{meaning_of}
 use Rattle.ipanema_cli.proofs.Failing.{if_failed}
 use Rattle.ipanema_cli.proofs.answers.play_texts.Goals as goal
@@ -6,4 +7,5 @@ pub returns-in_err-play_text-in-Ok-clause-memory : goal.returns-in_err-play_text
 returns-in_err-play_text-in-Ok-clause-memory c = if_failed _ c.from_residual-in_err-play_text-in-Ok.result c.from_residual-in_err-play_text-in-Ok.ensures.1
 
 pub returns-in_ok-play_text-in-Ok-clause-answer : goal.returns-in_ok-play_text-in-Ok-clause-answer
-returns-in_ok-play_text-in-Ok-clause-answer c = (meaning_of c.in-Ok.accepted, c.in-Ok.ensures.accepted c.args.policy.now c.in_ok-check_text.ensures, c.in_ok-play_text-in-Ok.ensures.play)
+returns-in_ok-play_text-in-Ok-clause-answer c =
+    inr (c.in_ok-play_text-in-Ok.field-0, refl, (meaning_of c.in-Ok.accepted, c.in-Ok.ensures.accepted c.args.policy.now c.in_ok-check_text.ensures, c.in_ok-play_text-in-Ok.ensures.play))

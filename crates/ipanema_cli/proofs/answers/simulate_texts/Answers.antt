@@ -1,5 +1,5 @@
 -- The policy that can be played is the one that was judged.
-use Rattle.std.proofs.Common.{refl, subst, sym}
+use Rattle.std.proofs.Common.{inr, refl, subst, sym}
 use Rattle.sched_base.specs.declared.limits.TheConstants.{CHECK_BUDGET}
 use Rattle.policy_tree.specs.declared.typed.Policy.{Policy}
 use Rattle.policy_tree.specs.Meaning.{meaning_of}
@@ -29,4 +29,4 @@ returns-in_ok-simulated_under-in-Ok-clause-answer c =
     let p = meaning_of (policy_of v) in
     let judged : IsJudged text p v = subst (IsCheckOf text) c.in-Judged.is c.in_ok-refusal.ensures in
     let there : IsPlayable text p = record { spells = judged.spells; few = judged.few; certified = handlers_of p v judged.is (c.in-Ok.ensures.exactly.0 refl) } in
-    (meaning_of c.in-Ok.kept, subst (λ (q : Policy). IsPlayable text (meaning_of q)) (sym c.in-Ok.ensures.keeps) there, c.in_ok-simulated_under-in-Ok.ensures.answer)
+    inr (c.in_ok-simulated_under-in-Ok.field-0, refl, (meaning_of c.in-Ok.kept, subst (λ (q : Policy). IsPlayable text (meaning_of q)) (sym c.in-Ok.ensures.keeps) there, c.in_ok-simulated_under-in-Ok.ensures.answer))

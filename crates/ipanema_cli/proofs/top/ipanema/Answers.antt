@@ -1,7 +1,8 @@
 -- The promises follow from what the words came to, and from how the call ends by that.
 use Rattle.ipanema_cli.proofs.CauseLemmas.{causes}
 use Rattle.ipanema_cli.proofs.Concluding.{ends, has_answer, says_unread}
-use Rattle.ipanema_cli.proofs.TruthLemmas.{passed_by_any, truths}
+use Rattle.ipanema_cli.proofs.GatedAnswers.{passed_by_any}
+use Rattle.ipanema_cli.proofs.TruthLemmas.{truths}
 use Rattle.std.proofs.Common.{◌≢◌, Some, codes, refl, slice_get}
 use Rattle.command_words.specs.Command.{words_of}
 use Rattle.ipanema_cli.proofs.SerialWords.{serial_words}

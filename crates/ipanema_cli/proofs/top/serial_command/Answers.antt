@@ -2,7 +2,7 @@
 use Rattle.std.proofs.Common.{ℕ, List, Option, Result, Ok, Err, IfOk}
 use Rattle.sched_io.specs.Told.{Told}
 use Rattle.command_words.specs.Command.{Asked, IsSerial}
-use Rattle.ipanema_cli.specs.Answers.{IsAnswer, IsGatedAnswer}
+use Rattle.ipanema_cli.specs.Replies.{IsAnswer, IsGatedAnswer}
 use Rattle.ipanema_cli.specs.Truths.{NonePassed}
 use Rattle.ipanema_cli.specs.declared.answers.Answer.{Answer}
 use Rattle.ipanema_cli.specs.declared.stop.Stop.{Stop}

@@ -2,7 +2,7 @@
 use Rattle.std.proofs.Common.{inl, inr, refl, arith}
 use Rattle.ipanema_cli.specs.Texts.{room_of}
 use Rattle.ipanema_cli.proofs.LongLemmas.{some_long_text}
-use Rattle.ipanema_cli.proofs.texts.load.Goals as goal
+use Rattle.ipanema_cli.proofs.files.load.Goals as goal
 
 pub returns-in-Err-TooLong-clause-stop : goal.returns-in-Err-TooLong-clause-stop
 returns-in-Err-TooLong-clause-stop g c =
