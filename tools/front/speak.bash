@@ -11,7 +11,7 @@ closed=''
 running=''
 at_end=true
 
-commands=(check explain prove bound rest emit verify play run crew simulate waste replay report migrate make bench)
+commands=(check explain prove bound rest emit draft verify play run crew simulate waste replay report migrate make bench)
 obligations=(B1 B2 B3 B4 {H1,H2}.{enqueue,tick,yield,block})
 
 say() {
@@ -61,6 +61,7 @@ usage_of() {
     bound) say '  ipanema bound POLICY                    what bounds the rounds that the policy may waste?' ;;
     rest) say '  ipanema rest POLICY                     how far may the loads of cores differ that steal no more?' ;;
     emit) say '  ipanema emit POLICY                     write the rules of an accepted policy as a header in C' ;;
+    draft) say '  ipanema draft POLICY                    write the rules of a policy that can be played as a header in C' ;;
     verify) say '  ipanema verify POLICY CERTS             do these certificates prove the policy? no solver is asked' ;;
     play) say '  ipanema play POLICY TRACE               play the trace, core after core, and write the history' ;;
     run) say '  ipanema run POLICY TRACE                play it with all cores side by side' ;;
@@ -117,7 +118,7 @@ say_near() {
 # How many words a command takes behind it.
 words_of() {
   case "$1" in
-    check | prove | bound | emit) echo 1 ;;
+    check | prove | bound | rest | emit | draft) echo 1 ;;
     crew | replay | report | migrate) echo 3 ;;
     *) echo 2 ;;
   esac
@@ -179,7 +180,7 @@ say_words() {
 # The words of a command that are files.
 files_of() {
   case "$1" in
-    check | explain | prove | bound | emit) files=("$2") ;;
+    check | explain | prove | bound | rest | emit | draft) files=("$2") ;;
     crew) files=("$2" "$3") ;;
     *) files=("${@:2}") ;;
   esac
@@ -198,7 +199,9 @@ say_file() {
 
 # Status 1 or 3 of a command that wants right handlers.
 say_not_playable() {
-  say "ipanema: an obligation of a handler, \`H1\` or \`H2\`, doesn't hold or is undecided, so nothing was played; \`ipanema explain ${2@Q} NAME\` says more of a line above"
+  local what='played'
+  [ "$1" != draft ] || what='written'
+  say "ipanema: an obligation of a handler, \`H1\` or \`H2\`, doesn't hold or is undecided, so nothing was $what; \`ipanema explain ${2@Q} NAME\` says more of a line above"
 }
 
 # Status 1 or 3 of a command that wants an accepted policy.
@@ -277,7 +280,7 @@ answer() {
       7,*) say_words "$@" ;;
       4,*) say_file "$@" ;;
       2,* | 10,*) say_fault "$status" "$program" "$@" ;;
-      [13],simulate | [13],waste) say_not_playable "$@" ;;
+      [13],simulate | [13],waste | [13],draft) say_not_playable "$@" ;;
       [13],prove | [13],emit | [13],play | [13],run | [13],crew | [13],replay | [13],report | [13],migrate) say_not_accepted "$status" "$@" ;;
     esac
   } >/dev/null

@@ -15,7 +15,7 @@ import policy_text as policies
 import line_text as lines
 
 FILES = {"check": ["policy"], "explain": ["policy"], "play": ["policy", "trace"], "run": ["policy", "trace"]}
-FILES.update({"prove": ["policy"], "bound": ["policy"], "rest": ["policy"], "emit": ["policy"], "verify": ["policy", "certs"]})
+FILES.update({"prove": ["policy"], "bound": ["policy"], "rest": ["policy"], "emit": ["policy"], "draft": ["policy"], "verify": ["policy", "certs"]})
 FILES.update(dict.fromkeys(["crew", "simulate", "waste"], ["policy", "trace"]))
 FILES.update(dict.fromkeys(["replay", "report", "migrate"], ["policy", "trace", "history"]))
 LONGEST = {"policy": 65536, "trace": 4194304, "history": 33554432, "certs": 33554432}

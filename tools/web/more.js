@@ -5,7 +5,7 @@ import { Asker, Trouble, ask, saidWords } from "./ask.js";
 import { nameOf } from "./beside.js";
 
 const SHOWN_ELSEWHERE = ["check", "explain", "play", "run", "simulate", "waste"];
-const ENDINGS = { emit: "h", prove: "certs" };
+const ENDINGS = { emit: "h", draft: "h", prove: "certs" };
 const MOST_SHOWN = 100000;
 
 export class More {

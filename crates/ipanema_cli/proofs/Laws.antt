@@ -1,10 +1,11 @@
 -- The law of each command.
 use Rattle.std.proofs.Common.{ℕ, Option, Some, None, arith, refl, subst, sym}
-use Rattle.command_words.specs.Command.{Asked, bench, bound, check, crew, emit, explain, make, migrate, play, prove, replay, report, rest, run, simulate, verify, waste}
+use Rattle.command_words.specs.Command.{Asked, bench, bound, check, crew, draft, emit, explain, make, migrate, play, prove, replay, report, rest, run, simulate, verify, waste}
 use Rattle.ipanema_cli.proofs.BenchTruths.{bench_law}
 use Rattle.ipanema_cli.proofs.BoundTruths.{bound_law}
 use Rattle.ipanema_cli.proofs.CheckTruths.{check_law}
 use Rattle.ipanema_cli.proofs.CommandLaw.{CommandLaw, Crowds, Known}
+use Rattle.ipanema_cli.proofs.DraftTruths.{draft_law}
 use Rattle.ipanema_cli.proofs.ExplainTruths.{explain_law}
 use Rattle.ipanema_cli.proofs.ExportTruths.{emit_law, prove_law}
 use Rattle.ipanema_cli.proofs.JudgeTruths.{migrate_law, replay_law, report_law}
@@ -32,6 +33,7 @@ module _ (Passed : ℕ → ℕ → Type 0) where
   law_of (Some (explain policy name)) = explain_law Passed policy name
   law_of (Some (prove policy)) = prove_law Passed policy
   law_of (Some (emit policy)) = emit_law Passed policy
+  law_of (Some (draft policy)) = draft_law Passed policy
   law_of (Some (bound policy)) = bound_law Passed policy
   law_of (Some (rest policy)) = rest_law Passed policy
   law_of (Some (verify policy certs)) = verify_law Passed policy certs

@@ -8,6 +8,7 @@ pub mod Laws
 pub mod Stopped
 pub mod CauseLemmas
 pub mod CheckTruths
+pub mod DraftTruths
 mod Concluding
 pub mod ExplainTruths
 pub mod ExportTruths
@@ -25,5 +26,6 @@ pub mod TraceTruths
 pub mod PolicyFacts
 pub mod SimulationTruths
 pub mod TruthLemmas
+mod Unplayed
 pub mod VerifyTruths
 pub mod WritesLemmas

@@ -6,10 +6,8 @@ use Rattle.sched_io.specs.Puts.{joined}
 use Rattle.sched_io.specs.Told.{Told}
 use Rattle.sched_io.specs.Written.{Adds}
 use Rattle.policy_eval.specs.Obligations.{MeetsHandlerObligations, MeetsObligations}
-use Rattle.policy_tree.specs.Meaning.{Meaning, meaning_of}
-use Rattle.policy_checker.specs.Laws.{HasUncertainHandler}
+use Rattle.policy_tree.specs.Meaning.{Meaning}
 use Rattle.policy_checker.specs.Playable.{is_playable}
-use Rattle.policy_checker.specs.Verdicts.{policy_of}
 use Rattle.policy_checker.specs.declared.verdict.Verdict.{Verdict}
 use Rattle.policy_checker.specs.declared.verdict.Verdict.TheVariants as verdict
 use Rattle.policy_checker.proofs.KeptHandlers.{playable_law}
@@ -51,9 +49,10 @@ use Rattle.ipanema_cli.specs.SimulationTruths.{DoHoldPlayable, DoSimulate, MayHo
 use Rattle.ipanema_cli.specs.declared.answers.Answer.{Answer}
 use Rattle.ipanema_cli.specs.declared.answers.Answer.TheVariants as answer
 use Rattle.ipanema_cli.specs.declared.texts.TextKind.TheVariants as kind
-use Rattle.ipanema_cli.proofs.CheckTruths.{answered_policy, refusal_not_0, stopped_refuses, tells_fault, verdict_answers}
+use Rattle.ipanema_cli.proofs.CheckTruths.{refusal_not_0, stopped_refuses, tells_fault}
 use Rattle.ipanema_cli.proofs.Stopped.{Stopped, at_4, at_5, at_6, stopped_not}
 use Rattle.ipanema_cli.proofs.PolicyFacts.{judged_refuses, read_refuses, refused_text, resolved, same_policy, text_read}
+use Rattle.ipanema_cli.proofs.Unplayed.{never_certain, unplayable_lines}
 use Rattle.ipanema_cli.proofs.TraceTruths.{SamePlay, low_or_stopped, no_line, refusal_not_8, same_plan}
 use Rattle.command_words.specs.Command.{Asked, simulate, waste}
 use Rattle.ipanema_cli.specs.Answers.{status_of}
@@ -257,27 +256,15 @@ module _ (Says : Meaning → Plan → List Entry → List ℕ → Type 0) where
     whole = λ h. absurd (not_0 h);
     full = λ h. absurd (not_8 h);
     must = record {
-      reaches_end = λ other plan held _. absurd (never other held.held.spells held.held.certain);
-      stops_full = λ other plan k held _. absurd (never other held.held.spells held.held.certain);
-      faulty = λ other jobs fault held _. absurd (never other held.spells held.certain);
+      reaches_end = λ other plan held _. absurd (never_certain policy text v read is unplayable other held.held.spells held.held.certain);
+      stops_full = λ other plan k held _. absurd (never_certain policy text v read is unplayable other held.held.spells held.held.certain);
+      faulty = λ other jobs fault held _. absurd (never_certain policy text v read is unplayable other held.spells held.certain);
       refuses = λ other jobs held also _. low;
       unjudged = λ jobs also. read_refuses policy text (checked.Judged v) code read is own;
     };
-    lines = λ few. record {
-      answers = verdict_answers policy text v before after code read is own added;
-      uncertain = subst HasUncertainHandler (sym (answered_policy policy text v before after code read is own added)) uncertain;
-    };
+    lines = λ few. unplayable_lines policy text v read is unplayable before after code own added;
     bad_text = λ h. absurd (not_2 h);
   }
-    where
-      p : Meaning
-      p = meaning_of (policy_of v)
-
-      uncertain : HasUncertainHandler p
-      uncertain = playable_law.others p (resolved policy text p read is.spells) v is.is unplayable
-
-      never : (other : Meaning) → Spells policy other → (HasUncertainHandler other → ⊥) → ⊥
-      never other held certain = certain (subst HasUncertainHandler (same_policy policy text p other read is.spells held) uncertain)
 
   -- the policy can't be played
   unplayed : (policy trace : Told) (c : CheckAnswer) (text : List ℕ) (before after : Option (List ℕ)) (code : ℕ) → MayRead kind.Policy policy text → IsCheckOf text c → IsFalse (lets_play c)

@@ -1,6 +1,6 @@
 -- The commands: the files that each loads, and the statuses that it may end with.
 use Rattle.std.specs.Prelude.{ℕ, List, [], ◌∷◌, ◌++◌, Option, Some, None}
-use Rattle.command_words.specs.Command.{Asked, bench, bound, check, crew, emit, explain, make, migrate, play}
+use Rattle.command_words.specs.Command.{Asked, bench, bound, check, crew, draft, emit, explain, make, migrate, play}
 use Rattle.command_words.specs.Command.{prove, replay, report, rest, run, simulate, verify, waste}
 use Rattle.ipanema_cli.specs.declared.texts.TextKind.{TextKind}
 use Rattle.ipanema_cli.specs.declared.texts.TextKind.TheVariants as kind
@@ -37,6 +37,7 @@ asked_files (Some (check policy)) = policy_file policy
 asked_files (Some (explain policy name)) = policy_file policy
 asked_files (Some (prove policy)) = policy_file policy
 asked_files (Some (emit policy)) = policy_file policy
+asked_files (Some (draft policy)) = policy_file policy
 asked_files (Some (bound policy)) = policy_file policy
 asked_files (Some (rest policy)) = policy_file policy
 asked_files (Some (verify policy certs)) = certified_files policy certs
@@ -70,6 +71,7 @@ answer_statuses (Some (check policy)) = policy_statuses
 answer_statuses (Some (explain policy name)) = policy_statuses
 answer_statuses (Some (prove policy)) = policy_statuses
 answer_statuses (Some (emit policy)) = policy_statuses
+answer_statuses (Some (draft policy)) = policy_statuses
 answer_statuses (Some (bound policy)) = policy_statuses
 answer_statuses (Some (rest policy)) = policy_statuses
 answer_statuses (Some (verify policy certs)) = 0 ∷ 2 ∷ 11 ∷ []

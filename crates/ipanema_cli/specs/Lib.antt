@@ -9,6 +9,7 @@ pub mod BoundTruths
 pub mod RestTruths
 pub mod Causes
 pub mod CheckTruths
+pub mod DraftTruths
 pub mod Ends
 pub mod ExplainTruths
 pub mod ExportTruths

@@ -1,15 +1,18 @@
 -- Which answer a command gives.
-use Rattle.std.specs.Prelude.{◌≡◌, ◌⊎◌, ℕ, Bool, List, IsFalse, Ok, Option, Some, None}
+use Rattle.std.specs.Prelude.{◌≡◌, ◌⊎◌, ℕ, Bool, List, IsFalse, IsTrue, Ok, Option, Some, None}
 use Rattle.sched_base.specs.declared.limits.TheConstants.{CHECK_BUDGET}
 use Rattle.policy_tree.specs.Meaning.{Meaning, meaning_of}
 use Rattle.job_trace.specs.declared.trace.Numbered.{Numbered}
+use Rattle.policy_checker.specs.Playable.{is_playable}
 use Rattle.policy_checker.specs.Verdicts.{IsVerdict, policy_of}
+use Rattle.policy_checker.specs.declared.verdict.Verdict.{Verdict}
 use Rattle.policy_answers.specs.declared.answer.CheckAnswer.{CheckAnswer}
 use Rattle.policy_answers.specs.declared.answer.CheckAnswer.TheVariants as checked
 use Rattle.policy_answers.specs.Bounds.{IsBoundOf}
 use Rattle.policy_answers.specs.Rests.{IsRestOf}
 use Rattle.policy_answers.specs.Checks.{IsCheckOf, IsExplainOf}
 use Rattle.policy_answers.specs.Verifying.{IsVerifyOf}
+use Rattle.c_drafts.specs.Drafts.{draft_text}
 use Rattle.cert_file.specs.Wrong.{Proves}
 use Rattle.sched_io.specs.Told.{Told}
 use Rattle.trace_maker.specs.Made.{made}
@@ -20,7 +23,7 @@ use Rattle.trace_simulation.specs.Simulations.{IsSimulationOf, IsWasteOf}
 use Rattle.history_replay.specs.Judges.{IsMigrationOf, IsReplayOf, IsReportOf}
 use Rattle.fair_policy.specs.Fair.{fair_meaning}
 use Rattle.bench_play.specs.Bench.{IsBench}
-use Rattle.command_words.specs.Command.{Asked, bench, bound, check, crew, emit, explain, make, migrate, play}
+use Rattle.command_words.specs.Command.{Asked, bench, bound, check, crew, draft, emit, explain, make, migrate, play}
 use Rattle.command_words.specs.Command.{prove, replay, report, rest, run, simulate, verify, waste}
 use Rattle.ipanema_cli.specs.Commands.{asked_files}
 use Rattle.ipanema_cli.specs.Files.{AreRead, IsTooLongOf}
@@ -44,6 +47,16 @@ RepliesRefusal lets policy a = IsGiven answer.Checked (λ c. IsCheckOf policy c 
 abbrev pub RepliesExport : Exporting → (policy : List ℕ) → Answer → Type 0
 RepliesExport Is policy a = RepliesRefusal accepts policy a
     ⊎ IsGiven answer.Exported (λ given. (p : Meaning) × IsAccepted policy p × Is p given.items) a
+
+-- the text is the header of a policy that can be played, which says what the verdict on it is
+abbrev pub IsDraftOf : (policy text : List ℕ) → Type 0
+IsDraftOf policy text =
+    (v : Verdict) × IsCheckOf policy (checked.Judged v) × IsTrue (is_playable v) × (text ≡ draft_text v)
+
+-- the answer of one that writes that
+abbrev pub RepliesDraft : (policy : List ℕ) → Answer → Type 0
+RepliesDraft policy a = RepliesRefusal lets_play policy a
+    ⊎ IsGiven answer.Exported (λ given. IsDraftOf policy given.items) a
 
 -- the answer of one that plays a trace under an accepted policy
 abbrev pub RepliesPlay : Playing → (policy trace : List ℕ) → Answer → Type 0
@@ -81,6 +94,7 @@ Replies Ran (Some (check policy)) text a = IsGiven answer.Checked (IsCheckOf (te
 Replies Ran (Some (explain policy name)) text a = IsGiven answer.Explained (IsExplainOf (text kind.Policy) name) a
 Replies Ran (Some (prove policy)) text a = RepliesExport Proves (text kind.Policy) a
 Replies Ran (Some (emit policy)) text a = RepliesExport IsHeader (text kind.Policy) a
+Replies Ran (Some (draft policy)) text a = RepliesDraft (text kind.Policy) a
 Replies Ran (Some (bound policy)) text a = IsGiven answer.Bounded (IsBoundOf (text kind.Policy)) a
 Replies Ran (Some (rest policy)) text a = IsGiven answer.Rested (IsRestOf (text kind.Policy)) a
 Replies Ran (Some (verify policy certs)) text a =

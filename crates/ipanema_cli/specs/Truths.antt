@@ -1,10 +1,11 @@
 -- What each command says is true.
 use Rattle.std.specs.Prelude.{ℕ, List, Option, Some, None}
 use Rattle.sched_io.specs.Told.{Told}
-use Rattle.command_words.specs.Command.{Asked, bench, bound, check, crew, emit, explain, make, migrate, play}
+use Rattle.command_words.specs.Command.{Asked, bench, bound, check, crew, draft, emit, explain, make, migrate, play}
 use Rattle.command_words.specs.Command.{prove, replay, report, rest, run, simulate, verify, waste}
 use Rattle.ipanema_cli.specs.BoundTruths.{BoundsTruly}
 use Rattle.ipanema_cli.specs.CheckTruths.{ChecksTruly}
+use Rattle.ipanema_cli.specs.DraftTruths.{DraftsTruly}
 use Rattle.ipanema_cli.specs.ExplainTruths.{ExplainsTruly}
 use Rattle.ipanema_cli.specs.ExportTruths.{EmitsTruly, ProvesTruly}
 use Rattle.ipanema_cli.specs.RestTruths.{RestsTruly}
@@ -28,6 +29,7 @@ IsTruthful Passed (Some (explain policy name)) told before after code =
     ExplainsTruly (told policy) name before after code
 IsTruthful Passed (Some (prove policy)) told before after code = ProvesTruly (told policy) before after code
 IsTruthful Passed (Some (emit policy)) told before after code = EmitsTruly (told policy) before after code
+IsTruthful Passed (Some (draft policy)) told before after code = DraftsTruly (told policy) before after code
 IsTruthful Passed (Some (bound policy)) told before after code = BoundsTruly (told policy) before after code
 IsTruthful Passed (Some (rest policy)) told before after code = RestsTruly (told policy) before after code
 IsTruthful Passed (Some (verify policy certs)) told before after code =

@@ -4,9 +4,8 @@ ghost use Rattle.std.specs.Prelude.{◌≡◌, ◌≤◌, ℕ, IfErr, IfOk, IsTr
 ghost use Rattle.sched_base.specs.declared.limits.TheConstants.{MAX_POLICY_BYTES, MAX_TRACE_BYTES};
 ghost use Rattle.sched_io.specs.Puts.{Puts};
 ghost use Rattle.ipanema_cli.specs.Answers.{CanBePut, lines_of, status_of};
-ghost use Rattle.ipanema_cli.specs.PolicyAnswers.{exporting_of};
-ghost use Rattle.ipanema_cli.specs.Replies.{IsGiven, IsMade, RepliesBench, RepliesExport, RepliesJudging};
-ghost use Rattle.ipanema_cli.specs.Replies.{RepliesPlay, RepliesSimulation};
+ghost use Rattle.ipanema_cli.specs.Replies.{IsGiven, IsMade, RepliesBench, RepliesJudging, RepliesPlay};
+ghost use Rattle.ipanema_cli.specs.Replies.{RepliesSimulation};
 ghost use Rattle.ipanema_cli.specs.Simulations.{simulating_of};
 ghost use Rattle.ipanema_cli.specs.Texts.{AreShort};
 ghost use Rattle.ipanema_cli.specs.TraceAnswers.{judging_of};
@@ -20,7 +19,7 @@ ghost use Rattle.ipanema_cli.specs.declared.answers.Answer.TheVariants as answer
 ghost use Rattle.ipanema_cli.specs.declared.stop.Stop.TheVariants as stop;
 
 use crate::accepted::accepted_in;
-use crate::kinds::{ExportCommand, HistoryCommand, SimulationCommand};
+use crate::kinds::{HistoryCommand, SimulationCommand};
 use crate::status::{
     Status, bound_status, check_status, explain_status, history_status, rest_status,
     simulation_status, verify_status,
@@ -28,8 +27,6 @@ use crate::status::{
 use crate::stop::Stop;
 use crate::texts::{TextKind, Texts};
 use bench_play::{BenchTotals, play_bench, print_bench};
-use c_printer::c_text;
-use cert_file::{CertFileMemory, write_certs};
 use fair_policy::fair_policy;
 use history_replay::{HistoryAnswer, migrate_texts, replay_texts, report_texts};
 use policy_answers::{
@@ -76,33 +73,6 @@ pub enum Answer {
     TooLong(TextKind),
     /// The words are no command.
     BadWords,
-}
-
-/// The answer to a policy's text within its limit of a command that writes a text of an accepted policy.
-pub fn export_text(alloc: Global, command: ExportCommand, policy: &[u8]) -> Result<Answer, Stop>
-    requires { length policy.now ≤ MAX_POLICY_BYTES }
-    ensures answer { IfOk result (RepliesExport (exporting_of command) policy.now) }
-    ensures shown { IfOk result CanBePut }
-    ensures memory { IfErr result (λ why. why ≡ stop.Memory) }
-{
-    match accepted_in(check_text(alloc, policy)?) {
-        Ok(accepted) => Ok(Answer::Exported(exported_of(alloc, command, &accepted)?)),
-        Err(refusal) => Ok(Answer::Checked(refusal)),
-    }
-}
-
-/// What a command writes of an accepted policy.
-fn exported_of(
-    alloc: Global,
-    command: ExportCommand,
-    accepted: &AcceptedPolicy,
-) -> Result<Vec<u8>, CertFileMemory>
-    ensures { IfOk result (λ text. exporting_of command (meaning_of accepted.now) text.items) }
-{
-    match command {
-        ExportCommand::Prove => write_certs(alloc, accepted),
-        ExportCommand::Emit => Ok(c_text(alloc, accepted.policy())?),
-    }
 }
 
 /// The answer of `play` to texts within their limits.

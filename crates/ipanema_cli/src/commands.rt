@@ -10,7 +10,8 @@ ghost use Rattle.ipanema_cli.specs.Replies.{Replies};
 ghost use Rattle.ipanema_cli.specs.Texts.{AreShort, text_of};
 ghost use Rattle.ipanema_cli.specs.declared.stop.Stop.TheVariants as stop;
 
-use crate::answers::{Answer, bench, export_text, judge, make, play_texts, simulate_texts};
+use crate::answers::{Answer, bench, judge, make, play_texts, simulate_texts};
+use crate::exports::{draft, export_text};
 use crate::kinds::{ExportCommand, HistoryCommand, SimulationCommand};
 use crate::stop::Stop;
 use crate::texts::Texts;
@@ -34,6 +35,7 @@ pub fn reply(alloc: Global, request: Request<'_>, texts: &Texts) -> Result<Answe
         Request::Explain { name, .. } => Ok(Answer::Explained(explain_text(alloc, policy, name)?)),
         Request::Prove { .. } => export_text(alloc, ExportCommand::Prove, policy),
         Request::Emit { .. } => export_text(alloc, ExportCommand::Emit, policy),
+        Request::Draft { .. } => draft(alloc, policy),
         Request::Bound { .. } => Ok(Answer::Bounded(bound_text(alloc, policy)?)),
         Request::Rest { .. } => Ok(Answer::Rested(rest_text(alloc, policy)?)),
         Request::Verify { .. } => {

@@ -36,6 +36,7 @@ impl<'a> FileNames<'a> {
             Request::Explain { policy, .. } => FileNames::of_policy(policy),
             Request::Prove { policy } => FileNames::of_policy(policy),
             Request::Emit { policy } => FileNames::of_policy(policy),
+            Request::Draft { policy } => FileNames::of_policy(policy),
             Request::Bound { policy } => FileNames::of_policy(policy),
             Request::Rest { policy } => FileNames::of_policy(policy),
             Request::Verify { policy, certs } => FileNames::of_certificates(policy, certs),

@@ -5,6 +5,7 @@ mod accepted;
 mod answers;
 mod commands;
 mod ending;
+mod exports;
 mod files;
 mod kinds;
 mod status;

@@ -7,7 +7,7 @@ use Rattle.cert_file.specs.Answers.{IsWritten}
 use Rattle.c_printer.specs.CText.{c_text}
 use Rattle.ipanema_cli.specs.PolicyAnswers.{exporting_of}
 use Rattle.ipanema_cli.specs.declared.kinds.ExportCommand.{ExportCommand}
-use Rattle.ipanema_cli.proofs.answers.exported_of.Goals as goal
+use Rattle.ipanema_cli.proofs.exports.exported_of.Goals as goal
 
 pub returns-in-Prove : goal.returns-in-Prove
 returns-in-Prove c =

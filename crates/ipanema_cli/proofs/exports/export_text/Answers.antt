@@ -2,7 +2,7 @@ use Rattle.std.proofs.Common.{inr, refl}
 use Rattle.policy_tree.specs.Meaning.{meaning_of}
 use Rattle.policy_answers.specs.Checks.{IsCheckOf}
 use Rattle.ipanema_cli.proofs.Failing.{if_failed}
-use Rattle.ipanema_cli.proofs.answers.export_text.Goals as goal
+use Rattle.ipanema_cli.proofs.exports.export_text.Goals as goal
 
 pub returns-in_err-exported_of-in-Ok-clause-memory : goal.returns-in_err-exported_of-in-Ok-clause-memory
 returns-in_err-exported_of-in-Ok-clause-memory c = if_failed _ c.from_residual-in_err-exported_of-in-Ok.result c.from_residual-in_err-exported_of-in-Ok.ensures.1
