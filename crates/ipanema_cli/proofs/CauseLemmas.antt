@@ -30,8 +30,8 @@ module _ (own : List ℕ) where
   six_among (file ∷ files) = refl
 
   four_among : (told : List ℕ → Told) (fault : Type 0) (files : List AskedFile) → IsUnreadOf told fault files → OneOf (stop_statuses files ++ own) 4
-  four_among told fault [] unread = absurd unread
-  four_among told fault (file ∷ files) unread = refl
+  four_among told fault [] missed = absurd missed
+  four_among told fault (file ∷ files) missed = refl
 
   ten_among : (which : TextKind) (told : List ℕ → Told) (files : List AskedFile) → IsTooLongOf which told files → OneOf (stop_statuses files ++ own) 10
   ten_among which told [] long = absurd long

@@ -53,6 +53,14 @@ module _ (Passed : ℕ → ℕ → Type 0) where
   gated_by asked told text (Ok a) other read is = replies text read (gated_reply asked text a other is)
   gated_by asked told text (Err why) other read is = is
 
+  -- where a run is asked for, its answer to the texts that were read is the command's
+  pub ran_by : (asked : Option Asked) (told : List ℕ → Told) (text : TextKind → List ℕ) (policy trace : List ℕ) (r : Result Answer Stop) → AreRead told text (asked_files asked)
+      → ((a : Answer) → RepliesPlay (IsGatedRunOf Passed) (text kind.Policy) (text kind.Trace) a → Replies (IsGatedRunOf Passed) asked text a) → policy ≡ text kind.Policy → trace ≡ text kind.Trace
+      → IfOk r (RepliesPlay (IsGatedRunOf Passed) policy trace) → IfOk r (IsGatedAnswer Passed asked told)
+  ran_by asked told text policy trace (Ok a) read asks first second is =
+      replies text read (asks a (subst (λ (p : List ℕ). RepliesPlay (IsGatedRunOf Passed) p (text kind.Trace) a) first (subst (λ (t : List ℕ). RepliesPlay (IsGatedRunOf Passed) policy t a) second is)))
+  ran_by asked told text policy trace (Err why) read asks first second is = is
+
 -- where the texts were read, the answer to them is the command's
 pub answered_by : (Ran : Playing) (asked : Option Asked) (told : List ℕ → Told) (text : TextKind → List ℕ) (r : Result Answer Stop) → AreRead told text (asked_files asked)
     → IfOk r (Replies Ran asked text) → IfOk r (Answers Ran asked told)

@@ -165,9 +165,9 @@ report_answer : (policy trace history : Told) (text jobs lines : List ℕ) (p : 
     → IsReportOf p jobs lines h → code ≡ code_of (history_status h) → Adds (joined (histories.lines_of h)) before after → JudgesTruly SaysReport policy trace history before after code
 report_answer policy trace history text jobs lines p read (judged.Whole count) before after code is own added = absurd is
 report_answer policy trace history text jobs lines p read (judged.Migrated given) before after code is own added = absurd is
-report_answer policy trace history text jobs lines p read (judged.Reported report) before after code is own added =
-    judged_whole policy trace history text jobs lines p read SaysReport is.plan is.history (joined (report_lines report)) before after code is.gives is.whole
-    (report, is.tells, refl) own added
+report_answer policy trace history text jobs lines p read (judged.Reported told) before after code is own added =
+    judged_whole policy trace history text jobs lines p read SaysReport is.plan is.history (joined (report_lines told)) before after code is.gives is.whole
+    (told, is.tells, refl) own added
 report_answer policy trace history text jobs lines p read (judged.Refused why) before after code is own added =
     refused_history policy trace history text jobs lines p read SaysReport why before after code is own (one_line (histories.refusal_line why) before after added)
 
@@ -198,7 +198,7 @@ judging_shows Is Says worth told policy trace history text before after code a f
 
 history_not_10 : (h : HistoryAnswer) → code_of (history_status h) ≢ 10
 history_not_10 (judged.Whole count) e = omega arith
-history_not_10 (judged.Reported report) e = omega arith
+history_not_10 (judged.Reported told) e = omega arith
 history_not_10 (judged.Migrated given) e = omega arith
 history_not_10 (judged.Refused (no_history.Trace fault)) e = omega arith
 history_not_10 (judged.Refused (no_history.BadLine line)) e = omega arith

@@ -41,3 +41,4 @@ text_of texts kind.Certificates = texts.certificates.items
 pub record AreShort (texts : Texts) : Type 0 where
   pub policy : length texts.policy.items ≤ MAX_POLICY_BYTES
   pub trace : length texts.trace.items ≤ MAX_TRACE_BYTES
+  pub certificates : length texts.certificates.items ≤ MAX_CERTIFICATE_BYTES

@@ -203,8 +203,17 @@ pub fn make(alloc: Global, seed: u64, size: u32) -> Result<Answer, Stop>
     ensures shown { IfOk result CanBePut }
     ensures memory { IfErr result (λ why. why ≡ stop.Memory) }
 {
+    Ok(Answer::Made(made_text(alloc, seed, size)?))
+}
+
+/// The text of that trace.
+fn made_text(alloc: Global, seed: u64, size: u32) -> Result<Vec<u8>, Stop>
+    requires { IsTrue (is_size size) }
+    ensures text { IfOk result (λ text. IsMade seed size text.items) }
+    ensures memory { IfErr result (λ why. why ≡ stop.Memory) }
+{
     let trace = make_trace(alloc, seed, size).map_err(|_| Stop::Memory)?;
-    Ok(Answer::Made(print_trace(alloc, &trace)?))
+    Ok(print_trace(alloc, &trace)?)
 }
 
 /// The answer of `bench`: what the trace of so many threads, which the seed determines, comes to under the policy

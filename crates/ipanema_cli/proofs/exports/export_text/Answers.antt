@@ -1,6 +1,5 @@
 use Rattle.std.proofs.Common.{inr, refl}
 use Rattle.policy_tree.specs.Meaning.{meaning_of}
-use Rattle.policy_answers.specs.Checks.{IsCheckOf}
 use Rattle.ipanema_cli.proofs.Failing.{if_failed}
 use Rattle.ipanema_cli.proofs.exports.export_text.Goals as goal
 
@@ -10,6 +9,3 @@ returns-in_err-exported_of-in-Ok-clause-memory c = if_failed _ c.from_residual-i
 pub returns-in_ok-exported_of-in-Ok-clause-answer : goal.returns-in_ok-exported_of-in-Ok-clause-answer
 returns-in_ok-exported_of-in-Ok-clause-answer c =
     inr (c.in_ok-exported_of-in-Ok.field-0, refl, (meaning_of c.in-Ok.accepted, c.in-Ok.ensures.accepted c.args.policy.now c.in_ok-check_text.ensures, c.in_ok-exported_of-in-Ok.ensures))
-
-pub returns-in-Err-clause-answer : goal.returns-in-Err-clause-answer
-returns-in-Err-clause-answer c = (subst (IsCheckOf c.args.policy.now) (sym c.in-Err.ensures.refused.0) c.in_ok-check_text.ensures, c.in-Err.ensures.refused.1)
