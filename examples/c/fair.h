@@ -17,7 +17,8 @@
  *   moved. They are moved out of the victim's queue, the best first. The
  *   one that runs stays.
  * - The next round begins once each core has made its attempt.
- * No proof speaks of C: this text is only tested.
+ * No proof of this project speaks of C. tools/prove_c has frama-c prove
+ * that each function is the policy's rule.
  */
 #ifndef fair_POLICY_H
 #define fair_POLICY_H
@@ -38,6 +39,9 @@
 #pragma GCC diagnostic ignored "-Wtautological-compare"
 #endif
 
+/* 1 where the policy was accepted, 0 in a draft. */
+#define fair_ACCEPTED 1
+
 #define fair_NR_MAX 1023
 #define fair_LOAD_MAX 8184
 #define fair_WEIGHT_MIN 1
@@ -50,7 +54,7 @@
 #define fair_CORE_ATTRS(X)
 #define fair_THREAD_ATTRS(X) X(used)
 
-/* 1 where a rule is computed in __int128, which compilers for 32 bits and for BPF don't have, else 0. */
+/* 1 where a rule is computed in __int128, which compilers for 32 bits and for BPF lack, else 0. */
 #define fair_WIDE 0
 
 /* A core, as another core may see it. */
@@ -129,7 +133,7 @@ fair_elect_before(const struct fair_thread *a, const struct fair_thread *b)
 	return false;
 }
 
-/* A thread enters self's queue: it is fresh where it is new, and not where it wakes. A steal doesn't call this. */
+/* A thread enters self's queue, fresh where it is new, not where it wakes. No steal calls this. */
 static inline enum fair_put
 fair_on_enqueue(const struct fair_core *self, struct fair_thread *thread, bool fresh)
 {

@@ -17,7 +17,8 @@
  *   moved. They are moved out of the victim's queue, the best first. The
  *   one that runs stays.
  * - The next round begins once each core has made its attempt.
- * No proof speaks of C: this text is only tested.
+ * No proof of this project speaks of C. tools/prove_c has frama-c prove
+ * that each function is the policy's rule.
  */
 #ifndef numa_POLICY_H
 #define numa_POLICY_H
@@ -38,6 +39,9 @@
 #pragma GCC diagnostic ignored "-Wtautological-compare"
 #endif
 
+/* 1 where the policy was accepted, 0 in a draft. */
+#define numa_ACCEPTED 1
+
 #define numa_NR_MAX 1023
 #define numa_LOAD_MAX 1023
 #define numa_WEIGHT_MIN 1
@@ -50,7 +54,7 @@
 #define numa_CORE_ATTRS(X) X(node)
 #define numa_THREAD_ATTRS(X)
 
-/* 1 where a rule is computed in __int128, which compilers for 32 bits and for BPF don't have, else 0. */
+/* 1 where a rule is computed in __int128, which compilers for 32 bits and for BPF lack, else 0. */
 #define numa_WIDE 0
 
 /* A core, as another core may see it. */
@@ -125,7 +129,7 @@ numa_elect_before(const struct numa_thread *a, const struct numa_thread *b)
 	return false;
 }
 
-/* A thread enters self's queue: it is fresh where it is new, and not where it wakes. A steal doesn't call this. */
+/* A thread enters self's queue, fresh where it is new, not where it wakes. No steal calls this. */
 static inline enum numa_put
 numa_on_enqueue(const struct numa_core *self, struct numa_thread *thread, bool fresh)
 {

@@ -68,7 +68,8 @@ guarded_texts p c =
 -- The cases, the first of them first. Behind one that always holds no other is asked.
 abbrev pub cases_texts : Meaning → List CaseTree → List (List ℕ)
 cases_texts p [] =
-    codes "\t/* Not reached: of an accepted policy one case holds. */\n\treturn " ∷ p.name ∷ codes "_put_queue;\n" ∷ []
+    codes "\t/* Not reached: of a policy that can be played one case holds. */\n\treturn " ∷ p.name
+    ∷ codes "_put_queue;\n" ∷ []
 cases_texts p (c ∷ cases) =
     if is_always c.guard then outcome_texts p (codes "\t") c else (guarded_texts p c ++ cases_texts p cases)
 

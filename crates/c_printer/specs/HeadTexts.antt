@@ -2,6 +2,8 @@
 use Rattle.std.specs.Prelude.{ℕ, List, [], ◌∷◌, codes, decimal}
 use Rattle.sched_base.specs.declared.limits.TheConstants.{MAX_THREADS}
 use Rattle.policy_tree.specs.Meaning.{Meaning}
+use Rattle.c_printer.specs.declared.words.HeaderKind.{HeaderKind}
+use Rattle.c_printer.specs.WordTexts.{accepted_text}
 
 -- what an attempt is in the model
 abbrev pub attempt_texts : List (List ℕ)
@@ -14,7 +16,8 @@ attempt_texts =
     ∷ codes " *   moved. They are moved out of the victim's queue, the best first. The\n"
     ∷ codes " *   one that runs stays.\n"
     ∷ codes " * - The next round begins once each core has made its attempt.\n"
-    ∷ codes " * No proof speaks of C: this text is only tested.\n */\n" ∷ []
+    ∷ codes " * No proof of this project speaks of C. tools/prove_c has frama-c prove\n"
+    ∷ codes " * that each function is the policy's rule.\n */\n" ∷ []
 
 -- what is so in the model, of which the laws of accepted policies are proved
 abbrev pub owed_texts : List (List ℕ)
@@ -28,7 +31,7 @@ owed_texts =
     ∷ codes " * - Weights and attributes lie in their ranges. Neither weights nor the\n"
     ∷ codes " *   attributes of cores change.\n" ∷ attempt_texts
 
--- the comment at the head
+-- the comment at the head of an accepted policy's header
 abbrev pub comment_texts : Meaning → List (List ℕ)
 comment_texts p =
     codes "/*\n * The scheduling policy " ∷ p.name ∷ codes " as C99, printed from its text. Change the text,\n"
@@ -46,6 +49,12 @@ head_texts p =
     ∷ codes "#ifdef __GNUC__\n#pragma GCC diagnostic push\n"
     ∷ codes "#pragma GCC diagnostic ignored \"-Wunused-parameter\"\n"
     ∷ codes "#pragma GCC diagnostic ignored \"-Wtautological-compare\"\n#endif\n" ∷ []
+
+-- whether the policy was accepted, for whoever includes the header
+abbrev pub accepted_texts : HeaderKind → Meaning → List (List ℕ)
+accepted_texts kind p =
+    codes "\n/* 1 where the policy was accepted, 0 in a draft. */\n#define " ∷ p.name ∷ codes "_ACCEPTED "
+    ∷ accepted_text kind ∷ []
 
 abbrev pub foot_texts : List (List ℕ)
 foot_texts = codes "\n#ifdef __GNUC__\n#pragma GCC diagnostic pop\n#endif\n\n#endif\n" ∷ []

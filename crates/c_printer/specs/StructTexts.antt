@@ -54,7 +54,7 @@ digit_text false = codes "0\n"
 -- whether a compiler without `__int128` can take the header
 abbrev pub wide_texts : Meaning → List (List ℕ)
 wide_texts p =
-    codes "\n/* 1 where a rule is computed in __int128, which compilers for 32 bits and for BPF don't have, else 0. */\n"
+    codes "\n/* 1 where a rule is computed in __int128, which compilers for 32 bits and for BPF lack, else 0. */\n"
     ∷ codes "#define " ∷ p.name ∷ codes "_WIDE " ∷ digit_text (is_wide_policy p) ∷ []
 
 -- a field with its range

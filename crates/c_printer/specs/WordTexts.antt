@@ -6,10 +6,17 @@ use Rattle.policy_tree.specs.declared.typed.Event.{Event}
 use Rattle.policy_tree.specs.declared.typed.Event.TheVariants as event
 use Rattle.policy_tree.specs.declared.typed.Put.{Put}
 use Rattle.policy_tree.specs.declared.typed.Put.TheVariants as put
+use Rattle.c_printer.specs.declared.words.HeaderKind.{HeaderKind}
+use Rattle.c_printer.specs.declared.words.HeaderKind.TheVariants as header
 use Rattle.c_printer.specs.declared.words.View.{View}
 use Rattle.c_printer.specs.declared.words.View.TheVariants as view
 use Rattle.c_printer.specs.declared.words.Width.{Width}
 use Rattle.c_printer.specs.declared.words.Width.TheVariants as width
+
+-- whether the policy was accepted, as a macro says it
+abbrev pub accepted_text : HeaderKind → List ℕ
+accepted_text header.Accepted = codes "1\n"
+accepted_text header.Draft = codes "0\n"
 
 -- the core that is asked about
 abbrev pub other_word : View → List ℕ
@@ -67,7 +74,7 @@ event_text event.Block = codes "block"
 -- when the event comes
 abbrev pub event_comment : Event → List ℕ
 event_comment event.Enqueue =
-    codes "\n/* A thread enters self's queue: it is fresh where it is new, and not where it wakes. A steal doesn't call this. */\n"
+    codes "\n/* A thread enters self's queue, fresh where it is new, not where it wakes. No steal calls this. */\n"
 event_comment event.Tick = codes "\n/* The thread that runs on self has run a while, and isn't done. */\n"
 event_comment event.Yield = codes "\n/* The thread that runs on self yields. */\n"
 event_comment event.Block = codes "\n/* The thread that runs on self blocks. */\n"

@@ -55,7 +55,9 @@ impl Printer {
             }
             self.guarded(policy, case)?;
         }
-        self.word("\t/* Not reached: of an accepted policy one case holds. */\n\treturn ")?;
+        self.word(
+            "\t/* Not reached: of a policy that can be played one case holds. */\n\treturn ",
+        )?;
         self.name(policy.name.as_slice())?;
         self.word("_put_queue;\n")
     }

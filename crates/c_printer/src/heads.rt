@@ -3,9 +3,11 @@
 ghost use Rattle.std.specs.Prelude.{OnOk};
 ghost use Rattle.policy_tree.specs.Meaning.{meaning_of};
 ghost use Rattle.c_printer.specs.Adds.{Prints};
-ghost use Rattle.c_printer.specs.HeadTexts.{attempt_texts, comment_texts, foot_texts, head_texts, owed_texts};
+ghost use Rattle.c_printer.specs.HeadTexts.{accepted_texts, attempt_texts, comment_texts, foot_texts, head_texts};
+ghost use Rattle.c_printer.specs.HeadTexts.{owed_texts};
 
 use crate::printer::Printer;
+use crate::words::{HeaderKind, accepted_text};
 use policy_tree::Policy;
 use sched_base::MAX_THREADS;
 use std::alloc::AllocError;
@@ -52,7 +54,8 @@ impl Printer {
         self.word(" *   moved. They are moved out of the victim's queue, the best first. The\n")?;
         self.word(" *   one that runs stays.\n")?;
         self.word(" * - The next round begins once each core has made its attempt.\n")?;
-        self.word(" * No proof speaks of C: this text is only tested.\n */\n")
+        self.word(" * No proof of this project speaks of C. tools/prove_c has frama-c prove\n")?;
+        self.word(" * that each function is the policy's rule.\n */\n")
     }
 
     /// What the functions need of the compiler.
@@ -72,6 +75,16 @@ impl Printer {
         self.word("#ifdef __GNUC__\n#pragma GCC diagnostic push\n")?;
         self.word("#pragma GCC diagnostic ignored \"-Wunused-parameter\"\n")?;
         self.word("#pragma GCC diagnostic ignored \"-Wtautological-compare\"\n#endif\n")
+    }
+
+    /// Whether the policy was accepted, as a macro.
+    pub(crate) fn accepted(&mut self, policy: &Policy, kind: HeaderKind) -> Result<(), AllocError>
+        ensures { OnOk result (Prints (accepted_texts kind (meaning_of policy.now)) self.old self.new) }
+    {
+        self.word("\n/* 1 where the policy was accepted, 0 in a draft. */\n#define ")?;
+        self.name(policy.name.as_slice())?;
+        self.word("_ACCEPTED ")?;
+        self.word(accepted_text(kind))
     }
 
     pub(crate) fn foot(&mut self) -> Result<(), AllocError>

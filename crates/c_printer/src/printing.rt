@@ -3,9 +3,10 @@
 ghost use Rattle.std.specs.Prelude.{◌≡◌, IfOk, OnOk};
 ghost use Rattle.policy_tree.specs.Meaning.{meaning_of};
 ghost use Rattle.c_printer.specs.Adds.{Prints};
-ghost use Rattle.c_printer.specs.CText.{c_text, events_texts, header_texts, rules_texts};
+ghost use Rattle.c_printer.specs.CText.{body_texts, c_body, c_text, events_texts, header_texts, rules_texts};
 
 use crate::printer::Printer;
+use crate::words::HeaderKind;
 use policy_tree::{Event, Policy};
 use std::alloc::{AllocError, Global};
 
@@ -22,12 +23,33 @@ pub fn c_text(alloc: Global, policy: &Policy) -> Result<Vec<u8>, AllocError>
     Ok(bytes)
 }
 
+/// The same without the comment at its head, of that kind. In both kinds it is the same but for the macro that tells
+/// them apart.
+pub fn c_body(alloc: Global, policy: &Policy, kind: HeaderKind) -> Result<Vec<u8>, AllocError>
+    ensures { IfOk result (λ text. text.items ≡ c_body kind (meaning_of policy.now)) }
+{
+    let mut printer = Printer {
+        bytes: Vec::new(alloc),
+    };
+    printer.body(policy, kind)?;
+    let Printer { bytes } = printer;
+    Ok(bytes)
+}
+
 impl Printer {
     fn header(&mut self, policy: &Policy) -> Result<(), AllocError>
         ensures { OnOk result (Prints (header_texts (meaning_of policy.now)) self.old self.new) }
     {
         self.comment(policy)?;
+        self.body(policy, HeaderKind::Accepted)
+    }
+
+    /// All but the comment at the head.
+    fn body(&mut self, policy: &Policy, kind: HeaderKind) -> Result<(), AllocError>
+        ensures { OnOk result (Prints (body_texts kind (meaning_of policy.now)) self.old self.new) }
+    {
         self.head(policy)?;
+        self.accepted(policy, kind)?;
         self.structs(policy)?;
         self.rules(policy)?;
         self.events(policy)?;

@@ -163,7 +163,7 @@ impl Printer {
         ensures { OnOk result (Prints (wide_texts (meaning_of policy.now)) self.old self.new) }
     {
         self.word(
-            "\n/* 1 where a rule is computed in __int128, which compilers for 32 bits and for BPF don't have, else 0. */\n",
+            "\n/* 1 where a rule is computed in __int128, which compilers for 32 bits and for BPF lack, else 0. */\n",
         )?;
         self.word("#define ")?;
         self.name(policy.name.as_slice())?;

@@ -1,11 +1,20 @@
 //! How things stand to one another in C, and the words for what a policy has as data.
 
 ghost use Rattle.std.specs.Prelude.{◌≡◌};
-ghost use Rattle.c_printer.specs.WordTexts.{begin_text, cast_text, closing_text, compare_text, end_text};
+ghost use Rattle.c_printer.specs.WordTexts.{accepted_text, begin_text, cast_text, closing_text, compare_text, end_text};
 ghost use Rattle.c_printer.specs.WordTexts.{event_comment, event_text, fresh_text, minus_text, opening_text};
 ghost use Rattle.c_printer.specs.WordTexts.{other_word, put_text, suffix_text, thread_word};
 
 use policy_tree::{Cmp, Event, Put};
+
+/// Of which policies a header is.
+#[derive(Clone, Copy)]
+pub enum HeaderKind {
+    /// Of one that was accepted.
+    Accepted,
+    /// Of one that may not be, for lectures and tries.
+    Draft,
+}
 
 /// Which core or thread is asked about.
 #[derive(Clone, Copy)]
@@ -51,6 +60,16 @@ pub(crate) enum Place {
     Right,
     /// Behind `!`.
     Negated,
+}
+
+/// What a macro says of the header's kind.
+pub(crate) fn accepted_text(kind: HeaderKind) -> &'static str
+    ensures { result.now ≡ accepted_text kind }
+{
+    match kind {
+        HeaderKind::Accepted => "1\n",
+        HeaderKind::Draft => "0\n",
+    }
 }
 
 pub(crate) fn other_word(view: View) -> &'static str
@@ -148,7 +167,7 @@ pub(crate) fn event_comment(event: Event) -> &'static str
 {
     match event {
         Event::Enqueue => {
-            "\n/* A thread enters self's queue: it is fresh where it is new, and not where it wakes. A steal doesn't call this. */\n"
+            "\n/* A thread enters self's queue, fresh where it is new, not where it wakes. No steal calls this. */\n"
         }
         Event::Tick => "\n/* The thread that runs on self has run a while, and isn't done. */\n",
         Event::Yield => "\n/* The thread that runs on self yields. */\n",

@@ -4,8 +4,9 @@ use Rattle.std.proofs.Common.{option_and_then, option_map}
 use Rattle.std.specs.List.{list_all}
 use Rattle.std.specs.Str.{bytes_eq}
 use Rattle.obligations.specs.declared.names.ObName.{ObName}
-use Rattle.command_words.specs.Command.{Asked, asked_by, asked_plainly, bench, bound, check, crew, emit, explain, is_plain}
-use Rattle.command_words.specs.Command.{make, migrate, name_of, play, prove, replay, report, run, simulate, verify, waste, rest}
+use Rattle.command_words.specs.Command.{Asked, asked_by, asked_plainly, bench, bound, check, crew, draft, emit, explain}
+use Rattle.command_words.specs.Command.{is_plain, make, migrate, name_of, play, prove, replay, report, rest, run}
+use Rattle.command_words.specs.Command.{simulate, verify, waste}
 use Rattle.command_words.specs.Numbers.{is_crew, is_size, seed_in, size_in, workers_in}
 
 -- if a trace is to be made, its size is one, and if one is to be played too, and the workers of a crew are so many
@@ -91,6 +92,13 @@ rested policy = record { made = λ s n e. absurd (let bad = e in cc); benched = 
 emitted : (policy : List ℕ) → IsSized (Some (emit policy))
 emitted policy = record { made = λ s n e. absurd (let bad = e in cc); benched = λ s n e. absurd (let bad = e in cc); crewed = λ p t n e. absurd (let bad = e in cc) }
 
+drafted : (policy : List ℕ) → IsSized (Some (draft policy))
+drafted policy = record {
+  made = λ s n e. absurd (let bad = e in cc);
+  benched = λ s n e. absurd (let bad = e in cc);
+  crewed = λ p t n e. absurd (let bad = e in cc);
+}
+
 crewed : (policy trace : List ℕ) (word : List ℕ) → IsSized (option_map (crew policy trace) (workers_in word))
 crewed policy trace word = by (seed_in word)
   where
@@ -154,7 +162,8 @@ plainly (verb ∷ a ∷ []) =
     (either (bytes_eq (codes "prove") verb) _ _ (proved a)
     (either (bytes_eq (codes "bound") verb) _ _ (bounded a)
     (either (bytes_eq (codes "rest") verb) _ _ (rested a)
-    (either (bytes_eq (codes "emit") verb) _ _ (emitted a) nothing))))
+    (either (bytes_eq (codes "emit") verb) _ _ (emitted a)
+    (either (bytes_eq (codes "draft") verb) _ _ (drafted a) nothing)))))
 plainly (verb ∷ a ∷ b ∷ []) =
     either (bytes_eq (codes "explain") verb) _ _ (explained a (name_of b))
     (either (bytes_eq (codes "verify") verb) _ _ (verified a b)

@@ -74,6 +74,13 @@ emit (one a) = simp a.plain
 emit (two a b) = simp (a.plain, b.plain)
 emit (three a b c) = simp (a.plain, b.plain, c.plain)
 
+draft : (behind : Behind) → AgreesAt (codes "draft" ∷ texts behind)
+unfolding clap_on_literals
+draft none = refl
+draft (one a) = simp a.plain
+draft (two a b) = simp (a.plain, b.plain)
+draft (three a b c) = simp (a.plain, b.plain, c.plain)
+
 explain : (behind : Behind) → AgreesAt (codes "explain" ∷ texts behind)
 unfolding clap_on_literals
 explain none = refl
@@ -165,6 +172,7 @@ other : (v : Word) (behind : Behind)
     → bytes_eq (codes "bound") (text v) ≡ false
     → bytes_eq (codes "rest") (text v) ≡ false
     → bytes_eq (codes "emit") (text v) ≡ false
+    → bytes_eq (codes "draft") (text v) ≡ false
     → bytes_eq (codes "explain") (text v) ≡ false
     → bytes_eq (codes "verify") (text v) ≡ false
     → bytes_eq (codes "play") (text v) ≡ false
@@ -179,10 +187,13 @@ other : (v : Word) (behind : Behind)
     → bytes_eq (codes "bench") (text v) ≡ false
     → AgreesAt (text v ∷ texts behind)
 unfolding clap_on_literals
-other v none a b c d e f g h i j k l m n o p q = simp (v.plain, a, b, c, d, e, f, g, h, i, j, k, l, m, n, o, p, q)
-other v (one w) a b c d e f g h i j k l m n o p q = simp (v.plain, w.plain, a, b, c, d, e, f, g, h, i, j, k, l, m, n, o, p, q)
-other v (two w x) a b c d e f g h i j k l m n o p q = simp (v.plain, w.plain, x.plain, a, b, c, d, e, f, g, h, i, j, k, l, m, n, o, p, q)
-other v (three w x y) a b c d e f g h i j k l m n o p q = simp (v.plain, w.plain, x.plain, y.plain, a, b, c, d, e, f, g, h, i, j, k, l, m, n, o, p, q)
+other v none a b c d e f g h i j k l m n o p q r = simp (v.plain, a, b, c, d, e, f, g, h, i, j, k, l, m, n, o, p, q, r)
+other v (one w) a b c d e f g h i j k l m n o p q r =
+    simp (v.plain, w.plain, a, b, c, d, e, f, g, h, i, j, k, l, m, n, o, p, q, r)
+other v (two w x) a b c d e f g h i j k l m n o p q r =
+    simp (v.plain, w.plain, x.plain, a, b, c, d, e, f, g, h, i, j, k, l, m, n, o, p, q, r)
+other v (three w x y) a b c d e f g h i j k l m n o p q r =
+    simp (v.plain, w.plain, x.plain, y.plain, a, b, c, d, e, f, g, h, i, j, k, l, m, n, o, p, q, r)
 
 -- the verb is this one, or it isn't
 at_verb : (verb word : Text) (P : Text → Type 0) → P verb → (bytes_eq verb word ≡ false → P word) → P word
@@ -200,19 +211,20 @@ with_verb v behind =
     at_verb (codes "bound") (text v) P (bound behind) (λ c.
     at_verb (codes "rest") (text v) P (rested behind) (λ d.
     at_verb (codes "emit") (text v) P (emit behind) (λ e.
-    at_verb (codes "explain") (text v) P (explain behind) (λ f.
-    at_verb (codes "verify") (text v) P (verify behind) (λ g.
-    at_verb (codes "play") (text v) P (play behind) (λ h.
-    at_verb (codes "run") (text v) P (run behind) (λ i.
-    at_verb (codes "simulate") (text v) P (simulate behind) (λ j.
-    at_verb (codes "waste") (text v) P (waste behind) (λ k.
-    at_verb (codes "crew") (text v) P (crew behind) (λ l.
-    at_verb (codes "replay") (text v) P (replay behind) (λ m.
-    at_verb (codes "report") (text v) P (report behind) (λ n.
-    at_verb (codes "migrate") (text v) P (migrate behind) (λ o.
-    at_verb (codes "make") (text v) P (make behind) (λ p.
-    at_verb (codes "bench") (text v) P (bench behind) (λ q.
-    other v behind a b c d e f g h i j k l m n o p q)))))))))))))))))
+    at_verb (codes "draft") (text v) P (draft behind) (λ f.
+    at_verb (codes "explain") (text v) P (explain behind) (λ g.
+    at_verb (codes "verify") (text v) P (verify behind) (λ h.
+    at_verb (codes "play") (text v) P (play behind) (λ i.
+    at_verb (codes "run") (text v) P (run behind) (λ j.
+    at_verb (codes "simulate") (text v) P (simulate behind) (λ k.
+    at_verb (codes "waste") (text v) P (waste behind) (λ l.
+    at_verb (codes "crew") (text v) P (crew behind) (λ m.
+    at_verb (codes "replay") (text v) P (replay behind) (λ n.
+    at_verb (codes "report") (text v) P (report behind) (λ o.
+    at_verb (codes "migrate") (text v) P (migrate behind) (λ p.
+    at_verb (codes "make") (text v) P (make behind) (λ q.
+    at_verb (codes "bench") (text v) P (bench behind) (λ r.
+    other v behind a b c d e f g h i j k l m n o p q r))))))))))))))))))
 
 no_words : AgreesAt []
 unfolding clap_on_literals

@@ -1,9 +1,9 @@
 -- What a request asks for.
 use Rattle.std.specs.Prelude.{Option, Some, None}
-use Rattle.command_words.specs.Command.{Asked, bench, bound, check, crew, emit, explain, make, migrate}
+use Rattle.command_words.specs.Command.{Asked, bench, bound, check, crew, draft, emit, explain, make, migrate}
 use Rattle.command_words.specs.Command.{play, prove, replay, report, run, simulate, verify, waste, rest}
 use Rattle.command_words.specs.declared.request.Request.{Request}
-use Rattle.command_words.specs.declared.request.Request.TheVariants.{Bench, Bound, Check, Crew, Emit, Explain}
+use Rattle.command_words.specs.declared.request.Request.TheVariants.{Bench, Bound, Check, Crew, Draft, Emit, Explain}
 use Rattle.command_words.specs.declared.request.Request.TheVariants.{Make, Migrate, Play, Prove, Replay, Report}
 use Rattle.command_words.specs.declared.request.Request.TheVariants.{Run, Simulate, Unknown, Verify, Waste, Rest}
 
@@ -14,6 +14,7 @@ asked (Prove policy) = Some (prove policy.now)
 asked (Bound policy) = Some (bound policy.now)
 asked (Rest policy) = Some (rest policy.now)
 asked (Emit policy) = Some (emit policy.now)
+asked (Draft policy) = Some (draft policy.now)
 asked (Verify policy certs) = Some (verify policy.now certs.now)
 asked (Play policy trace) = Some (play policy.now trace.now)
 asked (Run policy trace) = Some (run policy.now trace.now)

@@ -21,6 +21,8 @@ pub data Asked : Type 0 where
   rest : (policy : List ℕ) → Asked
   -- to write the rules of the policy in this file as a header in C
   emit : (policy : List ℕ) → Asked
+  -- to write them too where only its handlers need be right, as a draft where it isn't accepted
+  draft : (policy : List ℕ) → Asked
   -- to verify by the certificates in the second file that the policy in the first meets its obligations
   verify : (policy certs : List ℕ) → Asked
   -- to play the trace in one file under the policy in the other
@@ -77,6 +79,7 @@ asked_by_one verb policy =
     else if bytes_eq (codes "bound") verb then Some (bound policy)
     else if bytes_eq (codes "rest") verb then Some (rest policy)
     else if bytes_eq (codes "emit") verb then Some (emit policy)
+    else if bytes_eq (codes "draft") verb then Some (draft policy)
     else None
 
 -- those of a verb and two words
@@ -127,6 +130,7 @@ IsSerial (Some (prove policy)) = Unit {0}
 IsSerial (Some (bound policy)) = Unit {0}
 IsSerial (Some (rest policy)) = Unit {0}
 IsSerial (Some (emit policy)) = Unit {0}
+IsSerial (Some (draft policy)) = Unit {0}
 IsSerial (Some (verify policy certs)) = Unit {0}
 IsSerial (Some (play policy trace)) = Unit {0}
 IsSerial (Some (run policy trace)) = ⊥

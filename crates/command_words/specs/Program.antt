@@ -6,8 +6,9 @@ use Rattle.std.specs.Str.{bytes_eq}
 use Rattle.clap.specs.Words.{App, Row, Rule, Shape, Text, first_of, new_rule, with_subcommand}
 use Rattle.clap.specs.Simple.{new_shape}
 use Rattle.clap.specs.declared.builder.ArgAction.TheVariants.{Set}
-use Rattle.command_words.specs.Command.{Asked, benched_by, bound, check, crewed_by, emit, explain, made_by}
-use Rattle.command_words.specs.Command.{migrate, name_of, play, prove, replay, report, run, simulate, verify, waste, rest}
+use Rattle.command_words.specs.Command.{Asked, benched_by, bound, check, crewed_by, draft, emit, explain}
+use Rattle.command_words.specs.Command.{made_by, migrate, name_of, play, prove, replay, report, rest, run, simulate}
+use Rattle.command_words.specs.Command.{verify, waste}
 
 -- a word that has to be there
 abbrev pub wanted : Text → Rule
@@ -38,6 +39,7 @@ policy_commands =
     ∷ command_of (codes "bound") (codes "POLICY" ∷ [])
     ∷ command_of (codes "rest") (codes "POLICY" ∷ [])
     ∷ command_of (codes "emit") (codes "POLICY" ∷ [])
+    ∷ command_of (codes "draft") (codes "POLICY" ∷ [])
     ∷ command_of (codes "explain") (codes "POLICY" ∷ codes "NAME" ∷ [])
     ∷ command_of (codes "verify") (codes "POLICY" ∷ codes "CERTS" ∷ [])
     ∷ []
@@ -86,6 +88,7 @@ asked_in verb rows =
     else if bytes_eq verb (codes "bound") then Some (bound (word_in rows (codes "POLICY")))
     else if bytes_eq verb (codes "rest") then Some (rest (word_in rows (codes "POLICY")))
     else if bytes_eq verb (codes "emit") then Some (emit (word_in rows (codes "POLICY")))
+    else if bytes_eq verb (codes "draft") then Some (draft (word_in rows (codes "POLICY")))
     else if bytes_eq verb (codes "explain") then
     option_map (explain (word_in rows (codes "POLICY"))) (name_of (word_in rows (codes "NAME")))
     else if bytes_eq verb (codes "verify") then

@@ -43,12 +43,17 @@ pub enum Request<'a> {
     Bound {
         policy: &'a str,
     },
-    /// To tell how far the loads of cores may differ of which none can steal from another under the policy in this file.
+    /// To tell how far the loads of cores may differ of which none can steal from another, under the policy in this
+    /// file.
     Rest {
         policy: &'a str,
     },
     /// To write the rules of the policy in this file as a header in C.
     Emit {
+        policy: &'a str,
+    },
+    /// To write them too where only its handlers need be right, as a draft where it isn't accepted.
+    Draft {
         policy: &'a str,
     },
     /// To verify by the certificates in the second file that the policy in the first meets its obligations.
@@ -147,6 +152,7 @@ fn request_in<'a>(verb: &str, words: &ArgMatches<'a>) -> Request<'a>
         "bound" => Request::Bound { policy },
         "rest" => Request::Rest { policy },
         "emit" => Request::Emit { policy },
+        "draft" => Request::Draft { policy },
         "explain" => explanation_of(policy, word_in(words, "NAME")),
         "verify" => Request::Verify {
             policy,

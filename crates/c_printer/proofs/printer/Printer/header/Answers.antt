@@ -2,7 +2,4 @@ use Rattle.c_printer.proofs.AddsLemmas.{given_ok, ◌⊳◌}
 use Rattle.c_printer.proofs.printer.Printer.header.Goals as goal
 
 pub returns : goal.returns
-returns c =
-    given_ok c.foot.result c.foot.ensures
-    (λ last. c.in_ok-comment.ensures ⊳ c.in_ok-head.ensures ⊳ c.in_ok-structs.ensures ⊳ c.in_ok-rules.ensures ⊳
-    c.in_ok-events.ensures ⊳ last)
+returns c = given_ok c.body.result c.body.ensures (λ last. c.in_ok-comment.ensures ⊳ last)
