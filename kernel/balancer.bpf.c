@@ -1,6 +1,6 @@
 // SPDX-License-Identifier: GPL-2.0
-/* A sched_ext scheduler over any policy: the compiler is told the header that `emit` wrote, and the policy's name as
- * POLICY.
+/* A sched_ext scheduler over any policy: the compiler is told the header that `emit` or `draft` wrote, and the policy's
+ * name as POLICY.
  *
  * The model goes in rounds. A round opens when every core has made its attempt, and then each core has its turn
  * (round.h, turn.h). A CPU doesn't rest while the others make theirs: it runs ahead. The thread that would be elected
@@ -302,5 +302,5 @@ struct sched_ext_ops balancer = {
 	.enable = (void *)enable, .disable = (void *)disable, .init = (void *)init, .exit = (void *)gone,
 	.flags = SCX_OPS_SWITCH_PARTIAL | SCX_OPS_ENQ_LAST,
 	.timeout_ms = 30000,		/* of the watchdog; the kernel takes no more */
-	.name = TEXT(POLICY),
+	.name = SCHEDULER,
 };

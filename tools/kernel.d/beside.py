@@ -1,8 +1,5 @@
 """The same workloads under a policy and under Linux's own scheduler, measured by one recorder: the kernel's own
 tracing.
-
-A thread waits from when it is woken, or stopped though it could run on, until it runs. Core time is wasted while a CPU
-is idle and a thread waits, by as many as both are. A migration is a thread that is moved to another CPU.
 """
 
 import re
@@ -15,80 +12,29 @@ from building import build_scheduler
 from common import write
 from guests import Job, answer_of, boot
 from places import TOP, WORKLOADS, Refused
+from tracing import TRACED, read_trace
 
 POLICIES = ["numa", "fair"]
 OWN = "Linux"
 SHOWN = ["crowd", "mixed", "short", "forks", "hog"]
 TIMES, SECONDS = 3, 30
-OURS = "loader"                 # the name of all threads of a workload
 
 Measured = namedtuple("Measured", "seconds wasted migrations")
 
-TRACED = """cd /sys/kernel/tracing; echo 0 > tracing_on; echo 16384 > buffer_size_kb; echo > trace
-for event in sched_switch sched_wakeup sched_wakeup_new sched_migrate_task; do echo 1 > events/sched/$event/enable; done
-echo 1 > tracing_on; {call} > /tmp/said; echo 0 > tracing_on
-cat /tmp/said /tmp/made 2>/dev/null | grep -E '^(run|took) '
-grep -v '^#' trace > /tmp/record; rm -f /tmp/made"""
-
-LINE = re.compile(r"\[(\d+)\] \S+ +([\d.]+): (\w+): (.*)")
-SWITCH = re.compile(r"prev_comm=(.*) prev_pid=(\d+) prev_prio=\S+ prev_state=(\S+) ==> next_comm=(.*) next_pid=(\d+) ")
-WOKEN = re.compile(r"comm=(.*) pid=(\d+) ")
-
-
-class Clock:
-    """Who runs and who waits, as the trace tells it, and the core time that was wasted so far."""
-
-    def __init__(self, cpus):
-        self.idle, self.waiting, self.at = set(range(cpus)), set(), None
-        self.wasted, self.migrations = 0.0, 0
-
-    def pass_to(self, now):
-        if self.at is not None:
-            self.wasted += min(len(self.idle), len(self.waiting)) * (now - self.at)
-        self.at = now
-
-    def switch(self, cpu, rest):
-        found = SWITCH.search(rest + " ")
-        if not found:
-            return
-        before, before_pid, state, after, after_pid = found.groups()
-        if before == OURS and state.startswith("R"):
-            self.waiting.add(before_pid)
-        if after_pid == "0":
-            self.idle.add(cpu)
-        else:
-            self.idle.discard(cpu)
-        if after == OURS:
-            self.waiting.discard(after_pid)
-
-    def take(self, cpu, now, event, rest):
-        self.pass_to(now)
-        woken = WOKEN.search(rest)
-        if event == "sched_switch":
-            self.switch(cpu, rest)
-        elif woken and woken[1] == OURS:
-            if event == "sched_migrate_task":
-                self.migrations += 1
-            else:
-                self.waiting.add(woken[2])
-
 
 def measure(answer, cpus):
-    """What the trace of one run says."""
-    took = re.search(r"^took ([\d.]+)", answer.output, re.M)
-    if not took or "run ended" not in answer.output:
-        raise Refused(f"a run under measurement didn't end: {answer.output.strip() or answer.error.strip()}")
-    clock = Clock(cpus)
-    for line in answer.record.splitlines():
-        found = LINE.search(line)
-        if found:
-            clock.take(int(found[1]), float(found[2]), found[3], found[4])
+    """What the trace of one run says. How the run ended is in the record, or where there is none in the output."""
+    told = answer.record or answer.output
+    took = re.search(r"^took ([\d.]+)", told, re.M)
+    if not took or not re.search("^run ended", told, re.M):
+        raise Refused(f"a run under measurement didn't end: {answer.error.strip() or 'it says nothing'}")
+    clock = read_trace(answer.output, cpus)
     return Measured(float(took[1]), clock.wasted, clock.migrations)
 
 
 def job_of(scheduler, workload, number):
     made = "none" if scheduler == OWN else f"/{scheduler}.bpf.o"
-    call = f"/loader {made} /tmp/made {SECONDS} /{workload}.txt"
+    call = f"/loader {made} /tmp/record {SECONDS} /{workload}.txt"
     return Job(f"{scheduler}-{workload}-{number}", TRACED.format(call=call))
 
 

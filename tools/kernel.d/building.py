@@ -9,11 +9,13 @@ from places import LIBRARIES, OUT, ROOT, SOURCES, VMLINUX, Refused, needed, run,
 BPF = ["--target=bpf", "-mcpu=v3", "-O2", "-g", "-Wall", "-Werror", "-fms-extensions", "-Wno-microsoft-anon-tag",
        "-Wno-unknown-warning-option", "-Wno-missing-declarations", "-D__TARGET_ARCH_x86"]
 LOADER = ["loader", "run", "record", "workload"]
+# What prints a header: of an accepted policy alone, or of each that can be played.
+EMIT, DRAFT = "emit", "draft"
 
 
-def header_of(policy):
-    """The header of the policy, which must be accepted."""
-    done = subprocess.run([PROGRAM, "emit", policy], stdout=subprocess.PIPE, stderr=subprocess.DEVNULL, check=False)
+def header_of(policy, verb=EMIT):
+    """The header of the policy, which must be accepted, or by `draft` one that can be played."""
+    done = subprocess.run([PROGRAM, verb, policy], stdout=subprocess.PIPE, stderr=subprocess.DEVNULL, check=False)
     if done.returncode:
         raise Refused(f"{policy}: {fault_in(done.stdout.decode('ascii', 'replace').splitlines(), done.returncode)}")
     return done.stdout.decode("ascii")
@@ -52,10 +54,10 @@ def compiler():
     return clang
 
 
-def build_scheduler(policy, folder, source=None, kernel=None):
+def build_scheduler(policy, folder, source=None, kernel=None, verb=EMIT):
     """Compiles the scheduler of the policy into the folder, and gives its file. Another source stands for a wrong
     scheduler. Where no kernel is named, it is compiled for the guest's."""
-    header = header_of(policy)
+    header = header_of(policy, verb)
     name = name_in(header)
     if f"#define {name}_WIDE 1" in header:
         raise Refused(f"{policy}: a rule of it needs numbers of 128 bits, which BPF doesn't have")
@@ -63,8 +65,9 @@ def build_scheduler(policy, folder, source=None, kernel=None):
     (folder / f"{name}.h").write_text(header)
     made = folder / f"{Path(policy).stem}.bpf.o"
     source = source or SOURCES
-    includes = ["-I", types_of(kernel, folder), "-I", ROOT / "usr/include", "-include", "vmlinux.h", "-include", folder / f"{name}.h"]
-    run([compiler(), *BPF, f"-DPOLICY={name}", *includes, "-c", source / "balancer.bpf.c", "-o", made],
+    includes = ["-I", types_of(kernel, folder), "-I", ROOT / "usr/include"]
+    included = ["-include", "vmlinux.h", "-include", folder / f"{name}.h"]
+    run([compiler(), *BPF, f"-DPOLICY={name}", *includes, *included, "-c", source / "balancer.bpf.c", "-o", made],
         f"{policy}: the scheduler can't be compiled")
     return made
 
@@ -75,7 +78,8 @@ def build_checker():
     checker, sources = OUT / "check", [SOURCES / "check.c", SOURCES / "workload.c"]
     if not checker.exists() or checker.stat().st_mtime < max(file.stat().st_mtime for file in SOURCES.glob("*.[ch]")):
         OUT.mkdir(parents=True, exist_ok=True)
-        run([needed("cc"), "-O2", "-Wall", "-Wextra", *sources, "-o", checker], "the workload's reader can't be compiled")
+        run([needed("cc"), "-O2", "-Wall", "-Wextra", *sources, "-o", checker],
+            "the workload's reader can't be compiled")
     return checker
 
 
@@ -86,6 +90,7 @@ def build_loader():
     if loader.exists() and loader.stat().st_mtime >= newest:
         return loader
     unpacked("usr/include/bpf/libbpf.h")
-    run([needed("cc"), "-O2", "-Wall", "-Wextra", "-static", "-I", ROOT / "usr/include", *sources, LIBRARIES / "libbpf.a",
-         LIBRARIES / "libelf.a", "-lz", "-lpthread", "-o", loader], "the loader can't be compiled")
+    libraries = [LIBRARIES / "libbpf.a", LIBRARIES / "libelf.a", "-lz", "-lpthread"]
+    run([needed("cc"), "-O2", "-Wall", "-Wextra", "-static", "-I", ROOT / "usr/include", *sources, *libraries,
+         "-o", loader], "the loader can't be compiled")
     return loader

@@ -10,7 +10,7 @@ from collections import defaultdict, namedtuple
 from pathlib import Path
 
 from ask_ipanema import ask, judge
-from places import Refused
+from common import Refused, keep
 
 ROUND, ENTER, WAKE, WORK, STEAL, FAIL, PASS, DEPARTURE = range(8)
 KEEP, QUEUE, BLOCK, END = range(1, 5)
@@ -144,7 +144,9 @@ def bursts_end(rounds):
 
 
 def ends_within_a_round(rounds, cores):
-    """Whether the record ended in the middle of a round. Where the round before it isn't complete, the judge has to see that."""
+    """Whether the record ended in the middle of a round. Where the one before it isn't complete, the judge has to see
+    that.
+    """
     return bool(rounds) and not is_complete(rounds[-1], cores) and (len(rounds) < 2 or is_complete(rounds[-2], cores))
 
 
@@ -199,13 +201,13 @@ def trace_lines(record, threads, rounds):
         yield f"thread {number} core {thread.core} round {thread.begun} weight {thread.weight} {program}"
 
 
-def write_file(file, text):
-    """Writes the file, and its folder where that isn't there."""
+def write_files(folder, texts):
+    """Writes these files into the folder, which is made where it isn't there. Each is there whole, or none is."""
     try:
-        file.parent.mkdir(parents=True, exist_ok=True)
-        file.write_text(text)
+        folder.mkdir(parents=True, exist_ok=True)
     except OSError as error:
-        raise Refused(f"{file} can't be written: {error.strerror}") from error
+        raise Refused(f"{folder} can't be made: {error.strerror}") from error
+    keep({str(folder / name): text.encode() for name, text in texts.items()})
 
 
 def convert(record, folder):
@@ -214,22 +216,27 @@ def convert(record, folder):
     entries = [entry for one_round in rounds for entry in one_round]
     threads = threads_of(entries)
     lines = [f"history 2 cores {record.cores}", *(history_line(entry, record.placed) for entry in entries)]
-    write_file(folder / "trace", "\n".join(trace_lines(record, threads, len(rounds))) + "\n")
-    write_file(folder / "history", "\n".join(lines) + "\n")
+    parts = {"trace": trace_lines(record, threads, len(rounds)), "history": lines}
+    write_files(folder, {name: "\n".join([*part, ""]) for name, part in parts.items()})
     return len(threads), len(rounds), len(entries), why
 
 
 def totals_of(policy, folder):
     """What the report adds up."""
-    lines = ask((0,), "report", policy, folder / "trace", folder / "history").decode("ascii").splitlines()
+    return totals_in(ask((0,), "report", policy, folder / "trace", folder / "history"))
+
+
+def totals_in(report):
+    """The totals of a report, or of what `waste` writes."""
+    lines = report.decode("ascii").splitlines()
     return " ".join(line for line in lines if line.split(" ")[0] in REPORTED and len(line.split(" ")) == 2)
 
 
-def judge_record(policy, text, keep=None):
+def judge_record(policy, text, kept=None):
     """The judge's verdict on a record. Trace and history are left in the folder, if one is named."""
     record = read_record(text)
     with tempfile.TemporaryDirectory(prefix="judge.") as name:
-        folder = Path(keep or name)
+        folder = Path(kept or name)
         counts = convert(record, folder)
         verdict = judge(policy, folder / "trace", folder / "history")
         totals = totals_of(policy, folder) if verdict.word == "whole" else ""
@@ -238,18 +245,26 @@ def judge_record(policy, text, keep=None):
 
 def sentence(judged):
     """What is said of a record, in one line."""
-    record = judged.record
-    counters = ", ".join(f"{name} {int(record.counters.get(name, 0))}" for name in ("departures", "lost", "beside"))
-    counts = f"{judged.threads} threads, {judged.rounds} rounds, {judged.kept} of {judged.recorded} entries, {counters}"
-    told = [judged.verdict.line, judged.totals or "no totals", counts, f"run {record.how} after {record.counters.get('took', 0):.3f} s"]
+    counts = f"{judged.threads} threads, {judged.rounds} rounds, {judged.kept} of {judged.recorded} entries"
+    told = [judged.verdict.line, judged.totals or "no totals", f"{counts}, {end_of(judged.record)}"]
     return "; ".join(told + [f"judged before {judged.cut}"] * bool(judged.cut))
+
+
+def end_of(record):
+    """The counters of a record, and how its run ended."""
+    counters = ", ".join(f"{name} {int(record.counters.get(name, 0))}" for name in ("departures", "lost", "beside"))
+    return f"{counters}; run {record.how} after {record.counters.get('took', 0):.3f} s"
 
 
 def faults(judged):
     """Why a run isn't a good one: what the verdict, the run's end or its counters say."""
-    record, found = judged.record, []
-    if judged.verdict.word != "whole":
-        found.append(judged.verdict.line)
+    verdict = [] if judged.verdict.word == "whole" else [judged.verdict.line]
+    return verdict + faults_of_run(judged.record)
+
+
+def faults_of_run(record):
+    """What the run's end or its counters say."""
+    found = []
     if record.how != "ended":
         found.append(f"the run was {record.how}")
     if record.counters.get("exit") != 64:

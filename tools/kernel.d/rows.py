@@ -20,6 +20,8 @@ CALL = "/loader /numa.bpf.o /tmp/record 20"
 # A run in the background that has begun, as process $!.
 BEGUN = f"{CALL} /long.txt & sleep 2"
 LONG = b"thread 0 run 6000\nthread 0 run 6000\n"
+# More threads than a record has room for: each of these makes another one.
+MANY = b"thread 0 fork 0 run 1\n" * 600
 ROWS = {
     "no_sched_ext": "mount -t tmpfs none /sys/kernel/sched_ext; "
                     f"{CALL} /crowd.txt; echo $?; umount /sys/kernel/sched_ext",
@@ -34,9 +36,10 @@ ROWS = {
     "interrupted": f"{BEGUN}; kill -INT $!; wait $!; echo $?; grep '^run ' /tmp/record >&2",
     "ended": f"{BEGUN}; kill -TERM $!; wait $!; echo $?; grep '^run ' /tmp/record >&2",
     "killed": f"{BEGUN}; kill -KILL $!; wait $!; echo $?",
+    "record_full": "/loader /numa.bpf.o /tmp/record 60 /many.txt; echo $?; grep '^run ' /tmp/record >&2",
     "time_over": "/loader /numa.bpf.o /tmp/record 1 /long.txt; echo $?; grep '^run ' /tmp/record >&2",
 }
-TEXTS = {"long.txt": LONG, "bad.txt": b"thread 0 run 5\nthread 1 rum 5\n",
+TEXTS = {"long.txt": LONG, "many.txt": MANY, "bad.txt": b"thread 0 run 5\nthread 1 rum 5\n",
          "far.txt": b"core 0 node 7\nthread 0 run 5\n",
          "etc/passwd": b"root:x:0:0::/:/bin/sh\nnobody:x:65534:65534::/:/bin/sh\n"}
 AFTER = "; sleep 0.5; cat /sys/kernel/sched_ext/state"

@@ -7,7 +7,7 @@ import tempfile
 from pathlib import Path
 
 from building import build_loader, build_scheduler, header_of
-from judging import write_file
+from judging import write_files
 from places import BTF, OUT, Refused
 
 # Where the kernel says whether a scheduler is loaded. Tests name another folder.
@@ -67,5 +67,5 @@ def run_here(words, workload_file, options, say_judged):
             return status
         text = record.read_text(errors="replace")
     if words.keep:
-        write_file(Path(words.keep) / "record", text)
+        write_files(Path(words.keep), {"record": text})
     return 1 if say_judged("run", words.policy, text, words.keep) else 0

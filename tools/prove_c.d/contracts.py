@@ -19,10 +19,11 @@ FALSE = "\\false"
 
 
 class Contracts:
-    """The contracts of a policy's header, each for a function of it, or for one that is written here and calls them."""
+    """The contracts of a policy's header, each for a function of it, or for one that is written here and calls them. A draft is
+    the header of a policy that isn't accepted."""
 
-    def __init__(self, policy):
-        self.policy = policy
+    def __init__(self, policy, draft=False):
+        self.policy, self.draft = policy, draft
         core = [("nr", *policy.ranges[apart.SELF_NR]), ("load", *policy.ranges[apart.SELF_LOAD])]
         self.fields = {"core": core + [(f"attr_{name}", *span) for name, *span in policy.spans("core")],
                        "thread": [("weight", *policy.weights)] + [(f"attr_{name}", *span) for name, *span in policy.spans("thread")]}
@@ -134,8 +135,9 @@ class Contracts:
     def constants(self):
         """What the macros of the header are."""
         policy, kinds = self.policy, ("core", "thread")
-        facts = {"NR_MAX": apart.MOST_THREADS, "LOAD_MAX": self.fields["core"][1][2], "WEIGHT_MIN": policy.weights[0],
-                 "WEIGHT_MAX": policy.weights[1], "STEAL_LIMIT": policy.limit, "PLACE_HERE": int(policy.place is None)}
+        facts = {"ACCEPTED": int(not self.draft), "NR_MAX": apart.MOST_THREADS, "LOAD_MAX": self.fields["core"][1][2],
+                 "WEIGHT_MIN": policy.weights[0], "WEIGHT_MAX": policy.weights[1], "STEAL_LIMIT": policy.limit,
+                 "PLACE_HERE": int(policy.place is None)}
         for kind in kinds:
             for (name, least, greatest), start in zip(policy.spans(kind), policy.starts[kind]):
                 ends = {"MIN": least, "MAX": greatest, "START": start}

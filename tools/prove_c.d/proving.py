@@ -35,10 +35,10 @@ def functions_of(header):
 
 
 class Job:
-    """A policy, and a header that is to be its one."""
+    """A policy, and a header that is to be its one, or its draft where it isn't accepted."""
 
-    def __init__(self, policy, header):
-        self.policy, self.contracts = policy, Contracts(policy)
+    def __init__(self, policy, header, draft=False):
+        self.policy, self.contracts = policy, Contracts(policy, draft)
         self.functions = functions_of(header)
         self.wide = {name for name, text in self.functions.items() if WIDE in text}
         self.header = header

@@ -101,6 +101,7 @@ static void write_range(const char *kind, const struct attr *attr)
 /* The constants of the header, a line each. */
 static void write_constants(void)
 {
+	printf("accepted %d\n", NAME(_ACCEPTED));
 	printf("%d %d %d %d %d %d\n", NAME(_NR_MAX), NAME(_LOAD_MAX), NAME(_WEIGHT_MIN), NAME(_WEIGHT_MAX), NAME(_STEAL_LIMIT), NAME(_PLACE_HERE));
 	for (const struct attr *attr = core_attrs; attr->name; attr++)
 		write_range("core", attr);
