@@ -205,7 +205,11 @@ say_file() {
 say_refused() {
   case "$2" in /dev/* | /proc/*) return ;; esac
   say "ipanema: \`ipanema explain ${2@Q} NAME\` gives numbers at which a line above fails, and \`all\` in place of NAME does so for each"
-  say "ipanema: where a \`B\` fails, \`tools/witness ${2@Q}\` finds a trace on which it shows, and \`ipanema waste ${2@Q} TRACE\` tells what that wastes"
+  if [ -x "$front/../witness" ] || [ -x "$front/../../share/ipanema/tools/witness" ]; then
+    say "ipanema: where a \`B\` fails, \`tools/witness ${2@Q}\` finds a trace on which it shows, and \`ipanema waste ${2@Q} TRACE\` tells what that wastes"
+  else
+    say "ipanema: where a \`B\` fails, \`ipanema waste ${2@Q} TRACE\` tells what is wasted on a trace"
+  fi
 }
 
 # Status 1 or 3 of a command that wants right handlers.
