@@ -7,7 +7,7 @@ import subprocess
 from collections import namedtuple
 from pathlib import Path
 
-from common import LONGEST, Refused, read_file
+from common import LONGEST, Refused, passing, read_file
 from histories import read_report, read_waste
 
 TOP = Path(__file__).resolve().parent.parent
@@ -66,8 +66,10 @@ def fault_in(said, status):
 
 
 def judge(policy, trace, history):
-    """The verdict on the history in that file."""
-    line = ask((WHOLE, NOT_WHOLE), "replay", policy, trace, history).decode("ascii").strip()
+    """The verdict on the history in that file, or None where the policy isn't accepted."""
+    line = ask({WHOLE, NOT_WHOLE} | VERDICTS, "replay", policy, trace, history).decode("ascii").strip()
+    if line.endswith(("refused", "undecided")):
+        return None
     word, legal = line.split(" ")
     return Verdict(word, int(legal), line)
 
@@ -93,6 +95,30 @@ def simulated(policy, trace):
 def waste_of(policy, trace):
     """What that history wastes."""
     return read_waste(ask((WHOLE, STOPPED), "waste", policy, trace))
+
+
+def told_of(policy, trace, text=None):
+    """A history with what the program says of it: its text, the verdict, and the report where there is one.
+
+    Without a text it is what is played, or simulated where the policy isn't accepted. Under such a policy nothing is judged, and a
+    text must be the one that is simulated.
+    """
+    text = text if text is not None else played(policy, trace)
+    if text is not None:
+        with passing(text) as history:
+            verdict = judge(policy, trace, history)
+            if verdict:
+                return text, verdict, report_of(policy, trace, history, verdict)
+    made = simulated(policy, trace)
+    if text not in (None, made):
+        raise Refused("the policy isn't accepted, so no history is judged; only the one that `ipanema simulate` writes is taken")
+    count = entries_in(made)
+    return made, Verdict("simulated", count, f"simulated {count}"), waste_of(policy, trace)
+
+
+def entries_in(text):
+    """How many entries the text has, if it is a history: the header of the second format is none."""
+    return text.count(b"\n") - text.startswith(b"history ")
 
 
 # ---- the files

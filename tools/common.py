@@ -3,6 +3,7 @@ and write a file whole or not at all. Their temporary files don't outlive them. 
 where something is wrong.
 """
 
+import concurrent.futures
 import contextlib
 import errno
 import os
@@ -105,6 +106,17 @@ def read_file(name, most=LONGEST["history"]):
     except (OSError, ValueError) as error:
         raise Refused(f"{name} can't be read: {reason(error)}") from error
     return limited(data, most, name)
+
+
+def read_plain(name, most=LONGEST["history"]):
+    """The same of a plain file alone: of a pipe there may be no end, and a link may lead anywhere."""
+    try:
+        is_plain = stat.S_ISREG(os.lstat(name).st_mode)
+    except (OSError, ValueError) as error:
+        raise Refused(f"{name} can't be read: {reason(error)}") from error
+    if not is_plain:
+        raise Refused(f"{name} is no plain file")
+    return read_file(name, most)
 
 
 def read_input(most=LONGEST["history"]):
@@ -212,6 +224,20 @@ def folder(prefix="tmp."):
         with undisturbed():
             made = stack.enter_context(tempfile.TemporaryDirectory(prefix=prefix, ignore_cleanup_errors=True))
         yield made
+
+
+# ---- many at a time
+
+
+@contextlib.contextmanager
+def pool_of_threads():
+    """Threads to ask the program from. What they haven't begun is left out where a signal ends the script."""
+    with concurrent.futures.ThreadPoolExecutor() as pool:
+        try:
+            yield pool
+        except BaseException:
+            pool.shutdown(wait=False, cancel_futures=True)
+            raise
 
 
 open_closed()

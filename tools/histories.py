@@ -159,6 +159,11 @@ def read_waste(data):
     return report_in(read_lines(data, "report", WASTE_FORMS))
 
 
+def read_either(data):
+    """The same of a text of either kind. Only `waste` counts the steals of a stretch, and has failed steals without an entry."""
+    return (read_waste if re.search(rb"(?m)^still .* steals |^fail [0-9]+$", data) else read_report)(data)
+
+
 def report_in(lines):
     kinds = [line.kind.replace("unexplained", "fail") for line in lines]
     order = ["round", "still", "fail"]

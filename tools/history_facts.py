@@ -3,15 +3,16 @@ judge says of it, and its report.
 
     tools/history_facts.py POLICY TRACE            of the history that is played, as JSON. Where the policy isn't
                                                    accepted, it is the one that is simulated
-    tools/history_facts.py POLICY TRACE HISTORY    of that history, under a policy that is accepted
+    tools/history_facts.py POLICY TRACE HISTORY    of that history; under a policy that isn't accepted it must be the
+                                                   one that is simulated
 """
 
 import json
 import sys
 
 sys.dont_write_bytecode = True
-from ask_ipanema import Verdict, cores_in, judge, played, report_of, simulated, waste_of, weights_in
-from common import Refused, passing, read_file, run, say, write
+from ask_ipanema import cores_in, entries_in, told_of, weights_in
+from common import Refused, read_file, run, say, write
 from histories import read_history
 from history_steps import steps_of, words_of
 
@@ -22,18 +23,6 @@ def require_few(text):
     entries = entries_in(text)
     if entries > MOST_ENTRIES:
         raise Refused(f"the history has {entries} entries, and a page takes at most {MOST_ENTRIES}")
-
-
-def entries_in(text):
-    """How many entries the text has, if it is a history: the header of the second format is none."""
-    return text.count(b"\n") - text.startswith(b"history ")
-
-
-def judged(policy, trace, text):
-    """The verdict on a history, and its report where it is whole."""
-    with passing(text) as history:
-        verdict = judge(policy, trace, history)
-        return verdict, report_of(policy, trace, history, verdict)
 
 
 def facts_of(policy, trace, text, verdict, report):
@@ -75,14 +64,12 @@ def verdict_words(verdict):
 
 def read_facts(policy, trace, *history):
     """The facts of the history in the third file, or of what is played where only two are named."""
-    text = read_file(*history) if history else played(policy, trace)
-    said = None
-    if text is None:
-        text = simulated(policy, trace)
-        count = entries_in(text)
-        said = Verdict("simulated", count, f"simulated {count}"), waste_of(policy, trace)
+    text = read_file(*history) if history else None
+    if text is not None:
+        require_few(text)
+    text, *said = told_of(policy, trace, text)
     require_few(text)
-    return facts_of(policy, trace, text, *(said or judged(policy, trace, text)))
+    return facts_of(policy, trace, text, *said)
 
 
 def main(words):

@@ -48,12 +48,17 @@ def is_by_levels(tokens):
     return bool(tokens) and tokens[0].text == "levels"
 
 
+def read_grammar():
+    with open(os.path.join(os.path.dirname(os.path.abspath(__file__)), "grammar"), encoding="ascii") as it:
+        return it.read()
+
+
 class Table:
     """The grammar. A state is a set of stacks of what may still come, each a nested pair (item, rest), with () at its end."""
 
-    def __init__(self):
-        with open(os.path.join(os.path.dirname(os.path.abspath(__file__)), "grammar"), encoding="ascii") as it:
-            lines = [line.split("=", 1) for line in it.read().splitlines()]
+    def __init__(self, text=None):
+        """The text is that of the file `grammar`, or of another table in its notation."""
+        lines = [line.split("=", 1) for line in (text or read_grammar()).splitlines() if line]
         self.rules = {name.strip(): self.read(body) for name, body in lines}
         self.kept = {}
 

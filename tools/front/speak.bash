@@ -56,7 +56,7 @@ end_by() {
 usage_of() {
   case "$1" in
     check) say '  ipanema check POLICY                    is the policy accepted? a line for each obligation' ;;
-    explain) say '  ipanema explain POLICY NAME             does that obligation hold? if not, numbers at which it fails' ;;
+    explain) say '  ipanema explain POLICY NAME             does that obligation hold, or each (`all`)? if not, numbers at which it fails' ;;
     prove) say '  ipanema prove POLICY                    write the certificates of an accepted policy, which anyone can verify' ;;
     bound) say '  ipanema bound POLICY                    what bounds the rounds that the policy may waste?' ;;
     rest) say '  ipanema rest POLICY                     how far may the loads of cores differ that steal no more?' ;;
@@ -144,6 +144,13 @@ say_bad_word() {
   esac
 }
 
+# That the word is no obligation, and which there are.
+say_obligations() {
+  find_near "$1" all "${obligations[@]}"
+  say_near "$1" obligation
+  say "ipanema: the obligations are ${obligations[*]}, and \`all\` stands for each of them"
+}
+
 # Status 7: what is wrong with the words, and the usage of the command that was meant, or of all.
 say_words() {
   local command="${1:-}" word near wanted bad=''
@@ -165,9 +172,7 @@ say_words() {
   elif [ -n "$bad" ]; then
     :
   elif [ "$command" = explain ]; then
-    find_near "$2" "${obligations[@]}"
-    say_near "$2" obligation
-    say "ipanema: the obligations are ${obligations[*]}"
+    if [ "$2" = all ]; then say 'ipanema: `all` reads the policy once for each obligation, so it must be a plain file'; else say_obligations "$2"; fi
   elif [ "$command" = crew ]; then
     say 'ipanema: WORKERS is digits alone, at most twenty, and from 1 to 64'
   elif [ "$command" = make ] || [ "$command" = bench ]; then
@@ -197,6 +202,17 @@ say_file() {
   say "ipanema: a file wasn't read, and now each can be; call it again"
 }
 
+# Status 1 of `check`: what tells more of the policy, if it has a name under which it can be read again.
+say_refused() {
+  case "$2" in /dev/* | /proc/*) return ;; esac
+  say "ipanema: \`ipanema explain ${2@Q} NAME\` gives numbers at which a line above fails, and \`all\` in place of NAME does so for each"
+  if [ -x "$front/../witness" ] || [ -x "$front/../../share/ipanema/tools/witness" ]; then
+    say "ipanema: where a \`B\` fails, \`tools/witness ${2@Q}\` finds a trace on which it shows, and \`ipanema waste ${2@Q} TRACE\` tells what that wastes"
+  else
+    say "ipanema: where a \`B\` fails, \`ipanema waste ${2@Q} TRACE\` tells what is wasted on a trace"
+  fi
+}
+
 # Status 1 or 3 of a command that wants right handlers.
 say_not_playable() {
   local what='played'
@@ -216,7 +232,7 @@ say_not_accepted() {
   say "ipanema: the policy is $verdict, so nothing was $what; \`ipanema explain ${3@Q} NAME\` says more of a line above"
 }
 
-# Status 2 or 10: a sentence on the fault, if python3 is there and finds one.
+# Status 2, 8 or 10: a sentence on the fault, or on where it stopped, if python3 is there and finds one.
 say_fault() {
   # shellcheck disable=SC2261 # `told` is another number than that of the standard error by now
   command -v python3 >/dev/null && python3 -I "$front/tell.py" "$@" >&"$told" 2>/dev/null
@@ -266,23 +282,59 @@ is_signal() {
   [ "$1" -gt 128 ] && [ "$1" -le 192 ]
 }
 
-# Runs the program on the words, says on standard error what there is to say, and ends with its status. Bash's own line on a signal
-# is left out, where the system has a number left under which standard error can be kept.
-answer() {
-  local program=$1 status=0 kept spare
-  shift
-  if (exec {kept}>&2 {spare}>&2) 2>/dev/null; then exec {kept}>&2 2>/dev/null; told=$kept; fi
-  run_program "$program" "$@" || status=$?
+# Says on standard error what there is to say of an answer, and ends with its status.
+end_with() {
+  local status=$1 program=$2
+  shift 2
   if [ "$status" -gt 11 ] && ! is_signal "$status"; then say "ipanema: the system didn't run $program"; exit 70; fi
   ending=$status
   {
     case "$status,${1:-}" in
       7,*) say_words "$@" ;;
       4,*) say_file "$@" ;;
-      2,* | 10,*) say_fault "$status" "$program" "$@" ;;
+      2,* | 8,* | 10,*) say_fault "$status" "$program" "$@" ;;
+      1,check) say_refused "$@" ;;
       [13],simulate | [13],waste | [13],draft) say_not_playable "$@" ;;
       [13],prove | [13],emit | [13],play | [13],run | [13],crew | [13],replay | [13],report | [13],migrate) say_not_accepted "$status" "$@" ;;
     esac
   } >/dev/null
   exit "$status"
+}
+
+# Keeps standard error under another number, where the system has one left. So bash's own line on a signal is left out.
+keep_told() {
+  local kept spare
+  if (exec {kept}>&2 {spare}>&2) 2>/dev/null; then exec {kept}>&2 2>/dev/null; told=$kept; fi
+}
+
+# Runs the program on the words, says what there is to say, and ends with its status.
+answer() {
+  local program=$1 status=0
+  shift
+  keep_told
+  if is_for_all "$@"; then answer_all "$program" "$2"; fi
+  run_program "$program" "$@" || status=$?
+  end_with "$status" "$program" "$@"
+}
+
+# Whether the words ask to explain all obligations, of a policy that can be read more than once.
+is_for_all() {
+  [ $# -eq 3 ] && [ "$1,$3" = explain,all ] && [ ! -p "$2" ] && [ ! -c "$2" ]
+}
+
+# Explains one obligation after the other, in the order of `check`. The status is 1 where one fails, else 3 where one is undecided.
+# Any other status than that of a line ends it.
+answer_all() {
+  local name status all=0
+  for name in B{1,2,3,4} {H1,H2}.enqueue {H1,H2}.tick {H1,H2}.yield {H1,H2}.block; do
+    status=0
+    run_program "$1" explain "$2" "$name" || status=$?
+    case "$status" in
+      0) ;;
+      1) all=1 ;;
+      3) [ "$all" -eq 1 ] || all=3 ;;
+      *) end_with "$status" "$1" explain "$2" "$name" ;;
+    esac
+  done
+  end_with "$all" "$1" explain "$2" all
 }
