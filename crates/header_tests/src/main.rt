@@ -1,6 +1,6 @@
-//! Prints the draft of a policy of which no obligation is decided that needs a budget. Then come the C headers of three
-//! policies that `emit` refuses, since they aren't accepted. What it prints stands in `stdout`. From there `tools/try_c`
-//! takes the three, to ask each filter where `explain` says that the policy is wrong.
+//! Prints the draft of a policy of which no obligation is decided that needs a budget. Then come the C headers of
+//! three policies that `emit` refuses, since they aren't accepted. What it prints stands in `stdout`. From there
+//! `tools/try_c` takes the three, to ask each filter where `explain` says that the policy is wrong.
 #![tactic(auto)]
 
 ghost use Rattle.std.specs.Prelude.{IfSome};
