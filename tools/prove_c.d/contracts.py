@@ -5,12 +5,14 @@ A contract requires that each field may be read and lies in its range, and that 
 """
 
 import re
+import zlib
 from collections import namedtuple
 
 from whole_policy import EVENTS, apart
 
-# The head of a function with its contract, and its body where it isn't the header's. Where there is no head, the clauses are lemmas.
-Contract = namedtuple("Contract", "function head clauses body", defaults=[""])
+# The head of a function with its contract, and its body where it isn't the header's. Where there is no head, the
+# clauses are lemmas. With the last word frama-c's names of the goals begin, else with that of the function.
+Contract = namedtuple("Contract", "function head clauses body goals", defaults=["", ""])
 
 CUT = """logic integer made_cut(integer value, integer least, integer greatest) =
         value < least ? least : (value > greatest ? greatest : value);"""
@@ -156,16 +158,18 @@ class Contracts:
         return lines
 
     def strict(self, word, kind, keys):
-        """That the rule of an order is irreflexive, asymmetric and transitive, for all numbers that the fields may be. And where neither a
-        is before b nor b before c, a isn't before c.
+        """That the rule of an order is irreflexive, asymmetric and transitive, for all numbers that the fields may be.
+        And where neither a is before b nor b before c, a isn't before c. frama-c cuts the names of goals behind 59
+        letters, so the policy's name is no part of them.
         """
-        made, rule = self.named(f"{word}_is_strict"), self.before(keys, kind)
+        made, rule = f"made_{zlib.crc32(self.policy.name.encode()):08x}_{word}", self.before(keys, kind)
         aa, ab, ba, bc, ac = (self.of_numbers(rule, *sides) for sides in ("aa", "ab", "ba", "bc", "ac"))
         laws = {"irreflexive": f"!{aa}", "asymmetric": f"!({ab} && {ba})", "transitive": f"{ab} && {bc} ==> {ac}",
                 "ties": f"!{ab} && !{bc} ==> !{ac}"}
         sides = ("self", "a", "b", "c") if kind == "core" else ("a", "b", "c")
         numbers = ", ".join(f"{side}_{field}" for side in sides for field, _, _ in self.fields[kind])
-        return Contract(made, "", [f"lemma {made}_{law}: \\forall integer {numbers}; {text};" for law, text in laws.items()])
+        lemmas = [f"lemma {made}_{law}: \\forall integer {numbers}; {text};" for law, text in laws.items()]
+        return Contract(self.named(f"{word}_is_strict"), "", lemmas, goals=f"lemma_{made}")
 
     @staticmethod
     def of_numbers(rule, one, other):

@@ -18,7 +18,7 @@ Verdict = namedtuple("Verdict", "function unproved")
 # Which provers are asked, how many seconds and steps one may take for a goal, and how many may be at work at a time.
 Limits = namedtuple("Limits", "provers timeout steps par", defaults=["z3", 60, 20_000_000, 2])
 FUNCTION = re.compile(r"^static inline [^\n;]*\n(\w+)\((?:[^{]|\n)*?\)\n\{\n.*?^\}\n", re.MULTILINE | re.DOTALL)
-GOAL = re.compile(r"^\[wp\] \[[^]]*\] Goal typed_(?:lemma_(?=\w+_is_strict_))?(\w+) : (\w+)", re.MULTILINE)
+GOAL = re.compile(r"^\[wp\] \[[^]]*\] Goal typed_(\w+) : (\w+)", re.MULTILINE)
 PROVED = re.compile(r"^\[wp\] Proved goals: +(\d+) / (\d+)$", re.MULTILINE)
 KINDS = "ensures|assigns|assert|check|call|requires|irreflexive|asymmetric|transitive|ties"
 
@@ -71,6 +71,11 @@ class Job:
         known = [contract.function for contract in self.all]
         return known + [name for name in self.functions if name not in known]
 
+    def owners(self):
+        """Of which function a goal is whose name begins so."""
+        named = {name: name for name in self.names()}
+        return named | {contract.goals: contract.function for contract in self.all if contract.goals}
+
     def verdicts(self, goals):
         known = [contract.function for contract in self.all if contract.function in goals]
         for name in self.names():
@@ -101,15 +106,16 @@ def ask(work, text, limits, only):
     return done.stdout
 
 
-def goals_in(said, names):
+def goals_in(said, owners):
     """Of each function its goals, and whether each was proved. Their number must be the one that frama-c tells."""
     goals, count, proved = {}, 0, 0
-    by_length = sorted(names, key=len, reverse=True)
+    by_length = sorted(owners, key=len, reverse=True)
     for goal, how in GOAL.findall(said):
-        name = next((name for name in by_length if re.match(rf"{name}_(?:{KINDS})", goal)), None)
-        if name is None:
+        begin = next((begin for begin in by_length if re.match(rf"{begin}_(?:{KINDS})", goal)), None)
+        if begin is None:
             raise Refused(f"frama-c: its goal {goal} is of no function")
-        goals.setdefault(name, []).append((goal[len(name) + 1:] + (GIVEN_UP if how in ("Timeout", "Stepout") else ""), how == "Valid"))
+        word = goal[len(begin) + 1:] + (GIVEN_UP if how in ("Timeout", "Stepout") else "")
+        goals.setdefault(owners[begin], []).append((word, how == "Valid"))
         count, proved = count + 1, proved + (how == "Valid")
     told = PROVED.search(said)
     if not told or (proved, count) != tuple(map(int, told.groups())):
@@ -123,5 +129,5 @@ def prove(jobs, limits=Limits(), only=()):
     with folder() as name:
         work = Path(name)
         said = ask(work, "\n".join([f"/*@ {CUT} */", *(job.text() for job in jobs)]), limits, only)
-    goals = goals_in(said, [name for job in jobs for name in job.names()])
+    goals = goals_in(said, {begin: name for job in jobs for begin, name in job.owners().items()})
     return [[verdict for verdict in job.verdicts(goals) if not only or verdict.function in only] for job in jobs]
