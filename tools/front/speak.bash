@@ -1,7 +1,7 @@
 # What the front adds to the program's answers, on standard error alone: its status and its output stay as they are. To be read by a
 # script of bash that has set `front`, the folder of this file. Sentences on a fault need python3; without it they are left out.
 
-source "$front/words.bash" || return 1
+source "${BASH_SOURCE[0]%/*}/words.bash" || return 1
 
 # Where this script's own words go. `answer` keeps what was its standard error under another number.
 told=2
