@@ -12,9 +12,11 @@ import sys
 
 sys.dont_write_bytecode = True
 from ask_ipanema import cores_in, entries_in, told_of, weights_in
+from attributes import told as told_attributes
 from common import Refused, read_file, run, say, write
 from histories import read_history
-from history_steps import steps_of, words_of
+from history_steps import Walk, words_of
+from legal_instead import instead_of
 
 MOST_ENTRIES = 600
 
@@ -27,24 +29,30 @@ def require_few(text):
 
 def facts_of(policy, trace, text, verdict, report):
     """All that a page is told, of a history and what was said of it."""
-    lines = read_history(text)
-    steps = list(steps_of(lines[:verdict.legal], cores_in(trace)))
+    lines, walk = read_history(text), Walk(cores_in(trace))
+    steps = [walk.step(line) for line in lines[:verdict.legal]]
     for line in report.fails if report else []:
         steps[line.values["position"]]["cause"] = line.values["by"]
+    for line in report.unexplained if report else []:
+        steps[line.values["position"]]["unexplained"] = True
+    before = text.decode("ascii", "replace").split("\n")[:verdict.legal + text.startswith(b"history ")]
     return {
-        "cores": cores_in(trace), "steps": steps, "illegal": illegal_in(lines, verdict),
+        "cores": cores_in(trace), "steps": steps, "illegal": illegal_in(policy, trace, before, lines, walk, verdict),
         "verdict": verdict_words(verdict), "word": verdict.word, "unjudged": max(len(lines) - verdict.legal - 1, 0),
         "rounds": [line.values for line in report.rounds] if report else [],
         "report": report_lines(report) if report else [], "weights": weights_in(policy, trace),
+        "attributes": told_attributes(policy, trace, lines[:verdict.legal]),
     }
 
 
-def illegal_in(lines, verdict):
-    """The first entry that isn't legal, or None."""
+def illegal_in(policy, trace, before, lines, walk, verdict):
+    """The first entry that isn't legal, or None: what it read, the program's line, and an entry that is legal in its place, or None."""
     if verdict.word != "illegal":
         return None
     line = lines[verdict.legal]
-    return {"kind": "illegal", "text": line.text, "words": words_of(line)}
+    instead = instead_of(policy, trace, before, line, walk)
+    return {"kind": "illegal", "text": line.text, "words": words_of(line), "core": line.values.get("core"), "reads": walk.reads(line),
+            "says": verdict.line, "instead": instead}
 
 
 def report_lines(report):

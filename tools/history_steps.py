@@ -87,15 +87,11 @@ def coming_words(kind, core, values):
     return f"{core} {verb.format(values['thread'])} and {place}."
 
 
-def reads_of(line, position, counts):
-    """The reads of the entry at the position: for each core what it saw, what is there now, and what changed it in between.
+def read_of(core, seen, position, counts):
+    """What an entry at the position saw of a core: how many threads, how many are there now, and what changed that in between.
 
     `counts` has the thread counts of the cores after each number of entries, up to the position.
     """
-    return [read_of(core, seen, position, counts) for core, seen in enumerate(line.values.get("reads", []))]
-
-
-def read_of(core, seen, position, counts):
     changes = [at for at in range(seen, position) if counts[at + 1][core] != counts[at][core]]
     return {
         "core": core, "position": seen, "saw": counts[seen][core], "now": counts[position][core],
@@ -111,16 +107,33 @@ def cause_of(line, reads):
     return min((change for change in changes if change is not None), default=None)
 
 
+class Walk:
+    """The cores as a legal history goes on, and their thread counts behind each number of entries."""
+
+    def __init__(self, cores):
+        self.stand = [Core() for _ in range(cores)]
+        self.counts = [[0] * cores]
+
+    def reads(self, line):
+        """What an entry that comes next has read. A read of a moment that hasn't come is left out."""
+        position = len(self.counts) - 1
+        return [read_of(core, seen, position, self.counts) for core, seen in enumerate(line.values.get("reads", []))
+                if seen <= position and core < len(self.stand)]
+
+    def step(self, line):
+        """Takes the next entry, and tells what is shown of it."""
+        reads = self.reads(line)
+        move(self.stand, line)
+        self.counts.append([core.count() for core in self.stand])
+        changed = {core: self.stand[core].shown() for core in touched(line)}
+        return {**described(line), "reads": reads, "cause": cause_of(line, reads), "changed": changed}
+
+
 def steps_of(lines, cores):
     """For each entry of a legal history, one after the other, what is shown of it. `cores` is how many cores there are."""
-    stand = [Core() for _ in range(cores)]
-    counts = [[0] * cores]
-    for position, line in enumerate(lines):
-        reads = reads_of(line, position, counts)
-        move(stand, line)
-        counts.append([core.count() for core in stand])
-        changed = {core: stand[core].shown() for core in touched(line)}
-        yield {**described(line), "reads": reads, "cause": cause_of(line, reads), "changed": changed}
+    walk = Walk(cores)
+    for line in lines:
+        yield walk.step(line)
 
 
 def described(line):

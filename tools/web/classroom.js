@@ -28,7 +28,7 @@ part("report").textContent = facts.report.length ? facts.report.join("\n") : "A 
 drawLegend(part("legend"));
 
 const filled = Object.fromEntries(NAMES.map((name) => [name, part(name)]));
-const steps = new Steps(filled, facts, window.innerHeight - 540, writeAddress);
+const steps = new Steps(filled, facts, window.innerHeight - 684, writeAddress);
 document.addEventListener("keydown", (event) => steps.press(event));
 for (const [name, key] of Object.entries(BUTTONS)) {
   part(name).addEventListener("click", () => steps.show(steps.keys[key]()));

@@ -21,6 +21,27 @@ function roundsOf(all) {
   });
 }
 
+// How many units of its core each thread has let pass behind each entry, since it last ran or came. A blocked thread
+// doesn't wait.
+function waitedOf(steps, states) {
+  let waited = {};
+  return steps.map((step, at) => {
+    waited = { ...waited };
+    if (step.kind === "work") states[at][step.core].queue.forEach((thread) => { waited[thread] += 1; });
+    if (["enter", "wake", "work"].includes(step.kind)) waited[step.thread] = 0;
+    return waited;
+  });
+}
+
+// The attributes of each thread behind each entry, as far as they are told.
+function numbersOf(steps, told) {
+  let numbers = {};
+  return steps.slice(0, told.length).map((step, at) => {
+    numbers = told[at] ? { ...numbers, [step.thread]: told[at] } : numbers;
+    return numbers;
+  });
+}
+
 // Each attempt to steal, with what its thief read of the victim.
 function looksOf(steps) {
   return steps.flatMap((step, at) => (step.reads || []).filter((read) => read.core === step.victim)
@@ -34,12 +55,26 @@ export class History {
     this.opening = Array(facts.cores).fill({ running: null, queue: [], blocked: [] });
     this.states = statesOf(facts.steps, this.opening);
     this.rounds = roundsOf(this.entries);
+    this.waited = waitedOf(facts.steps, this.states);
+    this.numbers = numbersOf(facts.steps, facts.attributes.threads);
     this.looks = looksOf(facts.steps);
   }
 
   // The cores behind the entry. An illegal one leaves them as they were.
   stateAt(at) {
     return this.states[Math.min(at, this.states.length - 1)] || this.opening;
+  }
+
+  // How long the thread has waited behind the entry, in units of its core; nothing where it is blocked.
+  waitedAt(at, thread) {
+    const isBlocked = this.stateAt(at).some((core) => core.blocked.includes(thread));
+    return isBlocked ? undefined : (this.waited[Math.min(at, this.waited.length - 1)] || {})[thread];
+  }
+
+  // The attributes of the thread behind the entry, or nothing.
+  numbersAt(at, thread) {
+    const told = Math.min(at, this.states.length - 1);
+    return told < this.numbers.length ? this.numbers[told][thread] : undefined;
   }
 
   // What the report says of the round of the entry, where there is a report.

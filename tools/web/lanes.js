@@ -11,13 +11,14 @@ const LABEL_ROOM = 330;
 
 // Few cores get high rows, where there is room for them.
 function rowHeight(cores, room) {
-  const least = cores <= 4 ? 44 : cores <= 8 ? 32 : 20;
+  const least = cores <= 4 ? 34 : cores <= 8 ? 32 : 20;
   return Math.max(least, Math.min(72, room / cores));
 }
 
 export class Lanes {
-  constructor(parent, names, entries, cores, room) {
-    Object.assign(this, { entries, cores, openings: [] });
+  // `bands` has a colour for each core, if they have any.
+  constructor(parent, names, entries, cores, room, bands) {
+    Object.assign(this, { entries, cores, bands, openings: [] });
     this.row = rowHeight(cores, room);
     const least = cores <= 8 ? 46 : 34;
     this.column = Math.max(least, Math.min(72, (parent.clientWidth - LABEL_ROOM) / Math.max(entries.length, 1)));
@@ -54,6 +55,7 @@ export class Lanes {
     for (let core = 0; core < this.cores; core++) {
       shape(this.grid, "line", { x1: SIDE, x2: this.end, y1: this.y(core), y2: this.y(core), class: "lane" });
       shape(names, "text", { x: 84, y: this.y(core) + 5, class: "name" }, `core ${core}`);
+      if (this.bands) shape(names, "rect", this.bandBox(core));
     }
     this.entries.forEach((entry, position) => {
       const x = this.middle(position);
@@ -62,6 +64,10 @@ export class Lanes {
       column.setAttribute("class", "column");
       column.dataset.at = position;
     });
+  }
+
+  bandBox(core) {
+    return { x: 0, y: this.y(core) - this.row * 0.42, width: 8, height: this.row * 0.84, fill: this.bands[core] };
   }
 
   box(position) {
@@ -121,10 +127,23 @@ export class Lanes {
     const [x, y] = [this.x(look.position), this.y(look.victim) - this.row * 0.4];
     const [now, thief] = [this.x(at + 1), this.y(look.core)];
     shape(group, "path", { d: this.arc(now, thief, x, y), class: "gaze" });
-    shape(group, "text", { x: now + 6, y: thief - this.half * 0.5, class: "who" },
-      `core ${look.core} saw ${look.saw} at core ${look.victim}`);
+    this.drawWho(group, now + 6, thief - this.half * 0.5, `core ${look.core} saw ${look.saw} at core ${look.victim}`);
     const same = pending.find((one) => one.victim === look.victim && one.position === look.position);
-    if (same === look) this.drawPupil(group, x, y, look.saw);
+    if (same === look && !this.isCovered(at, look, x)) this.drawPupil(group, x, y, look.saw);
+  }
+
+  // The words of a look, on white: marks of later entries lie below them.
+  drawWho(group, x, y, words) {
+    const high = Math.max(14, this.half * 1.3);
+    const back = shape(group, "rect", { x: x - 3, y: y - high * 0.8, height: high, class: "back" });
+    const text = shape(group, "text", { x, y, class: "who" }, words);
+    back.setAttribute("width", text.getComputedTextLength() + 6);
+  }
+
+  // Whether a read of the entry at hand stands where the eye would, as in low rows. The words of the look are there.
+  isCovered(at, look, x) {
+    const reads = this.row < 40 ? this.entries[at].reads || [] : [];
+    return reads.some((read) => read.core === look.victim && Math.abs(this.x(read.position) - x) < this.half * 2.4);
   }
 
   drawPupil(group, x, y, saw) {

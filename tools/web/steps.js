@@ -3,6 +3,7 @@
 
 import { add, shape } from "./elements.js";
 import { History, countOf } from "./history.js";
+import { bandsOf } from "./chips.js";
 import { drawCores } from "./cores.js";
 import { Lanes, MARKS } from "./lanes.js";
 
@@ -40,13 +41,16 @@ function sampleLanes(kind) {
 export function drawLegend(parent) {
   for (const [kind, words] of LEGEND) {
     const item = add(parent, "span", "item");
-    const picture = shape(item, "svg", { width: 26, height: 34, class: "lanes" });
+    const picture = shape(item, "svg", { viewBox: "0 0 26 34", class: "lanes" });
     MARKS[kind](sampleLanes(kind), shape(picture, "g", { class: `mark ${kind}` }), 13, SAMPLE);
     add(item, "span", "", words);
   }
   add(parent, "span", "item fresh", "read: still so");
   add(parent, "span", "item stale", "stale read: changed since");
   add(parent, "span", "item eye", "a thief's look, before its attempt");
+  const waits = add(parent, "span", "item waits");
+  add(waits, "sup", "", "3");
+  add(waits, "span", "", "units that a thread has waited");
 }
 
 export class Steps {
@@ -55,7 +59,7 @@ export class Steps {
   constructor(parts, facts, room, moved) {
     Object.assign(this, { parts, facts, moved, at: 0, history: new History(facts) });
     this.entries = this.history.entries;
-    this.lanes = new Lanes(parts.lanes, parts.names, this.entries, facts.cores, room);
+    this.lanes = new Lanes(parts.lanes, parts.names, this.entries, facts.cores, room, bandsOf(facts.attributes));
     parts.cores.style.setProperty("--cores", facts.cores);
     this.drawList();
     this.keys = {
@@ -93,7 +97,10 @@ export class Steps {
     this.parts.place.textContent = entry ? this.placeWords() : "No entry";
     this.parts.sentence.textContent = entry ? entryWords(entry) : "The history is empty.";
     this.parts.cause.replaceChildren();
-    if (entry && Number.isInteger(entry.cause)) this.tellCause(entry.cause);
+    if (!entry) return;
+    if (Number.isInteger(entry.cause)) this.tellCause(entry.cause);
+    if (entry.unexplained) this.tellNoCause();
+    if (entry.kind === "illegal") this.tellIllegal(entry);
   }
 
   placeWords() {
@@ -107,6 +114,19 @@ export class Steps {
     add(this.parts.cause, "strong", "", `Entry ${cause} explains it`);
     add(this.parts.cause, "span", "", this.entries[cause].words);
     add(this.parts.cause, "small", "", "The first change of thief or victim since the look.");
+  }
+
+  tellNoCause() {
+    add(this.parts.cause, "strong", "", "No entry explains it");
+    add(this.parts.cause, "small", "", "Thief and victim are as they were seen: the policy's own rule is to blame.");
+  }
+
+  // What the program says of an entry that isn't legal, and an entry that it takes in that place.
+  tellIllegal(entry) {
+    add(this.parts.cause, "strong", "", `The program says: ${entry.says}`);
+    const words = entry.instead ? "In its place, with the same looks, it takes:" : "What it takes in its place wasn't found.";
+    add(this.parts.cause, "small", "", words);
+    if (entry.instead) add(this.parts.cause, "code", "", entry.instead);
   }
 
   // ---- the list

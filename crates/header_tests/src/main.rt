@@ -38,7 +38,7 @@ fn draft(alloc: Global, text: &[u8]) -> Result<String, AllocError> {
     let Ok(verdict) = check_policy(alloc, policy, 0) else {
         return String::from_str(alloc, "no verdict");
     };
-    String::from_utf8(draft_text(alloc, &verdict)?).map_err(|_error| AllocError)
+    String::from_utf8(draft_text(alloc, verdict)?).map_err(|_error| AllocError)
 }
 
 /// The header of the policy that the text spells. Its bytes are ASCII.
