@@ -43,7 +43,7 @@ abbrev pub draft_of : List Answered → Meaning → List ℕ
 draft_of answers p = glued (comment_texts answers p) ++ c_body header.Draft p
 
 -- the header of the policy that a verdict keeps
-abbrev pub draft_text : Verdict → List ℕ
+unfoldable pub draft_text : Verdict → List ℕ
 draft_text (verdict.Accepted policy) = c_text (meaning_of policy)
 draft_text (verdict.Refused answers policy) = draft_of answers (meaning_of policy)
 draft_text (verdict.Undecided answers policy) = draft_of answers (meaning_of policy)

@@ -16,13 +16,13 @@ use std::alloc::{AllocError, Global};
 /// A draft names the obligations that fail or are undecided, and its macro `NAME_ACCEPTED` is 0. What else stands
 /// behind its comment is the same as of an accepted policy. In a draft of a policy that can't be played an event may
 /// reach the line that says it isn't reached.
-pub fn draft_text(alloc: Global, verdict: &Verdict) -> Result<Vec<u8>, AllocError>
-    ensures { IfOk result (λ text. text.items ≡ draft_text verdict.now) }
+pub fn draft_text(alloc: Global, verdict: Verdict) -> Result<Vec<u8>, AllocError>
+    ensures { IfOk result (λ text. text.items ≡ draft_text verdict) }
 {
     match verdict {
         Verdict::Accepted(accepted) => c_text(alloc, accepted.policy()),
-        Verdict::Refused(answers, policy) => draft_of(alloc, answers.as_slice(), policy),
-        Verdict::Undecided(answers, policy) => draft_of(alloc, answers.as_slice(), policy),
+        Verdict::Refused(answers, policy) => draft_of(alloc, answers.as_slice(), &policy),
+        Verdict::Undecided(answers, policy) => draft_of(alloc, answers.as_slice(), &policy),
     }
 }
 

@@ -1,6 +1,6 @@
 -- From how `draft` ends to the truth of what it says.
 use Rattle.std.specs.Prelude.{IsFalse, IsTrue}
-use Rattle.std.proofs.Common.{◌≡◌, ◌≢◌, ℕ, inl, List, [], ◌∷◌, Option, Some, refl, arith, subst, ◌∙◌}
+use Rattle.std.proofs.Common.{◌≡◌, ◌≢◌, ℕ, inl, List, [], ◌∷◌, Option, Some, refl, arith, subst}
 use Rattle.sched_io.specs.Puts.{joined}
 use Rattle.sched_io.specs.Told.{Told}
 use Rattle.sched_io.specs.Written.{Adds}
@@ -21,7 +21,7 @@ use Rattle.command_words.specs.Command.{Asked, draft}
 use Rattle.ipanema_cli.specs.Causes.{OneOf}
 use Rattle.ipanema_cli.specs.Commands.{statuses_of}
 use Rattle.ipanema_cli.specs.DraftTruths.{DraftsTruly}
-use Rattle.ipanema_cli.specs.Replies.{RepliesDraft}
+use Rattle.ipanema_cli.specs.Replies.{IsDraftBy, RepliesDraft}
 use Rattle.ipanema_cli.specs.Simulations.{lets_play}
 use Rattle.ipanema_cli.specs.Status.{check_status, code_of, verdict_status}
 use Rattle.ipanema_cli.specs.Texts.{MayBeLong, MayRead}
@@ -120,13 +120,20 @@ undrafted policy (checked.Unjudged why) text before after code read is unplayabl
   bad_text = λ h. tells_fault policy text why before after code read is own added h;
 }
 
+-- so it is by the answer of `check`
+by_answer : (policy : Told) (text given : List ℕ) (c : CheckAnswer) (before after : Option (List ℕ)) (code : ℕ) → MayRead kind.Policy policy text → IsCheckOf text c → IsDraftBy c given
+    → code ≡ 0 → Adds given before after → DraftsTruly policy before after code
+by_answer policy text given (checked.Judged v) before after code read is (plays, same) own added =
+    header_written policy text v before after code read is plays own (subst (λ (bytes : List ℕ). Adds bytes before after) same added)
+by_answer policy text given (checked.Unjudged why) before after code read is drafted own added = absurd drafted
+
 draft_shows : (policy : Told) (text : List ℕ) (before after : Option (List ℕ)) (code : ℕ) → MayRead kind.Policy policy text → (a : Answer) → RepliesDraft text a
     → Shows (DraftsTruly policy before after code) before after code a
 draft_shows policy text before after code read a is =
     given_either answer.Checked answer.Exported _ _ (Shows (DraftsTruly policy before after code) before after code)
     (λ c is own added. undrafted policy c text before after code read is.0 is.1 own added)
-    (λ given is own added. header_written policy text is.0 before after code read is.1 is.2 own
-    (subst (λ (bytes : List ℕ). Adds bytes before after) (joined_lines given.items ∙ is.3) added)) a is
+    (λ given is own added. by_answer policy text given.items is.0 before after code read is.1 is.2 own
+    (subst (λ (bytes : List ℕ). Adds bytes before after) (joined_lines given.items) added)) a is
 
 pub draft_law : (Passed : ℕ → ℕ → Type 0) (policy : List ℕ) → CommandLaw Passed (Some (draft policy))
 draft_law Passed policy =

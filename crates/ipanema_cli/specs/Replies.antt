@@ -5,7 +5,6 @@ use Rattle.policy_tree.specs.Meaning.{Meaning, meaning_of}
 use Rattle.job_trace.specs.declared.trace.Numbered.{Numbered}
 use Rattle.policy_checker.specs.Playable.{is_playable}
 use Rattle.policy_checker.specs.Verdicts.{IsVerdict, policy_of}
-use Rattle.policy_checker.specs.declared.verdict.Verdict.{Verdict}
 use Rattle.policy_answers.specs.declared.answer.CheckAnswer.{CheckAnswer}
 use Rattle.policy_answers.specs.declared.answer.CheckAnswer.TheVariants as checked
 use Rattle.policy_answers.specs.Bounds.{IsBoundOf}
@@ -48,15 +47,15 @@ abbrev pub RepliesExport : Exporting → (policy : List ℕ) → Answer → Type
 RepliesExport Is policy a = RepliesRefusal accepts policy a
     ⊎ IsGiven answer.Exported (λ given. (p : Meaning) × IsAccepted policy p × Is p given.items) a
 
--- the text is the header of a policy that can be played, which says what the verdict on it is
-abbrev pub IsDraftOf : (policy text : List ℕ) → Type 0
-IsDraftOf policy text =
-    (v : Verdict) × IsCheckOf policy (checked.Judged v) × IsTrue (is_playable v) × (text ≡ draft_text v)
+-- the text is the header of the policy that was judged, which can be played
+abbrev pub IsDraftBy : CheckAnswer → (text : List ℕ) → Type 0
+IsDraftBy (checked.Judged v) text = IsTrue (is_playable v) × (text ≡ draft_text v)
+IsDraftBy (checked.Unjudged why) text = ⊥
 
--- the answer of one that writes that
+-- the answer of a command that writes that
 abbrev pub RepliesDraft : (policy : List ℕ) → Answer → Type 0
 RepliesDraft policy a = RepliesRefusal lets_play policy a
-    ⊎ IsGiven answer.Exported (λ given. IsDraftOf policy given.items) a
+    ⊎ IsGiven answer.Exported (λ given. (c : CheckAnswer) × IsCheckOf policy c × IsDraftBy c given.items) a
 
 -- the answer of one that plays a trace under an accepted policy
 abbrev pub RepliesPlay : Playing → (policy trace : List ℕ) → Answer → Type 0

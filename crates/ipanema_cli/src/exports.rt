@@ -1,24 +1,22 @@
 //! Texts of a policy that commands write: its certificates, and its rules as a header in C.
 
-ghost use Rattle.std.specs.Prelude.{◌≡◌, ◌≤◌, ℕ, IfErr, IfOk, List, length};
+ghost use Rattle.std.specs.Prelude.{◌≡◌, ◌≤◌, IfErr, IfOk, length};
 ghost use Rattle.sched_base.specs.declared.limits.TheConstants.{MAX_POLICY_BYTES};
 ghost use Rattle.policy_tree.specs.Meaning.{meaning_of};
-ghost use Rattle.policy_answers.specs.Checks.{IsCheckOf};
-ghost use Rattle.policy_answers.specs.declared.answer.CheckAnswer.TheVariants as checked;
 ghost use Rattle.ipanema_cli.specs.Answers.{CanBePut};
 ghost use Rattle.ipanema_cli.specs.PolicyAnswers.{exporting_of};
 ghost use Rattle.ipanema_cli.specs.Replies.{RepliesDraft, RepliesExport};
 ghost use Rattle.ipanema_cli.specs.declared.stop.Stop.TheVariants as stop;
 
-use crate::accepted::accepted_in;
+use crate::accepted::{accepted_in, playable_in};
 use crate::answers::Answer;
 use crate::kinds::ExportCommand;
 use crate::stop::Stop;
 use c_drafts::draft_text;
 use c_printer::c_text;
 use cert_file::{CertFileMemory, write_certs};
-use policy_answers::{CheckAnswer, check_text};
-use policy_checker::{AcceptedPolicy, Verdict};
+use policy_answers::check_text;
+use policy_checker::AcceptedPolicy;
 use std::alloc::Global;
 
 /// The answer to a policy's text within its limit of a command that writes a text of an accepted policy.
@@ -41,22 +39,9 @@ pub fn draft(alloc: Global, policy: &[u8]) -> Result<Answer, Stop>
     ensures shown { IfOk result CanBePut }
     ensures memory { IfErr result (λ why. why ≡ stop.Memory) }
 {
-    match check_text(alloc, policy)? {
-        CheckAnswer::Judged(verdict) => drafted(alloc, verdict),
-        refusal => Ok(Answer::Checked(refusal)),
-    }
-}
-
-/// The header of the policy that the verdict keeps, if it can be played.
-fn drafted(alloc: Global, verdict: Verdict) -> Result<Answer, Stop>
-    ensures answer { (policy : List ℕ) → IsCheckOf policy (checked.Judged verdict) → IfOk result (RepliesDraft policy) }
-    ensures shown { IfOk result CanBePut }
-    ensures memory { IfErr result (λ why. why ≡ stop.Memory) }
-{
-    if verdict.is_playable() {
-        Ok(Answer::Exported(draft_text(alloc, &verdict)?))
-    } else {
-        Ok(Answer::Checked(CheckAnswer::Judged(verdict)))
+    match playable_in(check_text(alloc, policy)?) {
+        Ok(verdict) => Ok(Answer::Exported(draft_text(alloc, verdict)?)),
+        Err(refusal) => Ok(Answer::Checked(refusal)),
     }
 }
 

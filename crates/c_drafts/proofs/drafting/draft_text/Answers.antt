@@ -9,6 +9,7 @@ use Rattle.c_drafts.specs.Drafts.{draft_of, draft_text}
 use Rattle.c_drafts.proofs.drafting.draft_text.Goals as goal
 
 pub returns-in-Accepted : goal.returns-in-Accepted
+unfolding draft_text
 returns-in-Accepted c =
     let printed = c.c_text.result in
     subst (λ (v : Verdict). IfOk printed (λ text. text.items ≡ draft_text v)) (sym c.in-Accepted.is)
@@ -16,6 +17,7 @@ returns-in-Accepted c =
     c.c_text.ensures)
 
 pub returns-in-Refused : goal.returns-in-Refused
+unfolding draft_text
 returns-in-Refused c =
     let printed = c.draft_of.result in
     let p = meaning_of c.in-Refused.policy in
@@ -24,6 +26,7 @@ returns-in-Refused c =
     c.as_slice.ensures.items c.draft_of.ensures)
 
 pub returns-in-Undecided : goal.returns-in-Undecided
+unfolding draft_text
 returns-in-Undecided c =
     let printed = c.draft_of-in-Undecided.result in
     let p = meaning_of c.in-Undecided.policy in
