@@ -6,7 +6,7 @@ use Rattle.command_words.specs.Command.{IsSerial}
 use Rattle.command_words.specs.declared.request.Request.{Request}
 use Rattle.trace_run.specs.Runs.{IsRunOf}
 use Rattle.ipanema_cli.specs.PolicyAnswers.{IsHeader}
-use Rattle.ipanema_cli.specs.Replies.{Replies, RepliesExport}
+use Rattle.ipanema_cli.specs.Replies.{Replies, RepliesDraft, RepliesExport}
 use Rattle.ipanema_cli.specs.Texts.{text_of}
 use Rattle.ipanema_cli.proofs.commands.reply.Goals as goal
 
@@ -31,6 +31,11 @@ pub returns-in-Emit-clause-answer : goal.returns-in-Emit-clause-answer
 returns-in-Emit-clause-answer c =
     subst (λ (r : Request). IfOk c.export_text-in-Emit.result (Replies IsRunOf (asked r) (text_of c.args.texts.now))) (sym c.in-Emit.is)
     (subst (λ (p : List ℕ). IfOk c.export_text-in-Emit.result (RepliesExport IsHeader p)) c.as_slice-policy.ensures.value c.export_text-in-Emit.ensures.answer)
+
+pub returns-in-Draft-clause-answer : goal.returns-in-Draft-clause-answer
+returns-in-Draft-clause-answer c =
+    subst (λ (r : Request). IfOk c.draft.result (Replies IsRunOf (asked r) (text_of c.args.texts.now))) (sym c.in-Draft.is)
+    (subst (λ (p : List ℕ). IfOk c.draft.result (RepliesDraft p)) c.as_slice-policy.ensures.value c.draft.ensures.answer)
 
 pub returns-in-Make-clause-answer : goal.returns-in-Make-clause-answer
 returns-in-Make-clause-answer c =
