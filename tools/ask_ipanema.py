@@ -65,13 +65,22 @@ def fault_in(said, status):
     return f"the policy is {lines[-1]}, {wrong[0]}" if status in VERDICTS and wrong else lines[-1]
 
 
-def judge(policy, trace, history):
-    """The verdict on the history in that file, or None where the policy isn't accepted."""
-    line = ask({WHOLE, NOT_WHOLE} | VERDICTS, "replay", policy, trace, history).decode("ascii").strip()
-    if line.endswith(("refused", "undecided")):
-        return None
+def verdict_in(said):
+    """The verdict that the program writes."""
+    line = said.decode("ascii").strip()
     word, legal = line.split(" ")
     return Verdict(word, int(legal), line)
+
+
+def judge(policy, trace, history):
+    """The verdict on the history in that file, under an accepted policy."""
+    return verdict_in(ask((WHOLE, NOT_WHOLE), "replay", policy, trace, history))
+
+
+def judge_if_accepted(policy, trace, history):
+    """The same, or None where the policy isn't accepted."""
+    said = ask({WHOLE, NOT_WHOLE} | VERDICTS, "replay", policy, trace, history)
+    return None if said.endswith((b"refused\n", b"undecided\n")) else verdict_in(said)
 
 
 def report_of(policy, trace, history, verdict):
@@ -106,7 +115,7 @@ def told_of(policy, trace, text=None):
     text = text if text is not None else played(policy, trace)
     if text is not None:
         with passing(text) as history:
-            verdict = judge(policy, trace, history)
+            verdict = judge_if_accepted(policy, trace, history)
             if verdict:
                 return text, verdict, report_of(policy, trace, history, verdict)
     made = simulated(policy, trace)
