@@ -3,6 +3,7 @@ use Rattle.std.proofs.Common.{Err, ◌∙◌}
 use Rattle.std.specs.Process.{exit_status}
 use Rattle.sched_io.proofs.PutsLemmas.{puts_none}
 use Rattle.command_words.specs.Command.{asked_by}
+use Rattle.ipanema_cli.specs.Ends.{no_memory}
 use Rattle.ipanema_cli.specs.declared.stop.Stop.TheVariants as stop
 use Rattle.ipanema_cli.proofs.CauseLemmas.{causes}
 use Rattle.ipanema_cli.proofs.LoadLemmas.{none_loaded}
@@ -28,6 +29,9 @@ returns-in-Ok-clause-loads g c = rw c.in-Ok.ensures at c.ipanema.ensures.loads
 
 pub returns-in-Ok-clause-loaded : goal.returns-in-Ok-clause-loaded
 returns-in-Ok-clause-loaded g c = let loaded = rw c.in-Ok.ensures at c.ipanema.ensures.loaded in rw c.from.ensures loaded
+
+pub returns-in-Err-clause-causes : goal.returns-in-Err-clause-causes
+returns-in-Err-clause-causes g c = causes _ _ _ _ _ _ (no_memory (c.from-in-Err.ensures ∙ c.code.ensures) (puts_none (g.S.Sink.shown c.args.out.now)))
 
 pub returns-in-Err-clause-loads : goal.returns-in-Err-clause-loads
 returns-in-Err-clause-loads g c = none_loaded _ _ _
