@@ -15,17 +15,20 @@ WIDE, UNKNOWN, MISSING = "__int128", "no-contract", "no-function"
 # What stands behind a goal for which the prover had no time.
 GIVEN_UP = ":timeout"
 Verdict = namedtuple("Verdict", "function unproved")
+# The solvers, by why3's names, which are those of their programs too. The second is asked where it is installed.
+SOLVERS = ("z3", "cvc4") if shutil.which("cvc4") else ("z3",)
+PROVERS = ",".join(SOLVERS)
 # Which provers are asked, how many seconds and steps one may take for a goal, and how many may be at work at a time.
-Limits = namedtuple("Limits", "provers timeout steps par", defaults=["z3", 60, 20_000_000, 2])
+Limits = namedtuple("Limits", "provers timeout steps par", defaults=[PROVERS, 60, 20_000_000, 2])
 FUNCTION = re.compile(r"^static inline [^\n;]*\n(\w+)\((?:[^{]|\n)*?\)\n\{\n.*?^\}\n", re.MULTILINE | re.DOTALL)
 GOAL = re.compile(r"^\[wp\] \[[^]]*\] Goal typed_(\w+) : (\w+)", re.MULTILINE)
 PROVED = re.compile(r"^\[wp\] Proved goals: +(\d+) / (\d+)$", re.MULTILINE)
 KINDS = "ensures|assigns|assert|check|call|requires|irreflexive|asymmetric|transitive|ties"
 
 
-def missing(provers="z3"):
+def missing(provers=PROVERS):
     """What this machine lacks, in words, or nothing."""
-    needed = ["frama-c", "why3", "gcc"] + (["z3"] if provers == "z3" else [])
+    needed = ["frama-c", "why3", "gcc", *(SOLVERS if provers == PROVERS else ())]
     return next((f"there is no {program}" for program in needed if not shutil.which(program)), "")
 
 
