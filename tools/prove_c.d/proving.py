@@ -21,7 +21,9 @@ PROVERS = ",".join(SOLVERS)
 # Which provers are asked, how many seconds and steps one may take for a goal, and how many may be at work at a time.
 Limits = namedtuple("Limits", "provers timeout steps par", defaults=[PROVERS, 60, 20_000_000, 2])
 FUNCTION = re.compile(r"^static inline [^\n;]*\n(\w+)\((?:[^{]|\n)*?\)\n\{\n.*?^\}\n", re.MULTILINE | re.DOTALL)
-GOAL = re.compile(r"^\[wp\] \[[^]]*\] Goal typed_(\w+) : (\w+)", re.MULTILINE)
+# A goal with what came of it, or, where two provers failed, with a line for each of them.
+GOAL = re.compile(r"^\[wp\] \[[^]]*\] Goal typed_(\w+)(?: : (\w+).*)?((?:\n  \S.*)*)", re.MULTILINE)
+FAILED = re.compile(r"^  [^:]+: (\w+)", re.MULTILINE)
 PROVED = re.compile(r"^\[wp\] Proved goals: +(\d+) / (\d+)$", re.MULTILINE)
 KINDS = "ensures|assigns|assert|check|call|requires|irreflexive|asymmetric|transitive|ties"
 
@@ -113,11 +115,12 @@ def goals_in(said, owners):
     """Of each function its goals, and whether each was proved. Their number must be the one that frama-c tells."""
     goals, count, proved = {}, 0, 0
     by_length = sorted(owners, key=len, reverse=True)
-    for goal, how in GOAL.findall(said):
+    for goal, how, provers in GOAL.findall(said):
         begin = next((begin for begin in by_length if re.match(rf"{begin}_(?:{KINDS})", goal)), None)
         if begin is None:
             raise Refused(f"frama-c: its goal {goal} is of no function")
-        word = goal[len(begin) + 1:] + (GIVEN_UP if how in ("Timeout", "Stepout") else "")
+        hows = [how] if how else FAILED.findall(provers)
+        word = goal[len(begin) + 1:] + (GIVEN_UP if {"Timeout", "Stepout"}.issuperset(hows) else "")
         goals.setdefault(owners[begin], []).append((word, how == "Valid"))
         count, proved = count + 1, proved + (how == "Valid")
     told = PROVED.search(said)
