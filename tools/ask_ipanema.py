@@ -40,7 +40,7 @@ def program():
                           stdout=subprocess.PIPE, check=False, text=True)
     if said.returncode:
         raise Refused("there is no program; ./ipanema builds one")
-    return said.stdout
+    return said.stdout.removesuffix("\n")
 
 
 def ask(statuses, *words):
