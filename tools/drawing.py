@@ -4,7 +4,7 @@ from html import escape
 
 INK, PALE, GRID = "#222222", "#777777", "#dddddd"
 BLUE, ORANGE, RED, GREEN, PURPLE = "#1f5fa8", "#c96a00", "#c0202a", "#2e7d32", "#6a3d9a"
-BAD, STILL = "#fbe0dc", "#9aa7b4"
+BAD, STILL, RESTED = "#fbe0dc", "#9aa7b4", GREEN
 
 
 class Picture:

@@ -29,6 +29,8 @@ HEADER = re.compile(rb"history 2 cores ([1-9][0-9]?)")
 REPORT_FORMS = {
     "round": "round <round> spread <spread> idle <idle>",
     "still": "still <round> <last> spread <spread> bad <bad>",
+    "rest": "rest <round> gap <gap>",
+    "restless": "rest -",
     "fail": "fail <position> by <by>",
     "rounds": "rounds <count>",
     "entries": "entries <count>",
@@ -40,10 +42,13 @@ REPORT_FORMS = {
 # What `waste` writes: how many steals a stretch has, and failed steals that no entry explains.
 WASTE_FORMS = {**REPORT_FORMS, "still": f"{REPORT_FORMS['still']} steals <steals>", "unexplained": "fail <position>"}
 TOTALS = ["rounds", "entries", "steals", "fails", "bad", "wasted"]
+# Lines that stand where others of their kind do.
+SAME_KIND = {"restless": "rest", "unexplained": "fail"}
 
 # A line has the values of the words in angle brackets by their names.
 Line = namedtuple("Line", "kind text values")
-Report = namedtuple("Report", "rounds stills fails unexplained totals")
+# Of each still stretch `rests` has the line behind its own. That has no values where no round of the stretch opens at rest.
+Report = namedtuple("Report", "rounds stills rests fails unexplained totals")
 
 
 class History(list):
@@ -165,22 +170,32 @@ def read_either(data):
 
 
 def report_in(lines):
-    kinds = [line.kind.replace("unexplained", "fail") for line in lines]
-    order = ["round", "still", "fail"]
-    body = kinds[:-len(TOTALS)]
-    if kinds[-len(TOTALS):] != TOTALS or any(kind not in order for kind in body):
-        raise Refused("a report ends with its six totals, in their order")
-    if body != sorted(body, key=order.index):
-        raise Refused("a report has its rounds first, then its still stretches, then its fails")
-    rounds = [line for line in lines if line.kind == "round" and "spread" in line.values]
+    kinds = [SAME_KIND.get(line.kind, line.kind) for line in lines]
+    check_order(kinds)
+    rounds = [line for line in lines if line.kind == "round"]
     totals = {line.kind: line.values["count"] for line in lines if "count" in line.values}
     if [line.values["round"] for line in rounds] != list(range(1, totals["rounds"] + 1)):
         raise Refused("a report has one line for each of its rounds, from 1")
-    stills = [line for line in lines if line.kind == "still"]
+    stills, rests = ([line for line, kind in zip(lines, kinds) if kind == wanted] for wanted in ("still", "rest"))
     if any(not line.values["round"] <= line.values["last"] <= totals["rounds"] for line in stills):
         raise Refused("a stretch of still rounds goes from one of its rounds to the same or a later one")
+    if any(rest.values and not still.values["round"] <= rest.values["round"] <= still.values["last"] for still, rest in zip(stills, rests)):
+        raise Refused("the first round at rest of a stretch is one of its rounds")
     fails, unexplained = ([line for line in lines if line.kind == kind] for kind in ("fail", "unexplained"))
-    return Report(rounds, stills, fails, unexplained, totals)
+    return Report(rounds, stills, rests, fails, unexplained, totals)
+
+
+def check_order(kinds):
+    """Whether lines of these kinds may stand so in a report: its rounds, its stretches with a line on rest behind each, its fails."""
+    order = ["round", "still", "rest", "fail"]
+    body = kinds[:-len(TOTALS)]
+    if kinds[-len(TOTALS):] != TOTALS or any(kind not in order for kind in body):
+        raise Refused("a report ends with its six totals, in their order")
+    others = [kind for kind in body if kind != "rest"]
+    if others != sorted(others, key=order.index):
+        raise Refused("a report has its rounds first, then its still stretches, then its fails")
+    if any((kind == "still") != (after == "rest") for kind, after in zip(["", *body], [*body, ""])):
+        raise Refused("in a report each still stretch has a line on rest behind it, and nothing else has one")
 
 
 def threads_of(values):

@@ -57,8 +57,9 @@ def illegal_in(policy, trace, before, lines, walk, verdict):
 
 def report_lines(report):
     """The lines of a report, but for those of its rounds."""
+    stretches = [line for pair in zip(report.stills, report.rests) for line in pair]
     fails = sorted(report.fails + report.unexplained, key=lambda line: line.values["position"])
-    return [line.text for line in report.stills + fails] + [f"{name} {count}" for name, count in report.totals.items()]
+    return [line.text for line in stretches + fails] + [f"{name} {count}" for name, count in report.totals.items()]
 
 
 def verdict_words(verdict):

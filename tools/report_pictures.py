@@ -1,6 +1,7 @@
 """The pictures of reports, for tools/pictures: spread and idle cores by round, of one report or of two beside each other."""
 
-from drawing import BAD, BLUE, GRID, ORANGE, PALE, RED, STILL, Picture, legend, short, ticks
+from drawing import BAD, BLUE, GRID, ORANGE, PALE, RED, RESTED, STILL, Picture, legend, short, ticks
+from histories import Line
 
 WIDTH, LEFT, RIGHT = 960, 70, 24
 # Of two reports each has this width, with the scale at the left of the first.
@@ -44,7 +45,7 @@ def draw_report(report):
     draw_spread(picture, spread, report.rounds)
     idle = Panel(picture, 366, 120, len(report.rounds), most["idle"], "idle cores")
     draw_idle(picture, idle, report.rounds)
-    draw_stills(picture, spread, report.stills)
+    draw_stills(picture, spread, report)
     draw_rounds(picture, idle, len(report.rounds))
     return picture.svg()
 
@@ -63,7 +64,7 @@ def draw_two(names, reports):
         draw_spread(picture, spread, report.rounds)
         idle = Panel(picture, 386, 120, rounds, most["idle"], "" if at else "idle cores", left, left + HALF)
         draw_idle(picture, idle, report.rounds)
-        draw_stills(picture, spread, report.stills)
+        draw_stills(picture, spread, report)
         draw_rounds(picture, idle, rounds)
     return picture.svg()
 
@@ -86,13 +87,16 @@ def is_stuck(still):
 
 
 def report_legend(picture, y, reports):
+    rested = [("at rest", lambda x, y: picture.rect(x - 8, y - 2, 16, 4, RESTED))]
     stuck = [("still, bad, and nothing stolen", lambda x, y: picture.rect(x - 8, y - 4, 16, 8, RED))]
+    has_rested = any(line.values for report in reports for line in report.rests)
+    has_stuck = any(is_stuck(line) for report in reports for line in report.stills)
     legend(picture, LEFT, y, [
-        ("spread at the opening", lambda x, y: spread_mark(picture, x, y)),
+        ("spread of loads", lambda x, y: spread_mark(picture, x, y)),
         ("idle cores while one is overloaded", lambda x, y: picture.rect(x - 4, y - 6, 8, 12, ORANGE)),
         ("bad round", lambda x, y: picture.rect(x - 7, y - 6, 14, 12, BAD)),
-        ("stretch of still rounds", lambda x, y: picture.rect(x - 8, y - 4, 16, 8, STILL)),
-    ] + (stuck if any(map(is_stuck, (line for report in reports for line in report.stills))) else []))
+        ("still rounds", lambda x, y: picture.rect(x - 8, y - 4, 16, 8, STILL)),
+    ] + (rested if has_rested else []) + (stuck if has_stuck else []))
 
 
 def spread_mark(picture, x, y):
@@ -126,15 +130,21 @@ def draw_idle(picture, panel, rounds):
     panel.axes()
 
 
-def draw_stills(picture, panel, stills):
-    """A bar under the spread for each stretch of still rounds."""
-    for line in stills:
-        first, last = line.values["round"], line.values["last"]
-        gap = min(panel.step / 8, 2)
-        picture.group(line.text)
-        left, right = panel.x(first) - panel.step / 2 + gap, panel.x(last) + panel.step / 2 - gap
-        picture.rect(left, panel.bottom + 12, right - left, 8, RED if is_stuck(line) else STILL)
-        picture.end()
+def draw_stills(picture, panel, report):
+    """A bar under the spread for each stretch of still rounds, and a line below it where the stretch is at rest."""
+    for still, rest in zip(report.stills, report.rests):
+        draw_bar(picture, panel, still, 12, 8, RED if is_stuck(still) else STILL)
+        if rest.values:
+            draw_bar(picture, panel, Line(rest.kind, rest.text, {**rest.values, "last": still.values["last"]}), 23, 4, RESTED)
+
+
+def draw_bar(picture, panel, line, below, height, fill):
+    """A bar from the round of a line to its last one, so far below the plot."""
+    gap = min(panel.step / 8, 2)
+    picture.group(line.text)
+    left, right = panel.x(line.values["round"]) - panel.step / 2 + gap, panel.x(line.values["last"]) + panel.step / 2 - gap
+    picture.rect(left, panel.bottom + below, right - left, height, fill)
+    picture.end()
 
 
 def draw_rounds(picture, panel, rounds):

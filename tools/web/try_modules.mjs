@@ -66,9 +66,9 @@ for (const path of readdirSync(new URL("gallery/", examples)).filter((name) => n
   const scene = sceneOf(line.split(" ")[0], numbersIn(line));
   same(/undefined|NaN/.test(scene), false, `${path}: ${scene}`);
 }
-same(numbersOf("round 1 spread 2 idle 1\nstill 1 1 spread 2 bad 1 steals 0\nrounds 1\nbad 1\n"), {
+same(numbersOf("round 1 spread 2 idle 1\nstill 1 1 spread 2 bad 1 steals 0\nrest -\nrounds 1\nbad 1\n"), {
   rounds: [{ round: 1, spread: 2, idle: 1 }], totals: { rounds: 1, bad: 1 },
-  lines: ["still 1 1 spread 2 bad 1 steals 0", "rounds 1", "bad 1"],
+  lines: ["still 1 1 spread 2 bad 1 steals 0", "rest -", "rounds 1", "bad 1"],
 }, "a report");
 same(wayFor("run", "accepted"), "run", "the way under an accepted policy");
 same(wayFor("run", "refused"), "simulate", "the way under a refused policy");

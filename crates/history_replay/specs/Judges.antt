@@ -15,6 +15,7 @@ use Rattle.history_judge.specs.declared.judgement.ReplayFault.TheVariants as rep
 use Rattle.history_judge.specs.Judgement.{IsFirstIllegal, IsTooShort}
 use Rattle.sched_report.specs.declared.rows.FullReport.{FullReport}
 use Rattle.sched_report.specs.Reports.{AddsUp, IsPaid, IsReport}
+use Rattle.sched_report.specs.RestRows.{RestsInTime}
 use Rattle.history_replay.specs.declared.answer.HistoryAnswer.{HistoryAnswer}
 use Rattle.history_replay.specs.declared.answer.HistoryAnswer.TheVariants as answer
 use Rattle.history_replay.specs.declared.judging.Judged.{Judged}
@@ -39,10 +40,12 @@ stop_of_replay (replay_fault.Illegal position) = stop.Refused (refusal.Illegal p
 stop_of_replay (replay_fault.Short count) = stop.Refused (refusal.Short count)
 stop_of_replay replay_fault.Memory = stop.Memory
 
--- the report is that of the history, half the spread of each stretch pays for its bad rounds, and the totals add up
+-- the report is that of the history, half the spread of each stretch pays for its bad rounds and for those before its
+-- cores are at rest, and the totals add up
 pub record Tells (p : Meaning) (plan : Plan) (history : List Entry) (report : FullReport) : Type 0 where
   pub is : IsReport p plan history report
   pub paid : IsPaid report
+  pub rests : RestsInTime report
   pub adds_up : AddsUp report
 
 -- the answer is the report of the history

@@ -1,5 +1,5 @@
 -- From how `rest` ends to the truth of what it says.
-use Rattle.std.proofs.Common.{◌≡◌, ◌≢◌, ℕ, suc, ◌+◌, ◌≤◌, ℤ, pos, ◌+ℤ◌, ◌≤ℤ◌, true, false, true≢false, not, ◌&&◌, inl, inr, List, [], ◌∷◌, Option, Some, min, refl, sym, ◌∙◌, arith, subst}
+use Rattle.std.proofs.Common.{◌≡◌, ◌≢◌, ℕ, suc, ◌+◌, ◌≤◌, ℤ, pos, ◌+ℤ◌, ◌≤ℤ◌, Bool, true, false, true≢false, not, ◌&&◌, inl, inr, List, [], ◌∷◌, Option, Some, min, refl, sym, ◌∙◌, arith, subst}
 use Rattle.std.proofs.lemmas.Int.{ints}
 use Rattle.std.proofs.lemmas.List.Elements.{All-contains}
 use Rattle.sched_base.specs.declared.limits.TheConstants.{CHECK_BUDGET, MAX_LOAD}
@@ -41,10 +41,14 @@ use Rattle.policy_answers.specs.declared.resting.RestAnswer.{RestAnswer}
 use Rattle.policy_answers.specs.declared.resting.RestAnswer.TheVariants as rested
 use Rattle.policy_answers.specs.declared.resting.Resting.{Resting}
 use Rattle.rest_laws.proofs.Gap as cores
+use Rattle.rest_laws.proofs.LowestFirst.{lowest_first}
+use Rattle.rest_bounds.specs.Following.{raises_lowest}
+use Rattle.rest_bounds.proofs.Keeping.{raises_law}
 use Rattle.round_laws.proofs.MainTheorem.{main_theorem}
+use Rattle.round_laws.proofs.MoveObligations.{move_obligations}
 use Rattle.ipanema_cli.specs.Causes.{OneOf}
 use Rattle.ipanema_cli.specs.CheckTruths.{AcceptedPolicy, SomeIsOpen, Spells}
-use Rattle.ipanema_cli.specs.RestTruths.{GapIsOpen, HasJustGap, IsTrueOfGap, MustRest, RestedPolicy, RestsTruly, RestsWithin}
+use Rattle.ipanema_cli.specs.RestTruths.{GapIsOpen, HasJustGap, IsTrueOfGap, IsTrueOfRounds, MustRest, RestedPolicy, RestsTruly, RestsWithin}
 use Rattle.ipanema_cli.specs.Status.{code_of, gap_status, rest_status, verdict_status}
 use Rattle.ipanema_cli.specs.Texts.{MayBeLong, MayRead}
 use Rattle.ipanema_cli.specs.declared.answers.Answer.TheVariants as answer
@@ -114,6 +118,13 @@ module _ (p : Meaning) (is : IsResolved p) where
   gap_true (gap.Least least wider) found =
       (found.leaves, subst (λ (vars : List ℕ). HasJustGap p least vars wider.point.vals) (sym found.apart.vars) (just_gap least wider.gap wider.point.vals found.next found.leaves found.apart.fails))
   gap_true (gap.Undecided at proved) found = (open_gap at found.unknown, found.leaves)
+
+-- what is told of the rounds is true
+rounds_true : (p : Meaning) → IsResolved p → MeetsObligations p → (told : Bool) → told ≡ raises_lowest p → IsTrueOfRounds p told
+rounds_true p is met true told =
+    let lowest = raises_law p is (sym told) in
+    record { lowest = lowest; rounds = λ plan history fits legal. lowest_first p plan history fits (move_obligations p met) lowest legal }
+rounds_true p is met false told = tt
 
 -- where the filter leaves no wider gap, cores at rest have none
 rests_within : (p : Meaning) (least : ℕ) → MeetsObligations p → RestGap p least → RestsWithin p least
@@ -207,6 +218,7 @@ rested_truly policy text told before after code read is own added =
         accepted = accepted;
         reason = reason;
         word = word;
+        bound = rounds_true p whole_policy met told.lowest_first reason.lowest;
         written = added;
         status = own;
       });

@@ -1,5 +1,5 @@
 -- What `rest` says is true.
-use Rattle.std.specs.Prelude.{◌≡◌, ◌≢◌, ◌⊎◌, ℕ, ℤ, pos, ◌+ℤ◌, List, [], ◌∷◌, map, take, Option}
+use Rattle.std.specs.Prelude.{◌≡◌, ◌≢◌, ◌⊎◌, ℕ, ℤ, pos, ◌+ℤ◌, Bool, true, false, List, [], ◌∷◌, map, take, Option}
 use Rattle.sched_io.specs.Puts.{joined}
 use Rattle.sched_io.specs.Told.{Told}
 use Rattle.sched_io.specs.Written.{Adds}
@@ -15,6 +15,7 @@ use Rattle.round_model.specs.Fits.{Fits}
 use Rattle.round_model.specs.Legal.{Legal}
 use Rattle.round_laws.specs.Rest.{RestlessAt}
 use Rattle.rest_laws.specs.Gap.{LoadsWithin}
+use Rattle.rest_laws.specs.LowestFirst.{LowestFirst, RaisesLowest}
 use Rattle.obligations.specs.DifferencePolicies.{ComparesDifferences}
 use Rattle.obligations.specs.Refutations.{cores_fit}
 use Rattle.obligations.specs.Systems.{systems_of, variable_ranges}
@@ -50,6 +51,17 @@ IsTrueOfGap p gap.Even = RestGap p 0
 IsTrueOfGap p (gap.Least least wider) = RestGap p least × HasJustGap p least wider.vars wider.point.vals
 IsTrueOfGap p (gap.Undecided at proved) = HasOpen (systems_of p (rest_gap at)) × RestGap p proved
 
+-- A core with as many threads as another or fewer sees whom that one sees, if it is as far behind him. So each restless
+-- round raises a core with the fewest threads, and there are no more of them than that takes.
+pub record RaisesLowestFirst (p : Meaning) : Type 0 where
+  pub lowest : LowestFirst p
+  pub rounds : (plan : Plan) (history : List Entry) → Fits p plan → Legal p plan history → RaisesLowest p plan history
+
+-- That is true of the rounds until cores are at rest, where the line says it.
+abbrev pub IsTrueOfRounds : Meaning → Bool → Type 0
+IsTrueOfRounds p true = RaisesLowestFirst p
+IsTrueOfRounds p false = Unit {0}
+
 -- The lines that are written answer for an accepted policy.
 pub record RestsFor (policy : Told) (before after : Option (List ℕ)) (code : ℕ) : Type 0 where
   pub p : Meaning
@@ -58,6 +70,7 @@ pub record RestsFor (policy : Told) (before after : Option (List ℕ)) (code : �
   -- what is found, for which there is a reason
   pub reason : IsToldOfGap p resting
   pub word : IsTrueOfGap p resting.gap
+  pub bound : IsTrueOfRounds p resting.lowest_first
   pub written : Adds (joined (rest_lines (Rests resting))) before after
   pub status : code ≡ code_of (gap_status resting.gap)
 

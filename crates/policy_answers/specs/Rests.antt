@@ -1,9 +1,10 @@
 -- Which answer of `rest` a policy's text may get, and how it is written.
-use Rattle.std.specs.Prelude.{◌≡◌, ℕ, ◌*◌, ◌-◌, nat_lt, cond, List, [], ◌∷◌, ◌++◌, codes, decimal, None}
+use Rattle.std.specs.Prelude.{◌≡◌, ℕ, ◌*◌, ◌-◌, nat_lt, Bool, true, false, cond, List, [], ◌∷◌, ◌++◌, codes, decimal, None}
 use Rattle.sched_base.specs.declared.limits.TheConstants.{CHECK_BUDGET, MAX_THREADS}
 use Rattle.policy_tree.specs.declared.typed.Load.{Load}
 use Rattle.policy_tree.specs.Meaning.{Meaning}
 use Rattle.policy_eval.specs.Ranges.{greatest_weight, least_weight}
+use Rattle.rest_bounds.specs.Following.{raises_lowest}
 use Rattle.policy_reader.specs.Spelled.{SpellsPolicy}
 use Rattle.obligations.specs.Counts.{first_crowded}
 use Rattle.obligations.specs.Names.{ob_names}
@@ -39,6 +40,8 @@ gap_line p (found.Undecided at proved) =
 pub record IsToldOfGap (p : Meaning) (resting : Resting) : Type 0 where
   pub found : IsLeastGap p CHECK_BUDGET resting.gap
   pub line : resting.line.items ≡ gap_line p resting.gap
+  -- and whether the policy raises the lowest, as far as that is computed
+  pub lowest : resting.lowest_first ≡ raises_lowest p
 
 -- the text spells a policy that is accepted, no obligation of which has too many cases, and that is told of it
 pub record IsAtRest (text : List ℕ) (resting : Resting) : Type 0 where
@@ -53,11 +56,13 @@ abbrev pub IsRestOf : List ℕ → RestAnswer → Type 0
 IsRestOf text (rest.Rests resting) = IsAtRest text resting
 IsRestOf text (rest.Unaccepted checked) = IsCheckOf text checked × IsNoAcceptance checked
 
--- the line on the rounds until cores are at rest: half the spread is enough for each accepted policy
-abbrev pub rounds_line : List ℕ
-rounds_line = codes "rest bound half-spread\n"
+-- the line on the rounds until cores are at rest: half the spread is enough for each accepted policy, and one that
+-- raises the lowest has fewer
+abbrev pub rounds_line : Bool → List ℕ
+rounds_line true = codes "rest bound lowest-first\n"
+rounds_line false = codes "rest bound half-spread\n"
 
 -- the lines of `rest`
 abbrev pub rest_lines : RestAnswer → List (List ℕ)
-rest_lines (rest.Rests resting) = resting.line.items ∷ rounds_line ∷ []
+rest_lines (rest.Rests resting) = resting.line.items ∷ rounds_line resting.lowest_first ∷ []
 rest_lines (rest.Unaccepted checked) = check_lines checked

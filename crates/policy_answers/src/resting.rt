@@ -18,6 +18,7 @@ use itoa::Buffer;
 use obligations::greatest_load;
 use policy_checker::{LeastGap, Verdict, WiderGap, least_gap};
 use policy_tree::{Load, Policy};
+use rest_bounds::raises_lowest;
 use sched_base::CHECK_BUDGET;
 use sched_io::{PutFault, Sink, put_all};
 use std::alloc::{AllocError, Global};
@@ -29,6 +30,8 @@ pub struct Resting {
     pub gap: LeastGap,
     /// The line that says so. Where the gap is known, with two cores that have it.
     pub line: Vec<u8>,
+    /// Whether the policy is found to raise the lowest: what `rest_bounds` tells.
+    pub lowest_first: bool,
 }
 
 /// What `rest` answers to a text that isn't too long.
@@ -62,7 +65,12 @@ fn resting_of(alloc: Global, policy: &Policy) -> Result<Resting, AllocError>
 {
     let gap = least_gap(alloc, policy, CHECK_BUDGET)?;
     let line = gap_line(alloc, policy, &gap)?;
-    Ok(Resting { gap, line })
+    let lowest_first = raises_lowest(policy);
+    Ok(Resting {
+        gap,
+        line,
+        lowest_first,
+    })
 }
 
 /// The line on the gap.
@@ -156,16 +164,21 @@ impl RestAnswer {
 
 /// Writes the line on the gap, and the one on the rounds.
 fn put_resting<S: Sink>(out: &mut S, resting: &Resting) -> Result<(), PutFault>
-    ensures { Puts (resting.now.line.items ∷ rounds_line ∷ []) result (S.shown out.old) (S.shown out.new) }
+    ensures { Puts (resting.now.line.items ∷ rounds_line resting.now.lowest_first ∷ []) result
+        (S.shown out.old) (S.shown out.new) }
 {
     put_all(out, resting.line.as_slice())?;
-    put_all(out, rounds_line())?;
+    put_all(out, rounds_line(resting.lowest_first))?;
     Ok(())
 }
 
 /// The line on the rounds.
-fn rounds_line() -> &'static [u8]
-    ensures { result.now ≡ rounds_line }
+fn rounds_line(lowest_first: bool) -> &'static [u8]
+    ensures { result.now ≡ rounds_line lowest_first }
 {
-    b"rest bound half-spread\n"
+    if lowest_first {
+        b"rest bound lowest-first\n"
+    } else {
+        b"rest bound half-spread\n"
+    }
 }

@@ -16,21 +16,21 @@ use Rattle.round_model.specs.declared.entry.Entry.{Entry}
 use Rattle.round_model.specs.declared.entry.Entry.TheVariants as entry
 use Rattle.sched_report.specs.FailRows.{AreFailRows, IsFailRow}
 use Rattle.sched_report.specs.Reports.{totals_of}
+use Rattle.sched_report.specs.Rests.{first_rest, gap_at_rest}
 use Rattle.sched_report.specs.RoundRows.{bad_within, round_row, round_rows}
 use Rattle.sched_report.specs.StillRows.{AreStillRows, IsStillRow}
-use Rattle.sched_report.specs.declared.rows.StillRow.{StillRow}
 use Rattle.model_tests.specs.Histories.{eight_threads_history, stale_read_history}
 use Rattle.model_tests.specs.Plans.{eight_threads, stale_read}
 use Rattle.model_tests.specs.Policies.{basic}
 use Rattle.model_tests.proofs.RoundRows.{eight_threads_rounds, stale_read_explained}
-use Rattle.row_tests.specs.Rows.{EightThreadsReported, StaleReadReported, eight_threads_report, stale_read_report}
+use Rattle.row_tests.specs.Rows.{EightThreadsReported, StaleReadReported, eight_threads_report, later_rounds, stale_read_report}
 
 stale_read_rounds : stale_read_report.rounds ≡ round_rows basic stale_read stale_read_history
-unfolding round_row idle_count spread touches effect after_from opening_state core_after_event handed handed_all received received_all released worked holding_cases outcomes_of task_after_set pair_values core_values thread_values event_values
+unfolding round_row gap_at_rest idle_count spread touches effect after_from opening_state core_after_event handed handed_all received received_all released worked holding_cases outcomes_of task_after_set pair_values core_values thread_values event_values
 stale_read_rounds = refl
 
 eight_threads_rows : eight_threads_report.rounds ≡ round_rows basic eight_threads eight_threads_history
-unfolding round_row idle_count spread touches effect after_from opening_state core_after_event handed handed_all received received_all released worked holding_cases outcomes_of task_after_set pair_values core_values thread_values event_values
+unfolding round_row gap_at_rest idle_count spread touches effect after_from opening_state core_after_event handed handed_all received received_all released worked holding_cases outcomes_of task_after_set pair_values core_values thread_values event_values
 eight_threads_rows = refl
 
 stale_read_totals : stale_read_report.totals ≡ totals_of stale_read_history stale_read_report.rounds
@@ -85,9 +85,6 @@ stale_read_reported = record {
 }
 
 -- the one row of the eight threads
-abbrev later_rounds : StillRow
-later_rounds = record { first = 2; last = 4; spread = 24; bad = 1 }
-
 later_spread : later_rounds.spread ≡ spread_at basic eight_threads eight_threads_history 17
 unfolding spread touches effect after_from opening_state core_after_event handed handed_all received received_all released worked holding_cases outcomes_of task_after_set pair_values core_values thread_values event_values
 later_spread = refl
@@ -105,6 +102,7 @@ later_row = record {
   begins = refl;
   spread = later_spread;
   bad = ap (λ rows. bad_within rows 2 4) eight_threads_rows;
+  rest = ap (λ rows. first_rest rows 2 4) eight_threads_rows;
 }
 
 eight_threads_stills : AreStillRows basic eight_threads eight_threads_history (later_rounds ∷ [])

@@ -18,6 +18,7 @@ use Rattle.round_model.specs.declared.entry.Entry.TheVariants as entry
 use Rattle.round_model.proofs.Stillness.{still_by_test}
 use Rattle.sched_report.specs.CauseRows.{AreCauseRows, IsCause}
 use Rattle.sched_report.specs.Reports.{totals_of}
+use Rattle.sched_report.specs.Rests.{first_rest, gap_at_rest}
 use Rattle.sched_report.specs.RoundRows.{bad_within, round_row, round_rows}
 use Rattle.sched_report.specs.StillRows.{AreStillRows, IsStillRow}
 use Rattle.sched_report.specs.StretchRows.{HasSteals}
@@ -41,7 +42,7 @@ eight_threads_wasted = record {
 
 -- one thread, and a policy that takes from a core with nothing queued
 eager_rounds : eager_waste.rounds ≡ round_rows eager one_thread one_thread_history
-unfolding round_row idle_count spread touches effect after_from opening_state core_after_event handed handed_all received received_all released worked holding_cases outcomes_of task_after_set pair_values core_values thread_values event_values
+unfolding round_row gap_at_rest idle_count spread touches effect after_from opening_state core_after_event handed handed_all received received_all released worked holding_cases outcomes_of task_after_set pair_values core_values thread_values event_values
 eager_rounds = refl
 
 eager_totals : eager_waste.totals ≡ totals_of one_thread_history eager_waste.rounds
@@ -113,7 +114,7 @@ eager_wasted = record {
 
 -- two threads, and a policy that leaves them on one core
 timid_rounds : timid_waste.rounds ≡ round_rows timid two_threads two_threads_history
-unfolding round_row idle_count spread touches effect after_from opening_state core_after_event handed handed_all received received_all released worked holding_cases outcomes_of task_after_set pair_values core_values thread_values event_values
+unfolding round_row gap_at_rest idle_count spread touches effect after_from opening_state core_after_event handed handed_all received received_all released worked holding_cases outcomes_of task_after_set pair_values core_values thread_values event_values
 timid_rounds = refl
 
 timid_totals : timid_waste.totals ≡ totals_of two_threads_history timid_waste.rounds
@@ -143,6 +144,7 @@ timid_row = record {
   begins = refl;
   spread = timid_spread;
   bad = ap (λ rows. bad_within rows 2 3) timid_rounds;
+  rest = ap (λ rows. first_rest rows 2 3) timid_rounds;
 }
 
 timid_stills : AreStillRows timid two_threads two_threads_history (timid_stretch ∷ [])

@@ -1,5 +1,5 @@
 -- The reports that tell of waste, on worked histories of policies that are accepted and of some that are refused.
-use Rattle.std.specs.Prelude.{ℕ, List, [], ◌∷◌, None, codes}
+use Rattle.std.specs.Prelude.{ℕ, List, [], ◌∷◌, None, Some, codes}
 use Rattle.policy_tree.specs.declared.typed.Load.TheVariants as load
 use Rattle.policy_tree.specs.declared.typed.Put.TheVariants as put
 use Rattle.policy_tree.specs.Meaning.{Meaning, here}
@@ -14,7 +14,7 @@ use Rattle.sched_report.specs.Wastes.{IsWaste}
 use Rattle.model_tests.specs.Histories.{eight_threads_history}
 use Rattle.model_tests.specs.Plans.{eight_threads, endless, plan_of}
 use Rattle.model_tests.specs.Policies.{basic, gap_of}
-use Rattle.row_tests.specs.Rows.{opens}
+use Rattle.row_tests.specs.Rows.{eight_threads_report, later_rounds, opens}
 
 -- the basic policy, where so many threads more are enough
 abbrev pub with_gap : ℕ → Meaning
@@ -43,8 +43,8 @@ timid = with_gap 3
 -- eight threads on the first of four cores: six steals spread them
 abbrev pub eight_threads_waste : WasteReport
 eight_threads_waste = record {
-  rounds = opens 1 0 0 ∷ opens 2 24 3 ∷ opens 3 12 0 ∷ opens 4 0 0 ∷ [];
-  stretches = record { still = record { first = 2; last = 4; spread = 24; bad = 1 }; steals = 6 } ∷ [];
+  rounds = eight_threads_report.rounds;
+  stretches = record { still = later_rounds; steals = 6 } ∷ [];
   causes = [];
   totals = record { rounds = 4; entries = 44; steals = 6; fails = 0; bad = 1; wasted = 3 };
 }
@@ -69,7 +69,7 @@ one_thread_history =
 -- nothing explains the failed steal
 abbrev pub eager_waste : WasteReport
 eager_waste = record {
-  rounds = opens 1 0 0 ∷ [];
+  rounds = opens 1 0 0 (Some 0) ∷ [];
   stretches = [];
   causes = record { at = 5; by = None } ∷ [];
   totals = record { rounds = 1; entries = 6; steals = 0; fails = 1; bad = 0; wasted = 0 };
@@ -103,13 +103,13 @@ two_threads_history =
     ∷ entry.Pass 1 (15 ∷ 16 ∷ [])
     ∷ []
 
--- from round 2 on a core waits beside an overloaded one, and nobody steals
+-- from round 2 on a core waits beside an overloaded one, and nobody steals: so the cores are at rest
 abbrev pub timid_stretch : StillRow
-timid_stretch = record { first = 2; last = 3; spread = 2; bad = 2 }
+timid_stretch = record { first = 2; last = 3; spread = 2; bad = 2; rest = Some (record { round = 2; gap = 2 }) }
 
 abbrev pub timid_waste : WasteReport
 timid_waste = record {
-  rounds = opens 1 0 0 ∷ opens 2 2 1 ∷ opens 3 2 1 ∷ [];
+  rounds = opens 1 0 0 (Some 0) ∷ opens 2 2 1 (Some 2) ∷ opens 3 2 1 (Some 2) ∷ [];
   stretches = record { still = timid_stretch; steals = 0 } ∷ [];
   causes = [];
   totals = record { rounds = 3; entries = 17; steals = 0; fails = 0; bad = 2; wasted = 2 };

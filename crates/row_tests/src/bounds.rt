@@ -1,6 +1,7 @@
-//! The sharp law on worked histories: where its bound is met, and that it needs what it asks.
+//! The sharp law on worked histories, where its bound is met, and that it needs what it asks; and the law of rest.
 
 ghost use Rattle.row_tests.specs.BoundMet.{BoundIsMet, MendedMisses, NoRoundLess};
+ghost use Rattle.row_tests.specs.Rests.{ChainTakesFour, RestBoundMet, RestIsLeft};
 ghost use Rattle.row_tests.specs.Stirred.{NeedsStillness};
 ghost use Rattle.row_tests.specs.TakenLast.{NeedsItsPremise, ThreeCoresCounts};
 
@@ -32,4 +33,19 @@ pub fn mended_misses()
 /// A bad round in which a thread ends needn't fill an idle core.
 pub fn law_needs_stillness()
     ensures { NeedsStillness }
+{}
+
+/// Two threads on one of two cores: twice the one round before rest is the spread.
+pub fn rest_bound_met()
+    ensures { RestBoundMet }
+{}
+
+/// Cores at rest leave it by threads that come, and come to rest again once they have moved.
+pub fn rest_is_left()
+    ensures { RestIsLeft }
+{}
+
+/// A policy whose thieves look at their place in a chain takes more rounds than the law of the lowest core allows.
+pub fn chain_takes_four()
+    ensures { ChainTakesFour }
 {}

@@ -3,14 +3,14 @@
 use lists::Items;
 use sched_io::{IoMemory, MemorySink};
 use sched_report::{
-    CauseRow, FailRow, FullReport, RoundRow, StillRow, StretchRow, Totals, WasteReport,
+    CauseRow, FailRow, FullReport, RestRow, RoundRow, StillRow, StretchRow, Totals, WasteReport,
     print_report, print_totals, print_waste,
 };
 use std::alloc::{AllocError, Global};
 
 /// The report on three cores, two of which look at the first before either takes a thread of it.
 fn stale_read(alloc: Global) -> Result<FullReport, AllocError> {
-    let rounds = Vec::from_slice(alloc, &[opens(1, 0, 0)])?;
+    let rounds = Vec::from_slice(alloc, &[opens(1, 0, 0, Some(0))])?;
     let fails = Vec::from_slice(alloc, &[FailRow { at: 8, by: 7 }])?;
     Ok(FullReport {
         rounds: Items::from_vec(rounds),
@@ -30,16 +30,17 @@ fn stale_read(alloc: Global) -> Result<FullReport, AllocError> {
 /// The report on eight threads that come to the first of four cores.
 fn eight_threads(alloc: Global) -> Result<FullReport, AllocError> {
     let rounds = [
-        opens(1, 0, 0),
-        opens(2, 24, 3),
-        opens(3, 12, 0),
-        opens(4, 0, 0),
+        opens(1, 0, 0, Some(0)),
+        opens(2, 24, 3, None),
+        opens(3, 12, 0, None),
+        opens(4, 0, 0, Some(0)),
     ];
     let later = StillRow {
         first: 2,
         last: 4,
         spread: 24,
         bad: 1,
+        rest: Some(RestRow { round: 4, gap: 0 }),
     };
     Ok(FullReport {
         rounds: Items::from_vec(Vec::from_slice(alloc, &rounds)?),
@@ -56,11 +57,12 @@ fn eight_threads(alloc: Global) -> Result<FullReport, AllocError> {
     })
 }
 
-fn opens(number: u32, spread: u64, idle: u32) -> RoundRow {
+fn opens(number: u32, spread: u64, idle: u32, rest: Option<u64>) -> RoundRow {
     RoundRow {
         number,
         spread,
         idle,
+        rest,
     }
 }
 
@@ -93,7 +95,7 @@ pub(crate) fn a_still_stretch(alloc: Global) -> Result<bool, AllocError> {
     let (whole, bytes) = written(alloc, &eight_threads(alloc)?, &[])?;
     let text = concat!(
         "round 1 spread 0 idle 0\nround 2 spread 24 idle 3\nround 3 spread 12 idle 0\n",
-        "round 4 spread 0 idle 0\nstill 2 4 spread 24 bad 1\n",
+        "round 4 spread 0 idle 0\nstill 2 4 spread 24 bad 1\nrest 4 gap 0\n",
         "rounds 4\nentries 44\nsteals 6\nfails 0\nbad 1\nwasted 3\n"
     );
     Ok(whole && bytes.as_slice() == text.as_bytes())
@@ -115,13 +117,18 @@ pub(crate) fn totals_alone(alloc: Global) -> Result<bool, AllocError> {
 
 /// A report of a core that waits without a steal, of a failed steal that is explained and of one that isn't.
 fn waits_for_ever(alloc: Global) -> Result<WasteReport, AllocError> {
-    let rounds = [opens(1, 0, 0), opens(2, 2, 1), opens(3, 2, 1)];
+    let rounds = [
+        opens(1, 0, 0, Some(0)),
+        opens(2, 2, 1, None),
+        opens(3, 2, 1, None),
+    ];
     let waits = StretchRow {
         still: StillRow {
             first: 2,
             last: 3,
             spread: 2,
             bad: 2,
+            rest: None,
         },
         steals: 0,
     };
@@ -150,7 +157,7 @@ pub(crate) fn a_core_that_waits(alloc: Global) -> Result<bool, AllocError> {
     let waste = waits_for_ever(alloc)?;
     let text = concat!(
         "round 1 spread 0 idle 0\nround 2 spread 2 idle 1\nround 3 spread 2 idle 1\n",
-        "still 2 3 spread 2 bad 2 steals 0\nfail 8 by 7\nfail 12\n",
+        "still 2 3 spread 2 bad 2 steals 0\nrest -\nfail 8 by 7\nfail 12\n",
         "rounds 3\nentries 17\nsteals 0\nfails 2\nbad 2\nwasted 2\n"
     );
     Ok(print_waste(&mut out, &waste).is_ok() && out.bytes() == text.as_bytes())

@@ -6,6 +6,7 @@ use Rattle.std.proofs.lemmas.Bool.Decides.{Decides-ltb, nat_tests}
 use Rattle.std.proofs.lemmas.List.Folds.{Any-from_list_any, list_any_at}
 use Rattle.std.proofs.lemmas.List.FromFn.{get_or-range_with_len, length-range_with_len}
 use Rattle.std.proofs.lemmas.List.Sums.{count_by-le-length, get_or-le-sum_by, sum_by-cons}
+use Rattle.policy_tree.specs.Meaning.{Meaning}
 use Rattle.round_model.specs.declared.plan.Plan.{Plan}
 use Rattle.round_model.specs.Cores.{Cores, core_numbers, thread_count}
 use Rattle.round_model.specs.Spread.{Beside, idle_count}
@@ -26,7 +27,7 @@ some_counted test (x ∷ xs) some =
     ] refl
 
 module _ (plan : Plan) (m : Cores) where
-  number_at : (c d : ℕ) → c < plan.cores → get_or (core_numbers plan) c d ≡ c
+  pub number_at : (c d : ℕ) → c < plan.cores → get_or (core_numbers plan) c d ≡ c
   number_at c d there = omega (arith, get_or-range_with_len 0 plan.cores c d there)
 
   abbrev idle_test : ℕ → Bool
@@ -52,7 +53,7 @@ module _ (plan : Plan) (m : Cores) where
   two_is n is = grind (arith, nat_tests)
 
   -- the core at a place among the numbers
-  core_there : (k c : ℕ) → k < length (core_numbers plan) → get_or (core_numbers plan) k c ≡ c → c < plan.cores
+  pub core_there : (k c : ℕ) → k < length (core_numbers plan) → get_or (core_numbers plan) k c ≡ c → c < plan.cores
   core_there k c inside is = omega (arith, length-range_with_len 0 plan.cores, get_or-range_with_len 0 plan.cores k c)
 
   beside_from : 0 < idle_beside plan m → Beside plan m
@@ -85,18 +86,18 @@ module _ (plan : Plan) (m : Cores) where
       let all : idle_beside plan m ≡ idle_count plan m = ap (λ b. cond b (idle_count plan m) 0) over in
       omega arith
 
-  pub bad_is_beside : (number : ℕ) → is_bad (round_row plan number m) ≡ true → Beside plan m
+  pub bad_is_beside : (p : Meaning) (number : ℕ) → is_bad (round_row p plan number m) ≡ true → Beside plan m
   unfolding round_row
-  bad_is_beside number bad = beside_from ((Decides-ltb 0 (idle_beside plan m)).0 bad)
+  bad_is_beside p number bad = beside_from ((Decides-ltb 0 (idle_beside plan m)).0 bad)
 
-  pub beside_is_bad : (number : ℕ) → Beside plan m → is_bad (round_row plan number m) ≡ true
+  pub beside_is_bad : (p : Meaning) (number : ℕ) → Beside plan m → is_bad (round_row p plan number m) ≡ true
   unfolding round_row
-  beside_is_bad number beside = (Decides-ltb 0 (idle_beside plan m)).1 (from_beside beside)
+  beside_is_bad p number beside = (Decides-ltb 0 (idle_beside plan m)).1 (from_beside beside)
 
   -- no more cores are idle than there are
-  pub few_idle : (number : ℕ) → (round_row plan number m).idle ≤ plan.cores
+  pub few_idle : (p : Meaning) (number : ℕ) → (round_row p plan number m).idle ≤ plan.cores
   unfolding round_row idle_count
-  few_idle number = by_test (is_overloaded plan m)
+  few_idle p number = by_test (is_overloaded plan m)
     where
       by_test : (b : Bool) → cond b (idle_count plan m) 0 ≤ plan.cores
       by_test true = omega (arith, count_by-le-length idle_test (core_numbers plan), length-range_with_len 0 plan.cores)

@@ -2,6 +2,7 @@ pub mod Fronts
 pub mod OpeningRows
 pub mod Puttings
 pub mod RunCounts
+pub mod RunRests
 pub mod RunLemmas
 pub mod FlagLemmas
 pub mod WalkLemmas
@@ -10,6 +11,9 @@ pub mod StretchLemmas
 pub mod BesideLemmas
 pub mod LastRounds
 pub mod PaidLemmas
+pub mod RestFacts
+pub mod Scans
+pub mod RestRows
 pub mod ReportLemmas
 pub mod OneReport
 pub mod CauseLemmas

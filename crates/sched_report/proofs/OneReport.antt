@@ -1,6 +1,6 @@
 -- A legal history has no two reports: rounds and totals are computed, a Fail has one first cause, and two lists of the
 -- same stretches in order are one list.
-use Rattle.std.proofs.Common.{◌≡◌, ℕ, zero, suc, ◌<◌, ◌⊎◌, inl, inr, List, [], ◌∷◌, All, length, get_or, map, refl, sym, ap, ap₂, subst, ◌∙◌, arith}
+use Rattle.std.proofs.Common.{◌≡◌, ℕ, zero, suc, ◌<◌, ◌⊎◌, inl, inr, List, [], ◌∷◌, Option, All, length, get_or, map, refl, sym, ap, ap₂, subst, ◌∙◌, arith}
 use Rattle.std.specs.Prelude.{AllPairs, Contains}
 use Rattle.std.specs.List.Sorted.{IsStrictlyIncreasing}
 use Rattle.std.proofs.lemmas.List.{get_or-map, length-map, same_lists}
@@ -16,10 +16,12 @@ use Rattle.round_model.specs.StillRounds.{spread_at}
 use Rattle.round_laws.proofs.RoundNumbers.{begins_once}
 use Rattle.sched_report.specs.FailRows.{AreFailRows, IsFailRow}
 use Rattle.sched_report.specs.Laws.{OneReportLaw}
+use Rattle.sched_report.specs.Rests.{first_rest}
 use Rattle.sched_report.specs.RoundRows.{bad_within, round_rows}
 use Rattle.sched_report.specs.StillRows.{AreStillRows, IsStillRow}
 use Rattle.sched_report.specs.declared.rows.FailRow.{FailRow}
 use Rattle.sched_report.specs.declared.rows.FullReport.{FullReport}
+use Rattle.sched_report.specs.declared.rows.RestRow.{RestRow}
 use Rattle.sched_report.specs.declared.rows.RoundRow.{RoundRow}
 use Rattle.sched_report.specs.declared.rows.StillRow.{StillRow}
 use Rattle.sched_report.specs.declared.rows.Totals.{Totals}
@@ -89,11 +91,12 @@ same_rows (x ∷ xs) (y ∷ ys) one other there back =
         by_front (inl is) = absurd (never_both z (subst (λ w. Earlier w z) (sym same ∙ is) (All-contains (Earlier y) ys z (behind_all y ys other) among)))
         by_front (inr found) = found
 
-same_row : (x y : StillRow) → x.first ≡ y.first → x.last ≡ y.last → x.spread ≡ y.spread → x.bad ≡ y.bad → x ≡ y
-same_row x y first last spread bad =
-    let ends : ℕ → ℕ → StillRow = λ f l. record { first = f; last = l; spread = x.spread; bad = x.bad } in
-    let sums : ℕ → ℕ → StillRow = λ s b. record { first = y.first; last = y.last; spread = s; bad = b } in
-    ap₂ ends first last ∙ ap₂ sums spread bad
+same_row : (x y : StillRow) → x.first ≡ y.first → x.last ≡ y.last → x.spread ≡ y.spread → x.bad ≡ y.bad → x.rest ≡ y.rest → x ≡ y
+same_row x y first last spread bad rest =
+    let ends : ℕ → ℕ → StillRow = λ f l. record { first = f; last = l; spread = x.spread; bad = x.bad; rest = x.rest } in
+    let sums : ℕ → ℕ → StillRow = λ s b. record { first = y.first; last = y.last; spread = s; bad = b; rest = x.rest } in
+    let rests : Option RestRow → StillRow = λ r. record { first = y.first; last = y.last; spread = y.spread; bad = y.bad; rest = r } in
+    ap₂ ends first last ∙ (ap₂ sums spread bad ∙ ap rests rest)
 
 same_fail : (x y : FailRow) → x.at ≡ y.at → x.by ≡ y.by → x ≡ y
 same_fail x y at by = let row : ℕ → ℕ → FailRow = λ a b. record { at = a; by = b } in ap₂ row at by
@@ -125,6 +128,7 @@ module _ (p : Meaning) (plan : Plan) (history : List Entry) where
         let opening = begins_once p plan history legal x.first one.opening other.opening one.begins (subst (λ n. BeginsAt history n other.opening) (sym first) other.begins) in
         same_row x y first last (one.spread ∙ (ap (spread_at p plan history) opening ∙ sym other.spread))
         (one.bad ∙ (ap₂ (bad_within (round_rows p plan history)) first last ∙ sym other.bad))
+        (one.rest ∙ (ap₂ (first_rest (round_rows p plan history)) first last ∙ sym other.rest))
 
     found_in : (xs ys : List StillRow) → AreStillRows p plan history xs → AreStillRows p plan history ys → (z : StillRow) → Contains xs z → Contains ys z
     found_in xs ys one other z among =

@@ -59,24 +59,24 @@ numbers_rise test k (row ∷ rows) numbered = by_test (test row) (numbers_rise t
     )
     by_test false (rises, above) = (rises, All-weaker (λ n. suc k < n) (λ n. k < n) (λ n less. omega arith) (map number_of (filter test rows)) above)
 
-both : (a b : Bool) → (a && b) ≡ true → (a ≡ true) × (b ≡ true)
+pub both : (a b : Bool) → (a && b) ≡ true → (a ≡ true) × (b ≡ true)
 both true b is = (refl, is)
 both false b is = absurd (false≢true is)
 
-is_low : (a b : ℕ) → nat_le a b ≡ true → a ≤ b
+pub is_low : (a b : ℕ) → nat_le a b ≡ true → a ≤ b
 is_low a b is = grind (arith, nat_tests)
 
 module _ (p : Meaning) (plan : Plan) (history : List Entry) where
   -- the row of a round that has begun
-  record IsRowOf (row : RoundRow) : Type 0 where
-    before : ℕ
-    begun : before < rounds_begun history
-    opening : ℕ
-    begins : BeginsAt history (suc before) opening
-    is : row ≡ round_row plan (suc before) (after p plan (take opening history))
+  pub record IsRowOf (row : RoundRow) : Type 0 where
+    pub before : ℕ
+    pub begun : before < rounds_begun history
+    pub opening : ℕ
+    pub begins : BeginsAt history (suc before) opening
+    pub is : row ≡ round_row p plan (suc before) (after p plan (take opening history))
 
   module _ (legal : Legal p plan history) where
-    each_row : All IsRowOf (round_rows p plan history)
+    pub each_row : All IsRowOf (round_rows p plan history)
     each_row k d inside =
         let begun : k < rounds_begun history = omega (arith, rows_counted p plan history) in
         let told = round_told p plan history legal k begun in
@@ -85,7 +85,7 @@ module _ (p : Meaning) (plan : Plan) (history : List Entry) where
           begun = begun;
           opening = told.opening;
           begins = told.begins;
-          is = get_or_from_slice_get (round_rows p plan history) k (round_row plan (suc k) (after p plan (take told.opening history))) d told.row;
+          is = get_or_from_slice_get (round_rows p plan history) k (round_row p plan (suc k) (after p plan (take told.opening history))) d told.row;
         }
 
     -- the sums of the rows are small
@@ -98,7 +98,7 @@ module _ (p : Meaning) (plan : Plan) (history : List Entry) where
         let cores = limits.few_cores in
         let each : All (λ (row : RoundRow). row.idle ≤ MAX_CORES) rows =
         All-weaker IsRowOf (λ (row : RoundRow). row.idle ≤ MAX_CORES)
-        (λ row told. let idle = few_idle plan (after p plan (take told.opening history)) (suc told.before) in let same : row.idle ≡ (round_row plan (suc told.before) (after p plan (take told.opening history))).idle = ap (λ (x : RoundRow). x.idle) told.is in omega arith)
+        (λ row told. let idle = few_idle plan (after p plan (take told.opening history)) p (suc told.before) in let same : row.idle ≡ (round_row p plan (suc told.before) (after p plan (take told.opening history))).idle = ap (λ (x : RoundRow). x.idle) told.is in omega arith)
         rows each_row in
         omega (arith, sum_by-le (λ (row : RoundRow). row.idle) MAX_CORES rows each, few_rows few)
 
@@ -117,7 +117,7 @@ module _ (p : Meaning) (plan : Plan) (history : List Entry) where
           position = told.opening;
           begins = told.begins;
           complete = attempts p plan history whole (suc told.before) told.opening told.begins (omega arith) (omega arith);
-          beside = bad_is_beside plan (after p plan (take told.opening history)) (suc told.before) (sym (ap is_bad told.is) ∙ bad);
+          beside = bad_is_beside plan (after p plan (take told.opening history)) p (suc told.before) (sym (ap is_bad told.is) ∙ bad);
         })
 
     -- and the row of a bad round is bad
@@ -127,7 +127,7 @@ module _ (p : Meaning) (plan : Plan) (history : List Entry) where
         let number : row.number ≡ suc told.before = ap number_of told.is in
         let same = begins_once p plan history whole.legal (suc told.before) bad.position told.opening (subst (λ n. BeginsAt history n bad.position) number bad.begins) told.begins in
         ap is_bad told.is
-        ∙ beside_is_bad plan (after p plan (take told.opening history)) (suc told.before) (subst (λ k. Beside plan (after p plan (take k history))) same bad.beside)
+        ∙ beside_is_bad plan (after p plan (take told.opening history)) p (suc told.before) (subst (λ k. Beside plan (after p plan (take k history))) same bad.beside)
 
     pub bad_exactly : (row : RoundRow) → Contains (round_rows p plan history) row → IsTrue (is_bad row) ↔ IsBad p plan history row.number
     bad_exactly row among = let told = All-contains IsRowOf (round_rows p plan history) row (each_row whole.legal) among in (bad_round row told, round_bad row told)

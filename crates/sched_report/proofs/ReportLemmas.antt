@@ -17,6 +17,7 @@ use Rattle.sched_report.specs.FailRows.{fail_at}
 use Rattle.sched_report.specs.Reports.{AddsUp, IsPaid, IsReport, totals_of}
 use Rattle.sched_report.specs.Code.Runs.{AreNumbered, AreRuns}
 use Rattle.sched_report.specs.Code.Tellings.{IsTold}
+use Rattle.sched_report.specs.RestRows.{RestsInTime, rounds_before}
 use Rattle.sched_report.specs.StillRows.{IsStillRow}
 use Rattle.sched_report.specs.Code.Walks.{IsTally}
 use Rattle.sched_report.specs.declared.rows.FailRow.{FailRow}
@@ -27,6 +28,7 @@ use Rattle.sched_report.specs.declared.telling.Told.{Told}
 use Rattle.sched_report.specs.declared.walk.Tally.{Tally}
 use Rattle.sched_report.proofs.CauseLemmas.{fails_are}
 use Rattle.sched_report.proofs.PaidLemmas.{paid_row}
+use Rattle.sched_report.proofs.RestRows.{rests_in_time}
 use Rattle.sched_report.proofs.RoundRowLemmas.{rows_counted, rows_numbered}
 use Rattle.sched_report.proofs.StretchLemmas.{are_still_rows}
 
@@ -77,6 +79,9 @@ module _ (p : Meaning) (plan : Plan) (history : List Entry) where
 
     pub report_paid : Whole p plan history → Fits p plan → MeetsObligations p → IsPaid report
     report_paid whole fits meets = All-weaker (IsStillRow p plan history) (λ (row : StillRow). 2 * row.bad ≤ row.spread) (paid_row p plan history whole fits meets) told.stills is.stills.each
+
+    pub report_rests : Whole p plan history → Fits p plan → MeetsObligations p → RestsInTime report
+    report_rests whole fits meets = All-weaker (IsStillRow p plan history) (λ (row : StillRow). 2 * rounds_before row.first row.last row.rest ≤ row.spread) (rests_in_time p plan history whole fits meets) told.stills is.stills.each
 
     pub report_adds_up : AddsUp report
     unfolding totals_of

@@ -31,21 +31,21 @@ slice_get_longer (y ∷ xs) ys zero x is = is
 slice_get_longer (y ∷ xs) ys (suc i) x is = slice_get_longer xs ys i x is
 
 -- an entry has a row where a round begins in it
-one_row : (plan : Plan) (m : Cores) (e : Entry) → length (option_to_list (row_of plan m e)) ≡ cond (is_round e) 1 0
-one_row plan m (entry.Round number) = refl
-one_row plan m (entry.Enter thread by at reads) = refl
-one_row plan m (entry.Wake thread by at reads) = refl
-one_row plan m (entry.Work by what) = refl
-one_row plan m (entry.Steal by from threads reads) = refl
-one_row plan m (entry.Fail by from reads) = refl
-one_row plan m (entry.Pass by reads) = refl
+one_row : (p : Meaning) (plan : Plan) (m : Cores) (e : Entry) → length (option_to_list (row_of p plan m e)) ≡ cond (is_round e) 1 0
+one_row p plan m (entry.Round number) = refl
+one_row p plan m (entry.Enter thread by at reads) = refl
+one_row p plan m (entry.Wake thread by at reads) = refl
+one_row p plan m (entry.Work by what) = refl
+one_row p plan m (entry.Steal by from threads reads) = refl
+one_row p plan m (entry.Fail by from reads) = refl
+one_row p plan m (entry.Pass by reads) = refl
 
 module _ (p : Meaning) (plan : Plan) (history : List Entry) where
   -- the rows of the first entries
   abbrev front : ℕ → List RoundRow
   front at = filter_map (row_at p plan history) (enumerate_from 0 (take at history))
 
-  front_more : (at : ℕ) (e : Entry) → get_elem? history at ≡ some e → at < length history → front (suc at) ≡ front at ++ option_to_list (row_of plan (after p plan (take at history)) e)
+  front_more : (at : ℕ) (e : Entry) → get_elem? history at ≡ some e → at < length history → front (suc at) ≡ front at ++ option_to_list (row_of p plan (after p plan (take at history)) e)
   front_more at e is inside = picked_more (row_at p plan history) history at e is inside
 
   front_whole : front (length history) ≡ round_rows p plan history
@@ -62,8 +62,8 @@ module _ (p : Meaning) (plan : Plan) (history : List Entry) where
       omega (
         arith,
         ap length (front_more at e is (omega arith)),
-        length-append (front at) (option_to_list (row_of plan (after p plan (take at history)) e)),
-        one_row plan (after p plan (take at history)) e,
+        length-append (front at) (option_to_list (row_of p plan (after p plan (take at history)) e)),
+        one_row p plan (after p plan (take at history)) e,
         counted at (omega arith),
         begun,
       )
@@ -81,13 +81,13 @@ module _ (p : Meaning) (plan : Plan) (history : List Entry) where
           let d : Entry = entry.Round 0 in
           let e = get_or history at d in
           subst (λ rows. slice_get rows i ≡ Some x) (sym (front_more at e (elem_at history at d (omega arith)) (omega arith)))
-          (slice_get_longer (front at) (option_to_list (row_of plan (after p plan (take at history)) e)) i x (rest (omega arith) (omega arith)))
+          (slice_get_longer (front at) (option_to_list (row_of p plan (after p plan (take at history)) e)) i x (rest (omega arith) (omega arith)))
 
   -- the row of a Round stands behind those of the rounds before it
-  row_in_place : (number at : ℕ) → BeginsAt history number at → slice_get (round_rows p plan history) (rounds_begun (take at history)) ≡ Some (round_row plan number (after p plan (take at history)))
+  pub row_in_place : (number at : ℕ) → BeginsAt history number at → slice_get (round_rows p plan history) (rounds_begun (take at history)) ≡ Some (round_row p plan number (after p plan (take at history)))
   row_in_place number at begins =
       let inside = entry_inside history at (entry.Round number) begins in
-      let row = round_row plan number (after p plan (take at history)) in
+      let row = round_row p plan number (after p plan (take at history)) in
       let here : slice_get (front (suc at)) (length (front at)) ≡ Some row =
       subst (λ rows. slice_get rows (length (front at)) ≡ Some row) (sym (front_more at (entry.Round number) begins inside)) (slice_get_last (front at) row) in
       let all = stays (length history) (suc at) (length (front at)) row here (omega arith) (omega arith) in
@@ -98,7 +98,7 @@ module _ (p : Meaning) (plan : Plan) (history : List Entry) where
   pub record RoundTold (before : ℕ) : Type 0 where
     pub opening : ℕ
     pub begins : BeginsAt history (suc before) opening
-    pub row : slice_get (round_rows p plan history) before ≡ Some (round_row plan (suc before) (after p plan (take opening history)))
+    pub row : slice_get (round_rows p plan history) before ≡ Some (round_row p plan (suc before) (after p plan (take opening history)))
 
   module _ (legal : Legal p plan history) where
     all_begun : round_at history (length history) ≡ rounds_begun history
@@ -114,11 +114,11 @@ module _ (p : Meaning) (plan : Plan) (history : List Entry) where
             record {
               opening = k;
               begins = begins;
-              row = subst (λ n. slice_get (round_rows p plan history) n ≡ Some (round_row plan (suc before) (after p plan (take k history)))) count (row_in_place (suc before) k begins);
+              row = subst (λ n. slice_get (round_rows p plan history) n ≡ Some (round_row p plan (suc before) (after p plan (take k history)))) count (row_in_place (suc before) k begins);
             }
 
     pub rows_numbered : AreNumbered (round_rows p plan history)
     unfolding round_row
     rows_numbered k d inside =
         let told = round_told k (omega (arith, rows_counted)) in
-        ap (λ (row : RoundRow). row.number) (get_or_from_slice_get (round_rows p plan history) k (round_row plan (suc k) (after p plan (take told.opening history))) d told.row)
+        ap (λ (row : RoundRow). row.number) (get_or_from_slice_get (round_rows p plan history) k (round_row p plan (suc k) (after p plan (take told.opening history))) d told.row)

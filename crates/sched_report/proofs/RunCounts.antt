@@ -32,10 +32,10 @@ all_of : (b : Bool) → one_if (b && (true && true)) ≡ one_if b
 all_of true = refl
 all_of false = refl
 
-not_le : (a b : ℕ) → b < a → nat_le a b ≡ false
+pub not_le : (a b : ℕ) → b < a → nat_le a b ≡ false
 not_le a b less = grind (arith, nat_tests)
 
-is_le : (a b : ℕ) → a ≤ b → nat_le a b ≡ true
+pub is_le : (a b : ℕ) → a ≤ b → nat_le a b ≡ true
 is_le a b less = grind (arith, nat_tests)
 
 module _ (first last : ℕ) (row : RoundRow) where

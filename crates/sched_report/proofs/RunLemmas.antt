@@ -2,15 +2,18 @@
 use Rattle.std.proofs.Common.{◌≡◌, ℕ, zero, suc, ◌+◌, ◌<◌, ◌≤◌, ◌⊎◌, inl, inr, Bool, true, false, List, [], ◌∷◌, ◌++◌, Option, None, Some, All, MatchOption, length, get_or, option_to_list, refl, sym, ap, subst, ◌∙◌, arith, eq-or-lt_of_le, append-nil}
 use Rattle.std.specs.Prelude.{Contains, slice_get}
 use Rattle.std.specs.List.Sorted.{IsStrictlyIncreasing}
+use Rattle.std.specs.Option.{option_or}
 use Rattle.std.proofs.lemmas.Bool.{cases_lt, false≢true}
 use Rattle.std.proofs.lemmas.List.{get_or_append_left, get_or_past, get_or_push, length_push, map-append}
 use Rattle.std.proofs.lemmas.List.Elements.{All-map, All-push, All-weaker, Contains-append_left, Contains-push, Contains-push_cases}
 use Rattle.std.proofs.lemmas.Option.{get_or_from_slice_get, slice_get_within}
+use Rattle.sched_report.specs.Rests.{first_rest, rest_told}
 use Rattle.sched_report.specs.RoundRows.{bad_within}
 use Rattle.sched_report.specs.Code.Runs.{AreNumbered, AreRuns, AreRunsSoFar, IsCovered, IsOpen, IsRun, firsts, grown_row, is_flagged}
 use Rattle.sched_report.specs.declared.rows.RoundRow.{RoundRow}
 use Rattle.sched_report.specs.declared.rows.StillRow.{StillRow}
 use Rattle.sched_report.proofs.RunCounts.{none_within, one_more_bad}
+use Rattle.sched_report.proofs.RunRests.{no_rest_within, one_more_rest}
 
 -- a number more at the end
 increasing_push : (xs : List ℕ) (y : ℕ) → IsStrictlyIncreasing xs → All (λ x. x < y) xs → IsStrictlyIncreasing (xs ++ y ∷ [])
@@ -82,6 +85,10 @@ module _ (flags : List Bool) (rounds : List RoundRow) where
             let none = none_within (suc at) at rounds (omega arith) in
             let all : bad_within rounds y.number y.number ≡ bad_within rounds (suc at) (suc at) = ap (λ n. bad_within rounds n n) number in
             omega arith;
+        rest =
+            let more = one_more_rest at (suc at) rounds y numbered there (omega arith) in
+            let none = no_rest_within (suc at) at rounds (omega arith) in
+            sym (ap (λ n. first_rest rounds n n) number ∙ (more ∙ ap (λ o. option_or o (rest_told y)) none));
       };
       last_is = number;
     }
@@ -103,6 +110,12 @@ module _ (flags : List Bool) (rounds : List RoundRow) where
             let more = one_more_bad at run.first rounds y numbered there (omega arith) in
             let all : bad_within rounds run.first y.number ≡ bad_within rounds run.first (suc at) = ap (bad_within rounds run.first) number in
             omega arith;
+        rest =
+            let order = is.run.ordered in
+            let last = is.last_is in
+            let more = one_more_rest at run.first rounds y numbered there (omega arith) in
+            ap (λ o. option_or o (rest_told y)) (is.run.rest ∙ ap (first_rest rounds run.first) is.last_is)
+            ∙ (sym more ∙ ap (first_rest rounds run.first) (sym number));
       };
       last_is = number;
     }

@@ -84,13 +84,14 @@ module _ (p : Meaning) (plan : Plan) (h : List Entry) (legal : Legal p plan h) (
       let stretch = run_stretch h flags are (round_rows p plan h) row run in
       let begun = stretch.begun in
       let told = round_told p plan h legal before (omega arith) in
-      let opens = round_row plan (suc before) (after p plan (take told.opening h)) in
+      let opens = round_row p plan (suc before) (after p plan (take told.opening h)) in
       record {
         longest = run_longest h flags are (round_rows p plan h) row run;
         opening = told.opening;
         begins = subst (λ n. get_elem? h told.opening ≡ some (entry.Round n)) (sym first) told.begins;
         spread = run.run.spread opens ∙ ap (λ (x : RoundRow). x.spread) (get_or_from_slice_get (round_rows p plan h) before opens opens told.row);
         bad = run.run.bad;
+        rest = run.run.rest;
       }
 
   -- each longest stretch has a row

@@ -71,14 +71,14 @@ elem_at (x ∷ xs) zero d inside = refl
 elem_at (x ∷ xs) (suc k) d inside = elem_at xs k d (omega arith)
 
 -- the row of a state as a list is that of the state
-told_is : (plan : Plan) (m : Cores) (state : List ModelCore) (e : Entry) → state ≡ listed plan.cores m → row_told state e ≡ row_of plan m e
-told_is plan m state (entry.Round number) is = ap (λ cores. row_told cores (entry.Round number)) is ∙ ap Some (row_is plan m number)
-told_is plan m state (entry.Enter thread by at reads) is = refl
-told_is plan m state (entry.Wake thread by at reads) is = refl
-told_is plan m state (entry.Work by what) is = refl
-told_is plan m state (entry.Steal by from threads reads) is = refl
-told_is plan m state (entry.Fail by from reads) is = refl
-told_is plan m state (entry.Pass by reads) is = refl
+told_is : (p : Meaning) (plan : Plan) (m : Cores) (state : List ModelCore) (e : Entry) → state ≡ listed plan.cores m → row_told p plan state e ≡ row_of p plan m e
+told_is p plan m state (entry.Round number) is = ap (λ cores. row_told p plan cores (entry.Round number)) is ∙ ap Some (row_is p plan m number)
+told_is p plan m state (entry.Enter thread by at reads) is = refl
+told_is p plan m state (entry.Wake thread by at reads) is = refl
+told_is p plan m state (entry.Work by what) is = refl
+told_is p plan m state (entry.Steal by from threads reads) is = refl
+told_is p plan m state (entry.Fail by from reads) is = refl
+told_is p plan m state (entry.Pass by reads) is = refl
 
 module _ (p : Meaning) (plan : Plan) (history : List Entry) (at : ℕ) (inside : at < length history) where
   long : length (take at history) ≡ at
@@ -227,13 +227,13 @@ module _ (p : Meaning) (plan : Plan) (history : List Entry) (at : ℕ) (inside :
 
     -- what is told with the entry
     pub tally_more : (e : Entry) (old new : Tally) (state : List ModelCore) → get_elem? history at ≡ some e → IsTallySoFar p plan history at old
-        → state ≡ listed plan.cores (after p plan (take at history)) → new.rounds ≡ old.rounds ++ option_to_list (row_told state e) → new.still ≡ flags_with e old.still
+        → state ≡ listed plan.cores (after p plan (take at history)) → new.rounds ≡ old.rounds ++ option_to_list (row_told p plan state e) → new.still ≡ flags_with e old.still
         → AddsFail past e old.causes new.causes → IsTallySoFar p plan history (suc at) new
     tally_more e old new state is so_far cores rounds still fails =
         let more = fails_more e old.causes new.causes is fails in
         record {
           rounds = rounds
-              ∙ (ap₂ (λ (front : List RoundRow) (o : Option RoundRow). front ++ option_to_list o) so_far.rounds (told_is plan (after p plan (take at history)) state e cores)
+              ∙ (ap₂ (λ (front : List RoundRow) (o : Option RoundRow). front ++ option_to_list o) so_far.rounds (told_is p plan (after p plan (take at history)) state e cores)
               ∙ sym (picked_more (row_at p plan history) history at e is inside));
           still = subst (λ h. AreFlags h new.still) (sym (entry_more history at e is))
               (subst (AreFlags (take at history ++ e ∷ [])) (sym still) (flags_more p plan (take at history) e stands.legal (legal at e is) old.still so_far.still));

@@ -1,5 +1,5 @@
 -- Reports that tell of waste: there is one, and of a policy that meets its obligations it says what the report says.
-use Rattle.std.proofs.Common.{◌≡◌, ℕ, ◌≤◌, List, All, length, get_or, map, sym, ap, ap₂, subst, ◌∙◌, arith}
+use Rattle.std.proofs.Common.{◌≡◌, ℕ, List, length, get_or, map, sym, ap, ap₂, ◌∙◌, arith}
 use Rattle.std.proofs.lemmas.List.{get_or-map, length-map, same_lists}
 use Rattle.policy_tree.specs.Meaning.{Meaning}
 use Rattle.round_model.specs.declared.entry.Entry.{Entry}
@@ -8,7 +8,6 @@ use Rattle.round_model.specs.Legal.{Legal}
 use Rattle.sched_report.specs.CauseRows.{with_cause}
 use Rattle.sched_report.specs.Laws.{WasteLaw}
 use Rattle.sched_report.specs.Reports.{IsReport}
-use Rattle.sched_report.specs.StillRows.{AreStillRows, IsStillRow}
 use Rattle.sched_report.specs.StretchRows.{AreStretchRows, HasSteals, steals_within, still_of}
 use Rattle.sched_report.specs.Wastes.{IsWaste, SaysTheSame}
 use Rattle.sched_report.specs.declared.rows.CauseRow.{CauseRow}

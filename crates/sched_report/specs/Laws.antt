@@ -20,7 +20,8 @@ use Rattle.sched_report.specs.declared.rows.WasteReport.{WasteReport}
 
 -- the row of a round is bad exactly where some core is idle beside an overloaded one as the round opens
 abbrev pub BadRowsLaw : Type 0
-BadRowsLaw = (plan : Plan) (m : Cores) (number : ℕ) → IsTrue (is_bad (round_row plan number m)) ↔ Beside plan m
+BadRowsLaw = (p : Meaning) (plan : Plan) (m : Cores) (number : ℕ) → IsTrue (is_bad (round_row p plan number m))
+    ↔ Beside plan m
 
 -- of a whole history it is so exactly where the round is bad
 abbrev pub BadRoundsLaw : Type 0

@@ -4,6 +4,8 @@ pub mod FailRows
 pub mod Laws
 pub mod Lines
 pub mod Reports
+pub mod RestRows
+pub mod Rests
 pub mod RoundRows
 pub mod StillRows
 pub mod StretchRows

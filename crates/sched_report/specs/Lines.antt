@@ -3,6 +3,7 @@ use Rattle.std.specs.Prelude.{ℕ, List, [], ◌∷◌, ◌++◌, Option, None, 
 use Rattle.sched_report.specs.declared.rows.CauseRow.{CauseRow}
 use Rattle.sched_report.specs.declared.rows.FailRow.{FailRow}
 use Rattle.sched_report.specs.declared.rows.FullReport.{FullReport}
+use Rattle.sched_report.specs.declared.rows.RestRow.{RestRow}
 use Rattle.sched_report.specs.declared.rows.RoundRow.{RoundRow}
 use Rattle.sched_report.specs.declared.rows.StillRow.{StillRow}
 use Rattle.sched_report.specs.declared.rows.StretchRow.{StretchRow}
@@ -22,12 +23,19 @@ abbrev pub still_until : StillRow → List ℕ → List ℕ
 still_until row end = named (codes "still ") row.first ++ named (codes " ") row.last
     ++ named (codes " spread ") row.spread ++ named (codes " bad ") row.bad ++ end
 
+-- the line that tells when a stretch comes to rest, and the gap between the loads then
+abbrev pub line_of_rest : Option RestRow → List ℕ
+line_of_rest None = codes "rest -\n"
+line_of_rest (Some rest) = named (codes "rest ") rest.round ++ named (codes " gap ") rest.gap ++ codes "\n"
+
+-- the two lines of a stretch
 abbrev pub line_of_still : StillRow → List ℕ
-line_of_still row = still_until row (codes "\n")
+line_of_still row = still_until row (codes "\n") ++ line_of_rest row.rest
 
 -- the same with its steals
 abbrev pub line_of_stretch : StretchRow → List ℕ
-line_of_stretch row = still_until row.still (named (codes " steals ") row.steals ++ codes "\n")
+line_of_stretch row =
+    still_until row.still (named (codes " steals ") row.steals ++ codes "\n") ++ line_of_rest row.still.rest
 
 abbrev pub line_of_fail : FailRow → List ℕ
 line_of_fail row = named (codes "fail ") row.at ++ named (codes " by ") row.by ++ codes "\n"

@@ -9,6 +9,7 @@ use Rattle.round_model.specs.declared.plan.Plan.{Plan}
 use Rattle.round_model.specs.After.{after}
 use Rattle.round_model.specs.Cores.{Cores, core_numbers, thread_count}
 use Rattle.round_model.specs.Spread.{idle_count, spread}
+use Rattle.sched_report.specs.Rests.{gap_at_rest}
 use Rattle.sched_report.specs.declared.rows.RoundRow.{RoundRow}
 
 -- whether some core is overloaded
@@ -20,17 +21,22 @@ abbrev pub idle_beside : Plan → Cores → ℕ
 idle_beside plan m = cond (is_overloaded plan m) (idle_count plan m) 0
 
 -- the row of a round that opens in that state
-unfoldable pub round_row : Plan → ℕ → Cores → RoundRow
-round_row plan number m = record { number = number; spread = spread plan m; idle = idle_beside plan m }
+unfoldable pub round_row : Meaning → Plan → ℕ → Cores → RoundRow
+round_row p plan number m = record {
+  number = number;
+  spread = spread plan m;
+  idle = idle_beside plan m;
+  rest = gap_at_rest p plan m;
+}
 
 -- the row of an entry in that state, where a round begins in it
-abbrev pub row_of : Plan → Cores → Entry → Option RoundRow
-row_of plan m (entry.Round number) = Some (round_row plan number m)
-row_of plan m e = None
+abbrev pub row_of : Meaning → Plan → Cores → Entry → Option RoundRow
+row_of p plan m (entry.Round number) = Some (round_row p plan number m)
+row_of p plan m e = None
 
 -- the row of the entry at a position
 abbrev pub row_at : Meaning → Plan → List Entry → ℕ × Entry → Option RoundRow
-row_at p plan history at = row_of plan (after p plan (take at.0 history)) at.1
+row_at p plan history at = row_of p plan (after p plan (take at.0 history)) at.1
 
 -- the rows of the rounds, in order
 abbrev pub round_rows : Meaning → Plan → List Entry → List RoundRow

@@ -7,6 +7,7 @@ use Rattle.round_model.specs.declared.plan.Plan.{Plan}
 use Rattle.round_model.specs.Rounds.{BeginsAt}
 use Rattle.round_model.specs.StillRounds.{spread_at}
 use Rattle.round_model.specs.Stretches.{IsStillStretch}
+use Rattle.sched_report.specs.Rests.{first_rest}
 use Rattle.sched_report.specs.RoundRows.{bad_within, round_rows}
 use Rattle.sched_report.specs.declared.rows.StillRow.{StillRow}
 
@@ -16,13 +17,15 @@ pub record IsLongest (history : List Entry) (first last : ℕ) : Type 0 where
   pub alone : (from to : ℕ) → IsStillStretch history from to → from ≤ first → last ≤ to →
       (from ≡ first) × (to ≡ last)
 
--- the row of a longest stretch: the spread as its first round opens, and how many of its rounds are bad
+-- the row of a longest stretch: the spread as its first round opens, how many of its rounds are bad, and the first of
+-- them that opens with the cores at rest
 pub record IsStillRow (p : Meaning) (plan : Plan) (history : List Entry) (row : StillRow) : Type 0 where
   pub longest : IsLongest history row.first row.last
   pub opening : ℕ
   pub begins : BeginsAt history row.first opening
   pub spread : row.spread ≡ spread_at p plan history opening
   pub bad : row.bad ≡ bad_within (round_rows p plan history) row.first row.last
+  pub rest : row.rest ≡ first_rest (round_rows p plan history) row.first row.last
 
 -- the rounds first to last have a row
 pub record HasRow (rows : List StillRow) (first last : ℕ) : Type 0 where

@@ -4,47 +4,62 @@ ghost use Rattle.std.specs.Prelude.{◌≡◌, ◌==◌, ◌+◌, ◌<◌, ◌�
 ghost use Rattle.std.specs.Prelude.{option_to_list, take};
 ghost use Rattle.std.specs.List.{list_any};
 ghost use Rattle.sched_base.specs.declared.limits.TheConstants.{MAX_ENTRIES};
+ghost use Rattle.policy_tree.specs.Meaning.{meaning_of};
+ghost use Rattle.policy_eval.specs.Resolved.{IsResolved};
 ghost use Rattle.round_model.specs.declared.state.ModelCore.{ModelCore};
 ghost use Rattle.round_model.specs.Cores.{load_of, thread_count};
 ghost use Rattle.round_judge.specs.Readable.{IsCountable};
-ghost use Rattle.sched_report.specs.Code.Openings.{IsLight, idle_in, row_in, row_told};
+ghost use Rattle.sched_report.specs.Code.Openings.{AllFit, IsLight, core_at, idle_in, row_in, row_told};
 
+use crate::resting::gap_at_rest;
 use crate::rows::{RoundRow, RoundRows};
-use round_model::{Entry, ModelCore, State, spread_of};
+use policy_tree::Policy;
+use round_model::{Entry, ModelCore, Plan, State, spread_of};
 use sched_base::MAX_CORES;
 use std::alloc::AllocError;
 
 /// Adds the row of the entry, where a round begins in it, in this state.
 pub(crate) fn note_round(
     rounds: &mut RoundRows,
+    policy: &Policy,
+    plan: &Plan,
     state: &State,
     entry: &Entry,
 ) -> Result<(), AllocError>
+    requires policy { IsResolved (meaning_of policy.now) }
+    requires cores { (length state.now ≡ plan.now.cores) × (length plan.now.consts ≡ plan.now.cores) }
     requires few { length state.now ≤ MAX_CORES }
     requires countable { All IsCountable state.now }
     requires light { All IsLight state.now }
+    requires fits { AllFit (meaning_of policy.now) plan.now (core_at state.now) }
     requires room { length rounds.old < MAX_ENTRIES }
-    ensures { IfOk result (λ _. rounds.new ≡ rounds.old ++ option_to_list (row_told state.now entry.now)) }
+    ensures { IfOk result (λ _. rounds.new ≡ rounds.old
+        ++ option_to_list (row_told (meaning_of policy.now) plan.now state.now entry.now)) }
 {
     match *entry {
-        Entry::Round { number } => rounds.push(round_row(state, number)),
+        Entry::Round { number } => rounds.push(round_row(policy, plan, state, number)),
         Entry::Enter { .. } | Entry::Wake { .. } | Entry::Work { .. } => Ok(()),
         Entry::Steal { .. } | Entry::Fail { .. } | Entry::Pass { .. } => Ok(()),
     }
 }
 
 /// The row of a round of that number that opens in this state.
-fn round_row(state: &State, number: u32) -> RoundRow
+fn round_row(policy: &Policy, plan: &Plan, state: &State, number: u32) -> RoundRow
+    requires policy { IsResolved (meaning_of policy.now) }
+    requires cores { (length state.now ≡ plan.now.cores) × (length plan.now.consts ≡ plan.now.cores) }
     requires few { length state.now ≤ MAX_CORES }
     requires countable { All IsCountable state.now }
     requires light { All IsLight state.now }
-    ensures { result ≡ row_in state.now number }
+    requires fits { AllFit (meaning_of policy.now) plan.now (core_at state.now) }
+    ensures { result ≡ row_in (meaning_of policy.now) plan.now state.now number }
 {
     let loads = loads_of(state);
+    let loads = &loads[..state.len() as usize];
     RoundRow {
         number,
-        spread: spread_of(&loads[..state.len() as usize]),
+        spread: spread_of(loads),
         idle: idle_beside(state.as_slice()),
+        rest: gap_at_rest(policy, plan, state, loads),
     }
 }
 

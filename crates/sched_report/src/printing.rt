@@ -2,13 +2,13 @@
 
 ghost use Rattle.std.specs.Prelude.{◌≡◌, ◌+◌, ◌*◌, ◌≤◌, ℕ, List, None, ◌++◌, decimal, length, map};
 ghost use Rattle.sched_io.specs.Puts.{Puts};
-ghost use Rattle.sched_report.specs.declared.printing.TheConstants.{WORD_ROOM};
+ghost use Rattle.sched_report.specs.declared.printing.TheConstants.{REST_ROOM, WORD_ROOM};
 ghost use Rattle.sched_report.specs.Lines.{line_of_fail, line_of_round, line_of_still, line_of_total, report_lines};
-ghost use Rattle.sched_report.specs.Lines.{line_of_cause, line_of_cause_at, line_of_stretch, still_until, totals_lines};
+ghost use Rattle.sched_report.specs.Lines.{line_of_cause, line_of_cause_at, line_of_rest, line_of_stretch, still_until, totals_lines};
 ghost use Rattle.sched_report.specs.Lines.{waste_lines};
 
 use crate::rows::{
-    CauseRow, FailRow, FullReport, RoundRow, StillRow, StretchRow, Totals, WasteReport,
+    CauseRow, FailRow, FullReport, RestRow, RoundRow, StillRow, StretchRow, Totals, WasteReport,
 };
 use sched_base::Pos;
 use sched_io::{LINE_ROOM, Line, NUMBER_ROOM, PutFault, Sink, put_all};
@@ -111,6 +111,7 @@ impl Row for StillRow {
     fn line(&self) -> Line {
         let mut line = still_begun(self);
         line.add(b"\n");
+        add_rest(&mut line, self.rest);
         line
     }
 }
@@ -122,6 +123,7 @@ impl Row for StretchRow {
         let mut line = still_begun(&self.still);
         add_named(&mut line, b" steals ", u64::from(self.steals));
         line.add(b"\n");
+        add_rest(&mut line, self.still.rest);
         line
     }
 }
@@ -137,6 +139,21 @@ fn still_begun(still: &StillRow) -> Line
     add_named(&mut line, b" spread ", still.spread);
     add_named(&mut line, b" bad ", u64::from(still.bad));
     line
+}
+
+/// Adds the line that tells when the stretch comes to rest, behind its own.
+fn add_rest(line: &mut Line, rest: Option<RestRow>)
+    requires { length line.old + REST_ROOM ≤ LINE_ROOM }
+    ensures { line.new ≡ line.old ++ line_of_rest rest }
+{
+    match rest {
+        None => line.add(b"rest -\n"),
+        Some(rest) => {
+            add_named(line, b"rest ", u64::from(rest.round));
+            add_named(line, b" gap ", rest.gap);
+            line.add(b"\n");
+        }
+    }
 }
 
 impl Row for FailRow {
@@ -174,6 +191,9 @@ fn unexplained(at: Pos) -> Line
 
 /// The longest word of a line, its blanks counted.
 const WORD_ROOM: usize = 8;
+
+/// The longest line that tells of rest: two words with their numbers, and its end.
+const REST_ROOM: usize = 2 * (WORD_ROOM + NUMBER_ROOM) + 1;
 
 /// One of the totals, with the word that stands before it.
 #[derive(Clone, Copy)]

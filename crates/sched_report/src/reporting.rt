@@ -7,6 +7,7 @@ ghost use Rattle.round_model.specs.Fits.{Fits};
 ghost use Rattle.round_model.specs.Legal.{Legal, Whole};
 ghost use Rattle.round_model.specs.Limits.{IsWithinLimits};
 ghost use Rattle.sched_report.specs.Reports.{AddsUp, IsPaid, IsReport};
+ghost use Rattle.sched_report.specs.RestRows.{RestsInTime};
 ghost use Rattle.sched_report.specs.Wastes.{IsWaste};
 
 use crate::explained::explained;
@@ -34,6 +35,8 @@ pub fn report(
     ensures is { IfOk result (IsReport (meaning_of policy.now) plan.now history.now) }
     // The spread of each stretch is at least twice the number of its bad rounds.
     ensures paid { IfOk result IsPaid }
+    // And at least twice the number of those rounds of it that come before its cores are at rest.
+    ensures rests { IfOk result RestsInTime }
     ensures adds_up { IfOk result AddsUp }
 {
     let told = tell(alloc, policy, plan, history)?;

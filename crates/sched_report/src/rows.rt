@@ -12,6 +12,17 @@ pub struct RoundRow {
     pub spread: u64,
     /// How many cores are idle where some core is overloaded, and 0 elsewhere.
     pub idle: u32,
+    /// Where no core may steal from another, how far the greatest load is above the least.
+    pub rest: Option<u64>,
+}
+
+/// What is told of the first round of a stretch at whose opening no core may steal from another.
+#[derive(Clone, Copy)]
+pub struct RestRow {
+    /// The number of the round.
+    pub round: u32,
+    /// How far the greatest load is above the least as it opens.
+    pub gap: u64,
 }
 
 /// What is told of a longest stretch of still rounds.
@@ -25,6 +36,8 @@ pub struct StillRow {
     pub spread: u64,
     /// How many of its rounds are bad.
     pub bad: u32,
+    /// The first of its rounds that opens with the cores at rest, if one does.
+    pub rest: Option<RestRow>,
 }
 
 /// What is told of a failed steal.

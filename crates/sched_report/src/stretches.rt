@@ -5,9 +5,10 @@ ghost use Rattle.sched_base.specs.declared.limits.TheConstants.{MAX_ENTRIES};
 ghost use Rattle.round_model.specs.Rounds.{disturbs as disturbs_round, is_leaving as leaves};
 ghost use Rattle.sched_report.specs.declared.rows.StillRow.{StillRow};
 ghost use Rattle.sched_report.specs.RoundRows.{is_bad as is_bad_round};
+ghost use Rattle.sched_report.specs.Rests.{rest_told};
 ghost use Rattle.sched_report.specs.Code.Runs.{AreNumbered, AreRuns, flags_with, grown_row};
 
-use crate::rows::{RoundRow, StillRow, StillRows};
+use crate::rows::{RestRow, RoundRow, StillRow, StillRows};
 use lists::Items;
 use round_model::{Did, Entry};
 use std::alloc::{AllocError, Global};
@@ -100,13 +101,26 @@ fn grown(current: Option<StillRow>, row: &RoundRow) -> StillRow
             last: row.number,
             spread: row.spread,
             bad,
+            rest: rest_of(row),
         },
         Some(stretch) => StillRow {
             last: row.number,
             bad: stretch.bad + bad,
+            rest: stretch.rest.or(rest_of(row)),
             ..stretch
         },
     }
+}
+
+/// What is told of rest, where the round opens with the cores at rest.
+fn rest_of(row: &RoundRow) -> Option<RestRow>
+    ensures { result ≡ rest_told row.now }
+{
+    let gap = row.rest?;
+    Some(RestRow {
+        round: row.number,
+        gap,
+    })
 }
 
 /// Whether some core is idle beside an overloaded one as the round opens.

@@ -44,7 +44,7 @@ pub(crate) fn walk(
     let mut past = Past::new(alloc, plan)?;
     let mut tally = Tally::new(alloc);
     for entry in history {
-        note_round(&mut tally.rounds, past.state(), entry)?;
+        note_round(&mut tally.rounds, policy, plan, past.state(), entry)?;
         note_still(&mut tally.still, entry)?;
         note_fail(&mut tally.causes, &past, entry)?;
         step(alloc, policy, plan, &mut past, *entry)?;

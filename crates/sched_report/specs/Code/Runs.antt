@@ -3,9 +3,11 @@ use Rattle.std.specs.Prelude.{◌≡◌, ℕ, zero, suc, ◌+◌, ◌-◌, ◌<�
 use Rattle.std.specs.Prelude.{Option, None, Some, All, Contains, MatchOption, length, map, option_to_list}
 use Rattle.std.specs.Prelude.{slice_index_or, slice_set}
 use Rattle.std.specs.List.Sorted.{IsStrictlyIncreasing}
+use Rattle.std.specs.Option.{option_or}
 use Rattle.round_model.specs.declared.entry.Entry.{Entry}
 use Rattle.round_model.specs.Kinds.{is_round}
 use Rattle.round_model.specs.Rounds.{disturbs}
+use Rattle.sched_report.specs.Rests.{first_rest, rest_told}
 use Rattle.sched_report.specs.RoundRows.{bad_within, is_bad}
 use Rattle.sched_report.specs.declared.rows.RoundRow.{RoundRow}
 use Rattle.sched_report.specs.declared.rows.StillRow.{StillRow}
@@ -30,12 +32,19 @@ bad_of row = cond (is_bad row) 1 0
 
 -- the row of an open run with a still round more
 abbrev pub grown_row : Option StillRow → RoundRow → StillRow
-grown_row None row = record { first = row.number; last = row.number; spread = row.spread; bad = bad_of row }
+grown_row None row = record {
+  first = row.number;
+  last = row.number;
+  spread = row.spread;
+  bad = bad_of row;
+  rest = rest_told row;
+}
 grown_row (Some run) row = record {
   first = run.first;
   last = row.number;
   spread = run.spread;
   bad = run.bad + bad_of row;
+  rest = option_or run.rest (rest_told row);
 }
 
 -- the rounds of the row are flagged, the one before isn't, and its numbers are those of its rounds
@@ -47,6 +56,7 @@ pub record IsRunTo (flags : List Bool) (rounds : List RoundRow) (row : StillRow)
   pub all : (r : ℕ) → row.first ≤ r → r ≤ row.last → is_flagged flags r ≡ true
   pub spread : (d : RoundRow) → row.spread ≡ (slice_index_or rounds before d).spread
   pub bad : row.bad ≡ bad_within rounds row.first row.last
+  pub rest : row.rest ≡ first_rest rounds row.first row.last
 
 -- and neither is the one behind
 pub record IsRun (flags : List Bool) (rounds : List RoundRow) (row : StillRow) : Type 0 where

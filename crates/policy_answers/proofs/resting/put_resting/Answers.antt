@@ -8,13 +8,13 @@ use Rattle.policy_answers.proofs.resting.put_resting.Goals as goal
 pub returns-in_err-put_all : goal.returns-in_err-put_all
 returns-in_err-put_all g c =
     let fault = err_from_is_err_and c.from_residual.result c.from_residual.ensures.1 in
-    rw fault.1 (stops_sooner (c.args.resting.now.line.items ∷ []) (rounds_line ∷ []) _ _ (rw c.as_slice.ensures.value at c.in_err-put_all.ensures))
+    rw fault.1 (stops_sooner (c.args.resting.now.line.items ∷ []) (rounds_line c.args.resting.now.lowest_first ∷ []) _ _ (rw c.as_slice.ensures.value at c.in_err-put_all.ensures))
 
 pub returns-in_err-put_all-2 : goal.returns-in_err-put_all-2
 returns-in_err-put_all-2 g c =
     let fault = err_from_is_err_and c.from_residual-in_err-put_all-2.result c.from_residual-in_err-put_all-2.ensures.1 in
-    rw fault.1 (stops_later (c.args.resting.now.line.items ∷ []) (rounds_line ∷ []) _ _ _ (rw c.as_slice.ensures.value at c.in_ok-put_all.ensures) (rw c.rounds_line.ensures at c.in_err-put_all-2.ensures))
+    rw fault.1 (stops_later (c.args.resting.now.line.items ∷ []) (rounds_line c.args.resting.now.lowest_first ∷ []) _ _ _ (rw c.as_slice.ensures.value at c.in_ok-put_all.ensures) (rw c.rounds_line.ensures at c.in_err-put_all-2.ensures))
 
 pub returns : goal.returns
 returns g c =
-    puts_both (c.args.resting.now.line.items ∷ []) (rounds_line ∷ []) _ _ _ (rw c.as_slice.ensures.value at c.in_ok-put_all.ensures) (rw c.rounds_line.ensures at c.in_ok-put_all-2.ensures)
+    puts_both (c.args.resting.now.line.items ∷ []) (rounds_line c.args.resting.now.lowest_first ∷ []) _ _ _ (rw c.as_slice.ensures.value at c.in_ok-put_all.ensures) (rw c.rounds_line.ensures at c.in_ok-put_all-2.ensures)

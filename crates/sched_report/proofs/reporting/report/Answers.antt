@@ -4,7 +4,7 @@ use Rattle.policy_tree.specs.Meaning.{meaning_of}
 use Rattle.policy_eval.proofs.Statements.{handler_obligations}
 use Rattle.sched_report.specs.CauseRows.{HasCause}
 use Rattle.sched_report.proofs.CauseLemmas.{all_have_causes}
-use Rattle.sched_report.proofs.ReportLemmas.{report_adds_up, report_is, report_paid}
+use Rattle.sched_report.proofs.ReportLemmas.{report_adds_up, report_is, report_paid, report_rests}
 use Rattle.sched_report.proofs.reporting.report.Goals as goal
 
 pub tell-requires-clause-handlers : goal.tell-requires-clause-handlers
@@ -23,6 +23,10 @@ returns-clause-is c =
 pub returns-clause-paid : goal.returns-clause-paid
 returns-clause-paid c =
     report_paid (meaning_of c.args.policy.now) c.args.plan.now c.args.history.now c.in_ok-told.told c.in_ok-told.ensures c.in_ok-fails.fails (c.in_ok-fails.ensures ∙ c.as_slice.ensures.items) c.requires.whole c.requires.fits c.requires.meets
+
+pub returns-clause-rests : goal.returns-clause-rests
+returns-clause-rests c =
+    report_rests (meaning_of c.args.policy.now) c.args.plan.now c.args.history.now c.in_ok-told.told c.in_ok-told.ensures c.in_ok-fails.fails (c.in_ok-fails.ensures ∙ c.as_slice.ensures.items) c.requires.whole c.requires.fits c.requires.meets
 
 pub returns-clause-adds_up : goal.returns-clause-adds_up
 returns-clause-adds_up c =

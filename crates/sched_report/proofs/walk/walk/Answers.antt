@@ -4,9 +4,13 @@ use Rattle.std.proofs.lemmas.List.{length-take}
 use mathlib.Core.Option.{some}
 use Rattle.policy_tree.specs.Meaning.{meaning_of}
 use Rattle.round_judge.specs.Past.{StandsFor}
+use Rattle.round_model.specs.After.{after}
+use Rattle.round_model.proofs.Grows.{legal_prefix}
 use Rattle.round_laws.proofs.Positions.{entry_more}
+use Rattle.round_laws.proofs.Thefts.{present_fits}
 use Rattle.sched_report.specs.Code.Walks.{IsTallySoFar}
 use Rattle.sched_report.proofs.FlagLemmas.{disturbed_in_round}
+use Rattle.sched_report.proofs.OpeningRows.{state_fits}
 use Rattle.sched_report.proofs.WalkLemmas.{elem_at, few_fails, few_rounds, may_be_told, tally_more, tally_none, tally_whole}
 use Rattle.sched_report.proofs.walk.walk.Goals as goal
 
@@ -21,6 +25,12 @@ pub note_round-requires-clause-room : goal.note_round-requires-clause-room
 note_round-requires-clause-room c =
     let few = few_rounds (meaning_of c.args.policy.now) c.args.plan.now c.args.history.now c.loop-entry.entry-index c.loop-entry.tally c.loop-entry.invariant.tally in
     let all = c.requires.few in omega arith
+
+pub note_round-requires-clause-fits : goal.note_round-requires-clause-fits
+note_round-requires-clause-fits c =
+    let p = meaning_of c.args.policy.now in let plan = c.args.plan.now in let history = c.args.history.now in let at = c.loop-entry.entry-index in
+    state_fits p plan (after p plan (take at history)) c.state.result.now (c.state.ensures p plan (take at history) c.loop-entry.invariant.stands)
+    (present_fits p plan c.requires.fits c.requires.handlers (take at history) (legal_prefix p plan history at c.requires.legal))
 
 pub note_still-requires-clause-begun : goal.note_still-requires-clause-begun
 note_still-requires-clause-begun c =

@@ -1,0 +1,4 @@
+pub mod Judging
+pub mod KeptRules
+pub mod NextEntries
+pub mod ReadReasons

@@ -1,0 +1,4 @@
+pub mod Keeping
+pub mod Rising
+pub mod Slopes
+pub mod Taken
