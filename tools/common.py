@@ -11,6 +11,7 @@ import signal
 import stat
 import sys
 import tempfile
+import threading
 from pathlib import Path
 
 # How many bytes a text may have, as docs/FORMATS.md says. No format has more than a history.
@@ -66,6 +67,11 @@ def undisturbed():
         yield
     finally:
         signal.pthread_sigmask(signal.SIG_SETMASK, before)
+
+
+def disturbed():
+    """Signals that end the script wait no longer in this thread, so that they don't wait in what it starts."""
+    signal.pthread_sigmask(signal.SIG_UNBLOCK, ENDING_SIGNALS)
 
 
 def end_by(number, _):
@@ -231,9 +237,16 @@ def folder(prefix="tmp."):
 
 @contextlib.contextmanager
 def pool_of_threads():
-    """Threads to ask the program from. What they haven't begun is left out where a signal ends the script."""
-    with concurrent.futures.ThreadPoolExecutor() as pool:
+    """Threads to ask the program from. What they haven't begun is left out where a signal ends the script, and what they have
+    begun is waited for. All are started before such a signal may come: one that comes while a thread starts loses it.
+    """
+    count = min(32, (os.cpu_count() or 1) + 4)
+    started = threading.Barrier(count)
+    with concurrent.futures.ThreadPoolExecutor(count, initializer=disturbed) as pool:
         try:
+            with undisturbed():
+                for _ in range(count):
+                    pool.submit(started.wait)
             yield pool
         except BaseException:
             pool.shutdown(wait=False, cancel_futures=True)
