@@ -96,8 +96,9 @@ def run(tool, main, refused=2):
         say(f"{tool}: there is no memory")
         status = refused
     except Ended as ended:
+        status = 128 + ended.args[0]
         signal.signal(ended.args[0], signal.SIG_DFL)
-        os.kill(os.getpid(), ended.args[0])
+        signal.pthread_kill(threading.get_ident(), ended.args[0])
     sys.exit(status)
 
 
@@ -241,12 +242,13 @@ def pool_of_threads():
     begun is waited for. All are started before such a signal may come: one that comes while a thread starts loses it.
     """
     count = min(32, (os.cpu_count() or 1) + 4)
-    started = threading.Barrier(count)
+    started = threading.Barrier(count + 1)
     with concurrent.futures.ThreadPoolExecutor(count, initializer=disturbed) as pool:
         try:
             with undisturbed():
                 for _ in range(count):
                     pool.submit(started.wait)
+                started.wait()
             yield pool
         except BaseException:
             pool.shutdown(wait=False, cancel_futures=True)

@@ -96,12 +96,12 @@ say_not_accepted() {
   case "$2" in
     prove) what='proved' ;;
     emit) what='written' ;;
-    replay | report | migrate) what='judged' ;;
+    replay | report | migrate | why) what='judged' ;;
   esac
   say "ipanema: the policy is $verdict, so nothing was $what; \`ipanema explain ${3@Q} NAME\` says more of a line above"
 }
 
-# Status 2, 8 or 10: a sentence on the fault, or on where it stopped, if python3 is there and finds one.
+# Status 2, 8, 9 or 10: a sentence on the fault, on where it stopped, or on why a history isn't whole, if python3 is there and finds one.
 say_fault() {
   # shellcheck disable=SC2261 # `told` is another number than that of the standard error by now
   command -v python3 >/dev/null && python3 -I "$front/tell.py" "$@" >&"$told" 2>/dev/null
@@ -161,10 +161,10 @@ end_with() {
     case "$status,${1:-}" in
       7,*) say_words "$@" ;;
       4,*) say_file "$@" ;;
-      2,* | 8,* | 10,*) say_fault "$status" "$program" "$@" ;;
+      2,* | 8,* | 9,* | 10,*) say_fault "$status" "$program" "$@" ;;
       1,check) say_refused "$@" ;;
       [13],simulate | [13],waste | [13],draft) say_not_playable "$@" ;;
-      [13],prove | [13],emit | [13],play | [13],run | [13],crew | [13],replay | [13],report | [13],migrate) say_not_accepted "$status" "$@" ;;
+      [13],prove | [13],emit | [13],play | [13],run | [13],crew | [13],replay | [13],report | [13],migrate | [13],why) say_not_accepted "$status" "$@" ;;
     esac
   } >/dev/null
   exit "$status"

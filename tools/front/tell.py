@@ -1,8 +1,8 @@
-"""Says in a sentence why the program ended with status 2, 8 or 10. It is called by speak.bash, whose lines go to standard error.
+"""Says in a sentence why the program ended with status 2, 8, 9 or 10. It is called by speak.bash, whose lines go to standard error.
 
     tell.py STATUS PROGRAM COMMAND WORD ..
 
-The program is asked once more, for the line that it wrote. Where that isn't possible, or the answer is another, nothing is said.
+The program is asked once more, for the line that it wrote, and on 9 for those of `why`. Where that isn't possible, or the answer is another, nothing is said.
 """
 import os
 import re
@@ -17,15 +17,18 @@ import trace_text as traces
 from near_words import mistaken
 from policy_faults import of_policy
 from policy_places import attributes
+from why_text import of_why
 
 FILES = {"check": ["policy"], "explain": ["policy"], "play": ["policy", "trace"], "run": ["policy", "trace"]}
 FILES.update({"prove": ["policy"], "bound": ["policy"], "rest": ["policy"], "emit": ["policy"], "draft": ["policy"], "verify": ["policy", "certs"]})
 FILES.update(dict.fromkeys(["crew", "simulate", "waste"], ["policy", "trace"]))
-FILES.update(dict.fromkeys(["replay", "report", "migrate"], ["policy", "trace", "history"]))
+FILES.update(dict.fromkeys(["replay", "report", "migrate", "why"], ["policy", "trace", "history"]))
 # How many entries a history has where the trace names no limit, and the most that it may name.
 ENTRIES, MOST_ENTRIES = 8192, 65536
 LONGEST = {"policy": 65536, "trace": 4194304, "history": 33554432, "certs": 33554432}
 SECONDS = 60
+# How long `why` may take.
+WHY_SECONDS = 20
 
 
 # Status 2. The faults of a policy are told by policy_faults, and those of a trace and of a history by trace_text and line_text.
@@ -99,6 +102,17 @@ def way_out(cores, rounds, threads):
     return f"All of them may need {enough:,}, and a limit is at most {MOST_ENTRIES:,}: name that, or fewer rounds"
 
 
+# Status 9.
+
+
+def of_not_whole(names, texts, said):
+    """Which rule a history breaks, or what it lacks, by the lines of `why`."""
+    with open(names["history"], "rb") as it:
+        history = it.read(LONGEST["history"])
+    weighs = weight_range(policies.tokens_of(texts["policy"])) is not None
+    return of_why(names["history"], history, texts["trace"], weighs, said.decode("ascii").split("\n")[:-1])
+
+
 # Status 10.
 
 
@@ -138,14 +152,20 @@ def sentence(status, program, command, words):
     if status == 8:
         asked = None if command in ("run", "crew") else [program, "waste", *words]
         return of_stopped(names["trace"], texts["trace"], asked)
+    if names is None and status == 9:
+        return None
     if names is None:
         return "ipanema: a text that comes through a pipe is gone now, so its place isn't shown; keep it in a file"
     how = {"stdin": subprocess.DEVNULL, "stdout": subprocess.PIPE, "stderr": subprocess.DEVNULL, "timeout": SECONDS}
     if "/dev/stdin" in names.values() or any(it.startswith(("/dev/fd/", "/proc/")) for it in names.values()):
         del how["stdin"]
+    if status == 9:
+        command, how["timeout"] = "why", WHY_SECONDS
     ran = subprocess.run([program, command, *words], check=False, **how)
     if ran.returncode != status:
         return None
+    if status == 9:
+        return of_not_whole(names, texts, ran.stdout)
     kind, *rest = ran.stdout.decode("ascii").split("\n")[0].split(" ")
     if kind == "policy":
         return of_policy(names["policy"], texts["policy"], int(rest[0]), rest[1])

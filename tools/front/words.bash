@@ -1,6 +1,6 @@
 # What the front says of the words of a call: usages, what is near a word, and what is wrong (status 7). To be read by speak.bash.
 
-commands=(check explain prove bound rest emit draft verify play run crew simulate waste replay report migrate make bench)
+commands=(check explain prove bound rest emit draft verify play run crew simulate waste replay report migrate why make bench)
 obligations=(B1 B2 B3 B4 {H1,H2}.{enqueue,tick,yield,block})
 
 # The words of a command, and what it does.
@@ -22,6 +22,7 @@ usage_of() {
     replay) say '  ipanema replay POLICY TRACE HISTORY     is that history whole?' ;;
     report) say '  ipanema report POLICY TRACE HISTORY     what did that history waste, and why did its steals fail?' ;;
     migrate) say '  ipanema migrate POLICY TRACE HISTORY    write that history in the format of today, if it is whole' ;;
+    why) say '  ipanema why POLICY TRACE HISTORY        why is that history not whole, and what is legal there?' ;;
     make) say '  ipanema make SEED SIZE                  write a made trace of SIZE threads, 1 to 1023, drawn from a number SEED' ;;
     bench) say '  ipanema bench SEED SIZE                 play that trace under a built-in policy, and count' ;;
   esac
@@ -70,7 +71,7 @@ say_near() {
 words_of() {
   case "$1" in
     check | prove | bound | rest | emit | draft) echo 1 ;;
-    crew | replay | report | migrate) echo 3 ;;
+    crew | replay | report | migrate | why) echo 3 ;;
     *) echo 2 ;;
   esac
 }

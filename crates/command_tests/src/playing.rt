@@ -20,7 +20,7 @@ use std::thread::Threads;
 use std::{fs, io};
 
 /// The tables, in the order in which they are played.
-const TABLES: [&str; 19] = [
+const TABLES: [&str; 20] = [
     "statuses.cases",
     "words.cases",
     "check.cases",
@@ -37,6 +37,7 @@ const TABLES: [&str; 19] = [
     "histories.cases",
     "batches.cases",
     "migrate.cases",
+    "why.cases",
     "made.cases",
     "hostile.cases",
     "sizes.cases",

@@ -8,7 +8,7 @@ module _ {E : Type 0} (r : Result Command E) (from to : App) (same : from ≡ to
   pub one_behind : (s : Shape) → IfOk r (λ made. app_of made ≡ with_subcommand from s) → IfOk r (λ made. app_of made ≡ with_subcommand to s)
   one_behind s is = subst (λ (app : App). IfOk r (λ made. app_of made ≡ with_subcommand app s)) same is
 
-  -- and so are three
-  pub three_behind : (s t u : Shape) → IfOk r (λ made. app_of made ≡ with_subcommand (with_subcommand (with_subcommand from s) t) u)
-      → IfOk r (λ made. app_of made ≡ with_subcommand (with_subcommand (with_subcommand to s) t) u)
-  three_behind s t u is = subst (λ (app : App). IfOk r (λ made. app_of made ≡ with_subcommand (with_subcommand (with_subcommand app s) t) u)) same is
+  -- and so are two
+  pub two_behind : (s t : Shape) → IfOk r (λ made. app_of made ≡ with_subcommand (with_subcommand from s) t)
+      → IfOk r (λ made. app_of made ≡ with_subcommand (with_subcommand to s) t)
+  two_behind s t is = subst (λ (app : App). IfOk r (λ made. app_of made ≡ with_subcommand (with_subcommand app s) t)) same is

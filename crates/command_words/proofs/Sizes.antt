@@ -5,7 +5,7 @@ use Rattle.std.specs.List.{list_all}
 use Rattle.std.specs.Str.{bytes_eq}
 use Rattle.obligations.specs.declared.names.ObName.{ObName}
 use Rattle.command_words.specs.Command.{Asked, asked_by, asked_plainly, bench, bound, check, crew, draft, emit, explain}
-use Rattle.command_words.specs.Command.{is_plain, make, migrate, name_of, play, prove, replay, report, rest, run}
+use Rattle.command_words.specs.Command.{is_plain, make, migrate, name_of, play, prove, replay, report, rest, run, tell_why}
 use Rattle.command_words.specs.Command.{simulate, verify, waste}
 use Rattle.command_words.specs.Numbers.{is_crew, is_size, seed_in, size_in, workers_in}
 
@@ -150,6 +150,10 @@ migrated : (policy trace history : List ℕ) → IsSized (Some (migrate policy t
 migrated policy trace history =
     record { made = λ s n e. absurd (let bad = e in cc); benched = λ s n e. absurd (let bad = e in cc); crewed = λ p t n e. absurd (let bad = e in cc) }
 
+told_why : (policy trace history : List ℕ) → IsSized (Some (tell_why policy trace history))
+told_why policy trace history =
+    record { made = λ s n e. absurd (let bad = e in cc); benched = λ s n e. absurd (let bad = e in cc); crewed = λ p t n e. absurd (let bad = e in cc) }
+
 either : (b : Bool) (x y : Option Asked) → IsSized x → IsSized y → IsSized (cond b x y)
 either true x y here else_here = here
 either false x y here else_here = else_here
@@ -177,7 +181,8 @@ plainly (verb ∷ a ∷ b ∷ c ∷ []) =
     either (bytes_eq (codes "crew") verb) _ _ (crewed a b c)
     (either (bytes_eq (codes "replay") verb) _ _ (replayed a b c)
     (either (bytes_eq (codes "report") verb) _ _ (reported a b c)
-    (either (bytes_eq (codes "migrate") verb) _ _ (migrated a b c) nothing)))
+    (either (bytes_eq (codes "migrate") verb) _ _ (migrated a b c)
+    (either (bytes_eq (codes "why") verb) _ _ (told_why a b c) nothing))))
 plainly (verb ∷ a ∷ b ∷ c ∷ d ∷ words) = nothing
 
 pub asked-sized : (words : List (List ℕ)) → IsSized (asked_by words)

@@ -151,6 +151,13 @@ migrate (one a) = simp a.plain
 migrate (two a b) = simp (a.plain, b.plain)
 migrate (three a b c) = simp (a.plain, b.plain, c.plain)
 
+tell_why : (behind : Behind) → AgreesAt (codes "why" ∷ texts behind)
+unfolding clap_on_literals
+tell_why none = refl
+tell_why (one a) = simp a.plain
+tell_why (two a b) = simp (a.plain, b.plain)
+tell_why (three a b c) = simp (a.plain, b.plain, c.plain)
+
 make : (behind : Behind) → AgreesAt (codes "make" ∷ texts behind)
 unfolding clap_on_literals
 make none = refl
@@ -183,17 +190,18 @@ other : (v : Word) (behind : Behind)
     → bytes_eq (codes "replay") (text v) ≡ false
     → bytes_eq (codes "report") (text v) ≡ false
     → bytes_eq (codes "migrate") (text v) ≡ false
+    → bytes_eq (codes "why") (text v) ≡ false
     → bytes_eq (codes "make") (text v) ≡ false
     → bytes_eq (codes "bench") (text v) ≡ false
     → AgreesAt (text v ∷ texts behind)
 unfolding clap_on_literals
-other v none a b c d e f g h i j k l m n o p q r = simp (v.plain, a, b, c, d, e, f, g, h, i, j, k, l, m, n, o, p, q, r)
-other v (one w) a b c d e f g h i j k l m n o p q r =
-    simp (v.plain, w.plain, a, b, c, d, e, f, g, h, i, j, k, l, m, n, o, p, q, r)
-other v (two w x) a b c d e f g h i j k l m n o p q r =
-    simp (v.plain, w.plain, x.plain, a, b, c, d, e, f, g, h, i, j, k, l, m, n, o, p, q, r)
-other v (three w x y) a b c d e f g h i j k l m n o p q r =
-    simp (v.plain, w.plain, x.plain, y.plain, a, b, c, d, e, f, g, h, i, j, k, l, m, n, o, p, q, r)
+other v none a b c d e f g h i j k l m n o p q r s = simp (v.plain, a, b, c, d, e, f, g, h, i, j, k, l, m, n, o, p, q, r, s)
+other v (one w) a b c d e f g h i j k l m n o p q r s =
+    simp (v.plain, w.plain, a, b, c, d, e, f, g, h, i, j, k, l, m, n, o, p, q, r, s)
+other v (two w x) a b c d e f g h i j k l m n o p q r s =
+    simp (v.plain, w.plain, x.plain, a, b, c, d, e, f, g, h, i, j, k, l, m, n, o, p, q, r, s)
+other v (three w x y) a b c d e f g h i j k l m n o p q r s =
+    simp (v.plain, w.plain, x.plain, y.plain, a, b, c, d, e, f, g, h, i, j, k, l, m, n, o, p, q, r, s)
 
 -- the verb is this one, or it isn't
 at_verb : (verb word : Text) (P : Text → Type 0) → P verb → (bytes_eq verb word ≡ false → P word) → P word
@@ -222,9 +230,10 @@ with_verb v behind =
     at_verb (codes "replay") (text v) P (replay behind) (λ n.
     at_verb (codes "report") (text v) P (report behind) (λ o.
     at_verb (codes "migrate") (text v) P (migrate behind) (λ p.
-    at_verb (codes "make") (text v) P (make behind) (λ q.
-    at_verb (codes "bench") (text v) P (bench behind) (λ r.
-    other v behind a b c d e f g h i j k l m n o p q r))))))))))))))))))
+    at_verb (codes "why") (text v) P (tell_why behind) (λ q.
+    at_verb (codes "make") (text v) P (make behind) (λ r.
+    at_verb (codes "bench") (text v) P (bench behind) (λ s.
+    other v behind a b c d e f g h i j k l m n o p q r s)))))))))))))))))))
 
 no_words : AgreesAt []
 unfolding clap_on_literals

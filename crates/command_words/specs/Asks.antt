@@ -1,11 +1,11 @@
 -- What a request asks for.
 use Rattle.std.specs.Prelude.{Option, Some, None}
 use Rattle.command_words.specs.Command.{Asked, bench, bound, check, crew, draft, emit, explain, make, migrate}
-use Rattle.command_words.specs.Command.{play, prove, replay, report, run, simulate, verify, waste, rest}
+use Rattle.command_words.specs.Command.{play, prove, replay, report, run, simulate, verify, waste, rest, tell_why}
 use Rattle.command_words.specs.declared.request.Request.{Request}
 use Rattle.command_words.specs.declared.request.Request.TheVariants.{Bench, Bound, Check, Crew, Draft, Emit, Explain}
 use Rattle.command_words.specs.declared.request.Request.TheVariants.{Make, Migrate, Play, Prove, Replay, Report}
-use Rattle.command_words.specs.declared.request.Request.TheVariants.{Run, Simulate, Unknown, Verify, Waste, Rest}
+use Rattle.command_words.specs.declared.request.Request.TheVariants.{Run, Simulate, Unknown, Verify, Waste, Rest, Why}
 
 abbrev pub asked : Request → Option Asked
 asked (Check policy) = Some (check policy.now)
@@ -24,6 +24,7 @@ asked (Waste policy trace) = Some (waste policy.now trace.now)
 asked (Replay files) = Some (replay files.policy.now files.trace.now files.history.now)
 asked (Report files) = Some (report files.policy.now files.trace.now files.history.now)
 asked (Migrate files) = Some (migrate files.policy.now files.trace.now files.history.now)
+asked (Why files) = Some (tell_why files.policy.now files.trace.now files.history.now)
 asked (Make seed size) = Some (make seed size)
 asked (Bench seed size) = Some (bench seed size)
 asked Unknown = None

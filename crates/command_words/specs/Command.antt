@@ -41,6 +41,8 @@ pub data Asked : Type 0 where
   report : (policy trace history : List ℕ) → Asked
   -- to write the history in the third file in the second format, under the policy and the trace in the others
   migrate : (policy trace history : List ℕ) → Asked
+  -- to say why the history in the third file isn't whole, under the policy and the trace in the others
+  tell_why : (policy trace history : List ℕ) → Asked
   -- to make the trace of so many threads that the seed determines
   make : (seed size : ℕ) → Asked
   -- to play that trace under the policy `fair`, and to tell what its history comes to
@@ -102,6 +104,7 @@ asked_by_three verb policy trace third =
     else if bytes_eq (codes "replay") verb then Some (replay policy trace third)
     else if bytes_eq (codes "report") verb then Some (report policy trace third)
     else if bytes_eq (codes "migrate") verb then Some (migrate policy trace third)
+    else if bytes_eq (codes "why") verb then Some (tell_why policy trace third)
     else None
 
 -- the command that plain words are
@@ -140,5 +143,6 @@ IsSerial (Some (waste policy trace)) = Unit {0}
 IsSerial (Some (replay policy trace history)) = Unit {0}
 IsSerial (Some (report policy trace history)) = Unit {0}
 IsSerial (Some (migrate policy trace history)) = Unit {0}
+IsSerial (Some (tell_why policy trace history)) = Unit {0}
 IsSerial (Some (make seed size)) = Unit {0}
 IsSerial (Some (bench seed size)) = Unit {0}

@@ -8,7 +8,7 @@ use Rattle.clap.specs.Simple.{new_shape}
 use Rattle.clap.specs.declared.builder.ArgAction.TheVariants.{Set}
 use Rattle.command_words.specs.Command.{Asked, benched_by, bound, check, crewed_by, draft, emit, explain}
 use Rattle.command_words.specs.Command.{made_by, migrate, name_of, play, prove, replay, report, rest, run, simulate}
-use Rattle.command_words.specs.Command.{verify, waste}
+use Rattle.command_words.specs.Command.{tell_why, verify, waste}
 
 -- a word that has to be there
 abbrev pub wanted : Text → Rule
@@ -55,6 +55,7 @@ trace_commands =
     ∷ command_of (codes "replay") (codes "POLICY" ∷ codes "TRACE" ∷ codes "HISTORY" ∷ [])
     ∷ command_of (codes "report") (codes "POLICY" ∷ codes "TRACE" ∷ codes "HISTORY" ∷ [])
     ∷ command_of (codes "migrate") (codes "POLICY" ∷ codes "TRACE" ∷ codes "HISTORY" ∷ [])
+    ∷ command_of (codes "why") (codes "POLICY" ∷ codes "TRACE" ∷ codes "HISTORY" ∷ [])
     ∷ []
 
 -- those on a seed and a size
@@ -107,6 +108,8 @@ asked_in verb rows =
     Some (report (word_in rows (codes "POLICY")) (word_in rows (codes "TRACE")) (word_in rows (codes "HISTORY")))
     else if bytes_eq verb (codes "migrate") then
     Some (migrate (word_in rows (codes "POLICY")) (word_in rows (codes "TRACE")) (word_in rows (codes "HISTORY")))
+    else if bytes_eq verb (codes "why") then
+    Some (tell_why (word_in rows (codes "POLICY")) (word_in rows (codes "TRACE")) (word_in rows (codes "HISTORY")))
     else if bytes_eq verb (codes "make") then made_by (word_in rows (codes "SEED")) (word_in rows (codes "SIZE"))
     else if bytes_eq verb (codes "bench") then benched_by (word_in rows (codes "SEED")) (word_in rows (codes "SIZE"))
     else None

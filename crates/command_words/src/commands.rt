@@ -38,14 +38,9 @@ fn with_traces<'a>(program: Command<'a>, alloc: Global) -> Result<Command<'a>, A
     let program = with_two(program, alloc, "play", "run", &["POLICY", "TRACE"])?;
     let program = with_two(program, alloc, "simulate", "waste", &["POLICY", "TRACE"])?;
     let program = with_command(program, alloc, "crew", &["POLICY", "TRACE", "WORKERS"])?;
-    with_three(
-        program,
-        alloc,
-        "replay",
-        "report",
-        "migrate",
-        &["POLICY", "TRACE", "HISTORY"],
-    )
+    let files = ["POLICY", "TRACE", "HISTORY"];
+    let program = with_two(program, alloc, "replay", "report", &files)?;
+    with_two(program, alloc, "migrate", "why", &files)
 }
 
 /// The program with no command so far.

@@ -93,6 +93,8 @@ pub enum Request<'a> {
     Report(HistoryFiles<'a>),
     /// To write a history of the first format in the second, under a policy and a trace.
     Migrate(HistoryFiles<'a>),
+    /// To say why a history isn't whole under a policy and a trace, and what may come in it.
+    Why(HistoryFiles<'a>),
     /// To make the trace of so many threads that the seed determines.
     Make {
         seed: u64,
@@ -166,6 +168,7 @@ fn request_in<'a>(verb: &str, words: &ArgMatches<'a>) -> Request<'a>
         "replay" => Request::Replay(files),
         "report" => Request::Report(files),
         "migrate" => Request::Migrate(files),
+        "why" => Request::Why(files),
         "make" => made_by(word_in(words, "SEED"), word_in(words, "SIZE")),
         "bench" => benched_by(word_in(words, "SEED"), word_in(words, "SIZE")),
         _ => Request::Unknown,

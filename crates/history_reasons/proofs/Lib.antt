@@ -2,3 +2,4 @@ pub mod Judging
 pub mod KeptRules
 pub mod NextEntries
 pub mod ReadReasons
+pub mod Told

@@ -2,6 +2,7 @@ pub mod Attempts
 pub mod Explanations
 pub mod Judging
 pub mod Laws
+pub mod Lines
 pub mod Next
 pub mod Readings
 pub mod Reasons

@@ -1,6 +1,6 @@
 -- The rules that an entry has to keep behind a history, in the order in which the judge asks for them.
-use Rattle.std.specs.Prelude.{◌≡◌, ◌⊎◌, ℕ, ◌+◌, ◌<◌, List, [], ◌∷◌, Option, None, Some, All, IsFalse, IsNone, IsSomeAnd, IsTrue}
-use Rattle.std.specs.Prelude.{MatchOption, length}
+use Rattle.std.specs.Prelude.{◌≡◌, ◌⊎◌, ℕ, ◌+◌, ◌<◌, List, [], ◌∷◌, Option, None, Some, All, IsFalse, IsNone}
+use Rattle.std.specs.Prelude.{IsSomeAnd, IsTrue, MatchOption, length}
 use Rattle.policy_tree.specs.Meaning.{Meaning, PlaceTree, here, least}
 use Rattle.round_model.specs.declared.entry.Entry.{Entry}
 use Rattle.round_model.specs.declared.entry.Entry.TheVariants as entry

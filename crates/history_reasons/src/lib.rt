@@ -5,18 +5,22 @@
 #![tactic(auto)]
 
 mod attempts;
+mod coming;
 mod explaining;
 mod laws;
 mod next;
 mod placing;
+mod printing;
 mod reading;
 mod reason;
 mod rounds;
 mod units;
 mod why;
 
+pub use coming::Coming;
 pub use explaining::{Explanation, explain};
 pub use laws::law_rules;
 pub use next::next_entries;
+pub use printing::{numbered, print_coming};
 pub use reason::Reason;
 pub use why::why_not;

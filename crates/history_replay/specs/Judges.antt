@@ -13,6 +13,8 @@ use Rattle.history_reader.specs.Reading.{IsFirstBadLine, SpellsHistory}
 use Rattle.history_judge.specs.declared.judgement.ReplayFault.{ReplayFault}
 use Rattle.history_judge.specs.declared.judgement.ReplayFault.TheVariants as replay_fault
 use Rattle.history_judge.specs.Judgement.{IsFirstIllegal, IsTooShort}
+use Rattle.history_reasons.specs.declared.explaining.Explanation.{Explanation}
+use Rattle.history_reasons.specs.Explanations.{IsExplanation}
 use Rattle.sched_report.specs.declared.rows.FullReport.{FullReport}
 use Rattle.sched_report.specs.Reports.{AddsUp, IsPaid, IsReport}
 use Rattle.sched_report.specs.RestRows.{RestsInTime}
@@ -53,6 +55,7 @@ abbrev pub TellsOf : Meaning → Plan → List Entry → HistoryAnswer → Type 
 TellsOf p plan history (answer.Whole count) = ⊥
 TellsOf p plan history (answer.Reported report) = Tells p plan history report
 TellsOf p plan history (answer.Migrated judged) = ⊥
+TellsOf p plan history (answer.Explained explanation) = ⊥
 TellsOf p plan history (answer.Refused why) = ⊥
 
 module _ (p : Meaning) (trace text : List ℕ) where
@@ -71,6 +74,13 @@ module _ (p : Meaning) (trace text : List ℕ) where
   HasRefusal (refusal.Short count) =
       (plan : Plan) × (history : List Entry) × Gives plan history × IsTooShort p plan history count
 
+  -- the texts give no history, for this reason
+  abbrev pub GiveNone : HistoryRefusal → Type 0
+  GiveNone (refusal.Trace fault) = HasRefusal (refusal.Trace fault)
+  GiveNone (refusal.BadLine line) = HasRefusal (refusal.BadLine line)
+  GiveNone (refusal.Illegal position) = ⊥
+  GiveNone (refusal.Short count) = ⊥
+
   -- they give this whole history
   pub record IsJudged (judged : Judged) : Type 0 where
     pub gives : Gives judged.plan judged.history
@@ -79,6 +89,11 @@ module _ (p : Meaning) (trace text : List ℕ) where
   abbrev pub IsJudgeStop : JudgeStop → Type 0
   IsJudgeStop (stop.Refused why) = HasRefusal why
   IsJudgeStop stop.Memory = Unit {0}
+
+  -- the texts can't be judged, for this reason
+  abbrev pub IsTextStop : JudgeStop → Type 0
+  IsTextStop (stop.Refused why) = GiveNone why
+  IsTextStop stop.Memory = Unit {0}
 
   -- they give a whole history of so many entries
   pub record GivesWhole (count : ℕ) : Type 0 where
@@ -93,6 +108,7 @@ module _ (p : Meaning) (trace text : List ℕ) where
   IsReplayOf (answer.Whole count) = GivesWhole count
   IsReplayOf (answer.Reported report) = ⊥
   IsReplayOf (answer.Migrated judged) = ⊥
+  IsReplayOf (answer.Explained explanation) = ⊥
   IsReplayOf (answer.Refused why) = HasRefusal why
 
   -- they give a whole history, of which that is told
@@ -108,6 +124,7 @@ module _ (p : Meaning) (trace text : List ℕ) where
   IsReportOf (answer.Whole count) = ⊥
   IsReportOf (answer.Reported report) = GivesReport report
   IsReportOf (answer.Migrated judged) = ⊥
+  IsReportOf (answer.Explained explanation) = ⊥
   IsReportOf (answer.Refused why) = HasRefusal why
 
   -- they give the whole history that migrate answers
@@ -115,4 +132,20 @@ module _ (p : Meaning) (trace text : List ℕ) where
   IsMigrationOf (answer.Whole count) = ⊥
   IsMigrationOf (answer.Reported report) = ⊥
   IsMigrationOf (answer.Migrated judged) = IsJudged judged
+  IsMigrationOf (answer.Explained explanation) = ⊥
   IsMigrationOf (answer.Refused why) = HasRefusal why
+
+  -- they give a history, of which that is the explanation
+  pub record GivesExplanation (explanation : Explanation) : Type 0 where
+    pub plan : Plan
+    pub history : List Entry
+    pub gives : Gives plan history
+    pub is : IsExplanation p plan history explanation
+
+  -- and that is what why answers
+  abbrev pub IsWhyOf : HistoryAnswer → Type 0
+  IsWhyOf (answer.Whole count) = ⊥
+  IsWhyOf (answer.Reported report) = ⊥
+  IsWhyOf (answer.Migrated judged) = ⊥
+  IsWhyOf (answer.Explained explanation) = GivesExplanation explanation
+  IsWhyOf (answer.Refused why) = GiveNone why

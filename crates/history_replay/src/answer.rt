@@ -11,14 +11,16 @@ ghost use Rattle.sched_io.specs.Puts.{Puts};
 ghost use Rattle.round_model.specs.Fits.{Fits};
 ghost use Rattle.round_model.specs.Legal.{Whole};
 ghost use Rattle.round_model.specs.Limits.{IsWithinLimits};
-ghost use Rattle.history_replay.specs.Judges.{IsMigrationOf, IsReplayOf, IsReportOf, TellsOf};
-ghost use Rattle.history_replay.specs.Lines.{IsShown, lines_of, whole_line};
+ghost use Rattle.history_replay.specs.Judges.{IsMigrationOf, IsReplayOf, IsReportOf, IsWhyOf, TellsOf};
+ghost use Rattle.history_replay.specs.Lines.{IsShown, lines_of};
 
-use crate::judging::{JudgeStop, Judged, judge_texts};
-use crate::refusal::{HistoryRefusal, numbered};
+use crate::explanations::{put_explanation, whole_line};
+use crate::judging::{JudgeStop, Judged, explain_texts, judge_texts};
+use crate::refusal::HistoryRefusal;
+use history_reasons::Explanation;
 use policy_tree::Policy;
 use sched_history::put_history;
-use sched_io::{Line, PutFault, Sink, put_all};
+use sched_io::{PutFault, Sink, put_all};
 use sched_report::{FullReport, ReportMemory, print_report, report};
 use std::alloc::Global;
 use trace_play::PlayMemory;
@@ -32,7 +34,9 @@ pub enum HistoryAnswer {
     Reported(FullReport),
     /// It spells this whole history, of which the text of the second format is asked.
     Migrated(Judged),
-    /// The texts give no whole history.
+    /// It spells a history of which that is the explanation.
+    Explained(Explanation),
+    /// The texts give no history, or no whole one where that is asked for.
     Refused(HistoryRefusal),
 }
 
@@ -46,6 +50,7 @@ impl HistoryAnswer {
             HistoryAnswer::Whole(count) => put_all(out, whole_line(*count).as_bytes()),
             HistoryAnswer::Reported(report) => print_report(out, report),
             HistoryAnswer::Migrated(judged) => put_judged(out, judged),
+            HistoryAnswer::Explained(explanation) => put_explanation(out, explanation),
             HistoryAnswer::Refused(refusal) => put_all(out, refusal.to_line().as_bytes()),
         }
     }
@@ -58,13 +63,6 @@ fn put_judged<S: Sink>(out: &mut S, judged: &Judged) -> Result<(), PutFault>
         (S.shown out.old) (S.shown out.new) }
 {
     put_history(out, judged.history.as_slice(), judged.plan.cores)
-}
-
-/// The line of a whole history of so many entries.
-fn whole_line(count: u32) -> Line
-    ensures { result ≡ whole_line count }
-{
-    numbered(b"whole ", count, b"\n")
 }
 
 /// Replays the history of the one text, of the plan that the other means under the policy.
@@ -122,6 +120,27 @@ pub fn migrate_texts(
 {
     match judge_texts(alloc, policy, trace, history) {
         Ok(judged) => Ok(HistoryAnswer::Migrated(judged)),
+        Err(JudgeStop::Refused(refusal)) => Ok(HistoryAnswer::Refused(refusal)),
+        Err(JudgeStop::Memory) => Err(PlayMemory::Memory),
+    }
+}
+
+/// Says why the history of the one text isn't whole, of the plan that the other means under the policy, and what may
+/// come in it.
+pub fn why_texts(
+    alloc: Global,
+    policy: &Policy,
+    trace: &[u8],
+    history: &[u8],
+) -> Result<HistoryAnswer, PlayMemory>
+    requires resolved { IsResolved (meaning_of policy.now) }
+    requires handlers { MeetsHandlerObligations (meaning_of policy.now) }
+    requires small { length trace.now < u32.MAX }
+    ensures why { IfOk result (IsWhyOf (meaning_of policy.now) trace.now history.now) }
+    ensures shown { IfOk result IsShown }
+{
+    match explain_texts(alloc, policy, trace, history) {
+        Ok(explanation) => Ok(HistoryAnswer::Explained(explanation)),
         Err(JudgeStop::Refused(refusal)) => Ok(HistoryAnswer::Refused(refusal)),
         Err(JudgeStop::Memory) => Err(PlayMemory::Memory),
     }

@@ -4,13 +4,15 @@ ghost use Rattle.std.specs.Prelude.{◌<◌, ◌≡◌, IfErr, IfOk, length};
 ghost use Rattle.policy_tree.specs.Meaning.{meaning_of};
 ghost use Rattle.policy_eval.specs.Obligations.{MeetsHandlerObligations};
 ghost use Rattle.policy_eval.specs.Resolved.{IsResolved};
-ghost use Rattle.history_replay.specs.Judges.{IsJudged, IsJudgeStop};
+ghost use Rattle.history_reasons.specs.Lines.{CanBeTold};
+ghost use Rattle.history_replay.specs.Judges.{GivesExplanation, IsJudged, IsJudgeStop, IsTextStop};
 
 use crate::refusal::HistoryRefusal;
 use history_judge::{ReplayFault, replay};
 use history_reader::{HistoryFault, read_history};
+use history_reasons::{Explanation, explain};
 use policy_tree::Policy;
-use round_model::{History, Plan};
+use round_model::{History, ModelMemory, Plan};
 use std::alloc::Global;
 use trace_play::{PlanStop, plan_text};
 
@@ -72,6 +74,16 @@ impl From<ReplayFault> for JudgeStop {
     }
 }
 
+impl From<ModelMemory> for JudgeStop {
+    ghost use Rattle.history_replay.specs.declared.judging.JudgeStop.TheVariants as stop;
+
+    ghost from_gives = { λ _ why. why ≡ stop.Memory };
+
+    fn from(_fault: ModelMemory) -> JudgeStop {
+        JudgeStop::Memory
+    }
+}
+
 /// Judges the history that the one text spells, of the plan that the other means under the policy.
 pub fn judge_texts(
     alloc: Global,
@@ -89,4 +101,24 @@ pub fn judge_texts(
     let history = read_history(alloc, history, plan.cores)?;
     let _replayed = replay(alloc, policy, &plan, &history)?;
     Ok(Judged { plan, history })
+}
+
+/// Explains the history that the one text spells, of the plan that the other means under the policy.
+pub fn explain_texts(
+    alloc: Global,
+    policy: &Policy,
+    trace: &[u8],
+    history: &[u8],
+) -> Result<Explanation, JudgeStop>
+    requires resolved { IsResolved (meaning_of policy.now) }
+    requires handlers { MeetsHandlerObligations (meaning_of policy.now) }
+    requires small { length trace.now < u32.MAX }
+    ensures explained { IfOk result (GivesExplanation (meaning_of policy.now) trace.now history.now) }
+    ensures told { IfOk result CanBeTold }
+    ensures stop { IfErr result (IsTextStop (meaning_of policy.now) trace.now history.now) }
+{
+    let plan = plan_text(alloc, policy, trace)?;
+    let history = read_history(alloc, history, plan.cores)?;
+    let explanation = explain(alloc, policy, &plan, &history)?;
+    Ok(explanation)
 }

@@ -4,9 +4,10 @@
 #![tactic(auto)]
 
 mod answer;
+mod explanations;
 mod judging;
 mod refusal;
 
-pub use answer::{HistoryAnswer, migrate_texts, replay_texts, report_texts};
-pub use judging::{JudgeStop, Judged, judge_texts};
+pub use answer::{HistoryAnswer, migrate_texts, replay_texts, report_texts, why_texts};
+pub use judging::{JudgeStop, Judged, explain_texts, judge_texts};
 pub use refusal::HistoryRefusal;

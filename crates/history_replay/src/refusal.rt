@@ -1,10 +1,11 @@
 //! Why texts give no whole history.
 
-ghost use Rattle.std.specs.Prelude.{◌≡◌, ◌+◌, ◌≤◌, length};
-ghost use Rattle.history_replay.specs.Lines.{numbered_line, refusal_line};
+ghost use Rattle.std.specs.Prelude.{◌≡◌};
+ghost use Rattle.history_replay.specs.Lines.{refusal_line};
 
+use history_reasons::numbered;
 use sched_base::Pos;
-use sched_io::{LINE_ROOM, Line, NUMBER_ROOM};
+use sched_io::Line;
 use trace_play::LineFault;
 
 /// Why texts give no whole history.
@@ -32,16 +33,4 @@ impl HistoryRefusal {
             HistoryRefusal::Short(count) => numbered(b"short ", *count, b"\n"),
         }
     }
-}
-
-/// A line of a number between these bytes.
-pub(crate) fn numbered(front: &[u8], number: u32, behind: &[u8]) -> Line
-    requires { length front.now + NUMBER_ROOM + length behind.now ≤ LINE_ROOM }
-    ensures { result ≡ numbered_line front.now number behind.now }
-{
-    let mut line = Line::new();
-    line.add(front);
-    line.add_number(u64::from(number));
-    line.add(behind);
-    line
 }

@@ -21,6 +21,7 @@ use Rattle.trace_play.specs.declared.answer.PlayAnswer.{PlayAnswer}
 use Rattle.trace_play.specs.declared.answer.PlayAnswer.TheVariants as play_answer
 use Rattle.trace_play.specs.declared.cores.PlayedCores.TheVariants as cores
 use Rattle.history_replay.specs.declared.answer.HistoryAnswer.{HistoryAnswer}
+use Rattle.history_reasons.specs.declared.explaining.Explanation.TheVariants as explanation
 use Rattle.history_replay.specs.declared.answer.HistoryAnswer.TheVariants as judged
 use Rattle.history_replay.specs.declared.refusal.HistoryRefusal.TheVariants as no_history
 use Rattle.trace_simulation.specs.declared.answer.PlayedWaste.TheVariants as wasted
@@ -82,6 +83,9 @@ module _ (codes : List ℕ) where
     history_among not_whole (judged.Whole count) = done
     history_among not_whole (judged.Reported report) = done
     history_among not_whole (judged.Migrated given) = done
+    history_among not_whole (judged.Explained (explanation.Whole count)) = done
+    history_among not_whole (judged.Explained (explanation.Short count coming)) = not_whole
+    history_among not_whole (judged.Explained (explanation.Illegal at why coming)) = not_whole
     history_among not_whole (judged.Refused (no_history.Trace fault)) = bad_text
     history_among not_whole (judged.Refused (no_history.BadLine line)) = bad_text
     history_among not_whole (judged.Refused (no_history.Illegal position)) = not_whole

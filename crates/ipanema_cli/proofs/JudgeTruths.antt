@@ -13,18 +13,21 @@ use Rattle.policy_answers.specs.declared.answer.CheckAnswer.TheVariants as check
 use Rattle.policy_answers.specs.declared.reading.Refusal.{Refusal}
 use Rattle.policy_answers.specs.declared.reading.Refusal.TheVariants as refusal
 use Rattle.sched_history.specs.Spelling.{lines_of_history}
+use Rattle.history_judge.proofs.Judged.{one_judgement}
 use Rattle.history_reader.specs.Reading.{SpellsHistory}
 use Rattle.history_reader.proofs.EachText.{one_reading}
 use Rattle.history_replay.specs.declared.answer.HistoryAnswer.{HistoryAnswer}
+use Rattle.history_reasons.specs.declared.explaining.Explanation.{Explanation}
+use Rattle.history_reasons.specs.declared.explaining.Explanation.TheVariants as explained
 use Rattle.history_replay.specs.declared.answer.HistoryAnswer.TheVariants as judged
-use Rattle.history_replay.specs.Judges.{IsMigrationOf, IsReplayOf, IsReportOf}
+use Rattle.history_replay.specs.Judges.{IsMigrationOf, IsReplayOf, IsReportOf, IsWhyOf}
 use Rattle.history_replay.proofs.Migrating.{can_be_printed}
 use Rattle.history_replay.specs.Lines as histories
 use Rattle.sched_report.specs.Lines.{report_lines}
 use Rattle.ipanema_cli.specs.TraceAnswers.{Judging}
 use Rattle.ipanema_cli.specs.Status.{check_status, code_of, history_status, refusal_status, verdict_status}
 use Rattle.ipanema_cli.specs.CheckTruths.{Decides, Holds, Refuses, Spells}
-use Rattle.ipanema_cli.specs.JudgeTruths.{DoHoldAll, JudgesTruly, MustJudge, SaysMigrated, SaysReport, SaysWhole}
+use Rattle.ipanema_cli.specs.JudgeTruths.{DoHoldAll, JudgesTruly, MustJudge, Saying, SaysMigrated, SaysReport, SaysWhole, SaysWhy}
 use Rattle.ipanema_cli.specs.declared.answers.Answer.{Answer}
 use Rattle.ipanema_cli.specs.declared.answers.Answer.TheVariants as answer
 use Rattle.ipanema_cli.specs.declared.texts.TextKind.TheVariants as kind
@@ -34,11 +37,11 @@ use Rattle.ipanema_cli.proofs.Stopped.{Stopped, at_4, at_5, at_6, stopped_not}
 use Rattle.ipanema_cli.proofs.TraceTruths.{low_or_stopped, no_line, refused_left}
 use Rattle.ipanema_cli.proofs.PolicyFacts.{read_decides, read_refuses, refused_text}
 use Rattle.ipanema_cli.proofs.WritesLemmas.{one_line}
-use Rattle.ipanema_cli.proofs.Judgements.{Read, Saying, judged_whole, refused_history}
+use Rattle.ipanema_cli.proofs.Judgements.{Read, judged_not_whole, judged_whole, refused_history, unread_history}
 use Rattle.std.specs.Prelude.{IsFalse}
 use Rattle.policy_answers.specs.Checks.{IsCheckOf}
 use Rattle.history_replay.specs.declared.refusal.HistoryRefusal.TheVariants as no_history
-use Rattle.command_words.specs.Command.{Asked, migrate, replay, report}
+use Rattle.command_words.specs.Command.{Asked, migrate, replay, report, tell_why}
 use Rattle.ipanema_cli.specs.Answers.{status_of}
 use Rattle.ipanema_cli.specs.Causes.{OneOf}
 use Rattle.ipanema_cli.specs.Commands.{history_files, statuses_of}
@@ -157,8 +160,9 @@ replay_answer policy trace history text jobs lines p read (judged.Whole count) b
     (ap histories.whole_line is.count_is) own (one_line line before after added)
 replay_answer policy trace history text jobs lines p read (judged.Reported told) before after code is own added = absurd is
 replay_answer policy trace history text jobs lines p read (judged.Migrated given) before after code is own added = absurd is
+replay_answer policy trace history text jobs lines p read (judged.Explained explanation) before after code is own added = absurd is
 replay_answer policy trace history text jobs lines p read (judged.Refused why) before after code is own added =
-    refused_history policy trace history text jobs lines p read SaysWhole why before after code is own (one_line (histories.refusal_line why) before after added)
+    refused_history policy trace history text jobs lines p read SaysWhole (λ plan entries bytes says. says) why before after code is own (one_line (histories.refusal_line why) before after added)
 
 -- and those of `report`
 report_answer : (policy trace history : Told) (text jobs lines : List ℕ) (p : Meaning) → Read policy trace history text jobs lines p → (h : HistoryAnswer) (before after : Option (List ℕ)) (code : ℕ)
@@ -168,8 +172,9 @@ report_answer policy trace history text jobs lines p read (judged.Migrated given
 report_answer policy trace history text jobs lines p read (judged.Reported told) before after code is own added =
     judged_whole policy trace history text jobs lines p read SaysReport is.plan is.history (joined (report_lines told)) before after code is.gives is.whole
     (told, is.tells, refl) own added
+report_answer policy trace history text jobs lines p read (judged.Explained explanation) before after code is own added = absurd is
 report_answer policy trace history text jobs lines p read (judged.Refused why) before after code is own added =
-    refused_history policy trace history text jobs lines p read SaysReport why before after code is own (one_line (histories.refusal_line why) before after added)
+    refused_history policy trace history text jobs lines p read SaysReport (λ plan entries bytes says. says) why before after code is own (one_line (histories.refusal_line why) before after added)
 
 -- and those of `migrate`
 migrate_answer : (policy trace history : Told) (text jobs lines : List ℕ) (p : Meaning) → Read policy trace history text jobs lines p → (h : HistoryAnswer) (before after : Option (List ℕ)) (code : ℕ)
@@ -182,8 +187,30 @@ migrate_answer policy trace history text jobs lines p read (judged.Migrated give
     let again = (one_reading cores).a_text entries (can_be_printed p jobs lines given is) in
     judged_whole policy trace history text jobs lines p read SaysMigrated given.plan entries (joined (lines_of_history cores entries)) before after code is.gives is.whole
     (same, subst (λ (bytes : List ℕ). SpellsHistory cores bytes entries) (sym same) again) own added
+migrate_answer policy trace history text jobs lines p read (judged.Explained explanation) before after code is own added = absurd is
 migrate_answer policy trace history text jobs lines p read (judged.Refused why) before after code is own added =
-    refused_history policy trace history text jobs lines p read SaysMigrated why before after code is own (one_line (histories.refusal_line why) before after added)
+    refused_history policy trace history text jobs lines p read SaysMigrated (λ plan entries bytes says. says) why before after code is own (one_line (histories.refusal_line why) before after added)
+
+-- and those of `why`
+why_answer : (policy trace history : Told) (text jobs lines : List ℕ) (p : Meaning) → Read policy trace history text jobs lines p → (h : HistoryAnswer) (before after : Option (List ℕ)) (code : ℕ)
+    → IsWhyOf p jobs lines h → code ≡ code_of (history_status h) → Adds (joined (histories.lines_of h)) before after → JudgesTruly SaysWhy policy trace history before after code
+why_answer policy trace history text jobs lines p read (judged.Whole count) before after code is own added = absurd is
+why_answer policy trace history text jobs lines p read (judged.Reported told) before after code is own added = absurd is
+why_answer policy trace history text jobs lines p read (judged.Migrated given) before after code is own added = absurd is
+why_answer policy trace history text jobs lines p read (judged.Explained (explained.Whole count)) before after code is own added =
+    let line : List ℕ = histories.whole_line count in
+    judged_whole policy trace history text jobs lines p read SaysWhy is.plan is.history line before after code is.gives is.is.whole
+    (ap histories.whole_line is.is.count_is) own (one_line line before after added)
+why_answer policy trace history text jobs lines p read (judged.Explained (explained.Short count coming)) before after code is own added =
+    let explanation : Explanation = explained.Short count coming in
+    judged_not_whole policy trace history text jobs lines p read SaysWhy is.plan is.history (joined (histories.explanation_lines explanation)) before after code is.gives
+    is.is.short.unfinished (explanation, is.is, refl) own added
+why_answer policy trace history text jobs lines p read (judged.Explained (explained.Illegal at why coming)) before after code is own added =
+    let explanation : Explanation = explained.Illegal at why coming in
+    judged_not_whole policy trace history text jobs lines p read SaysWhy is.plan is.history (joined (histories.explanation_lines explanation)) before after code is.gives
+    (λ whole. one_judgement.legal p is.plan is.history at whole.legal is.is.first) (explanation, is.is, refl) own added
+why_answer policy trace history text jobs lines p read (judged.Refused why) before after code is own added =
+    unread_history policy trace history text jobs lines p read SaysWhy why before after code is own (one_line (histories.refusal_line why) before after added)
 
 -- what follows for a command from what its answers to judged histories are worth
 judging_shows : (Is : Judging) (Says : Saying) → ((policy trace history : Told) (text jobs lines : List ℕ) (p : Meaning) → Read policy trace history text jobs lines p → (h : HistoryAnswer) (before after : Option (List ℕ)) (code : ℕ)
@@ -200,6 +227,9 @@ history_not_10 : (h : HistoryAnswer) → code_of (history_status h) ≢ 10
 history_not_10 (judged.Whole count) e = omega arith
 history_not_10 (judged.Reported told) e = omega arith
 history_not_10 (judged.Migrated given) e = omega arith
+history_not_10 (judged.Explained (explained.Whole count)) e = omega arith
+history_not_10 (judged.Explained (explained.Short count coming)) e = omega arith
+history_not_10 (judged.Explained (explained.Illegal at why coming)) e = omega arith
 history_not_10 (judged.Refused (no_history.Trace fault)) e = omega arith
 history_not_10 (judged.Refused (no_history.BadLine line)) e = omega arith
 history_not_10 (judged.Refused (no_history.Illegal position)) e = omega arith
@@ -256,4 +286,17 @@ migrate_law Passed policy trace history =
           long_judge SaysMigrated (told policy) (told trace) (told history) before after code
           (λ text jobs lines held also too. never_long which told (history_files policy trace history) long ((text, held), ((jobs, also), ((lines, too), tt)))) own;
       stopped = λ told before after code stop file. stopped_judge SaysMigrated (told policy) (told trace) (told history) before after code stop;
+    }
+
+pub why_law : (Passed : ℕ → ℕ → Type 0) (policy trace history : List ℕ) → CommandLaw Passed (Some (tell_why policy trace history))
+why_law Passed policy trace history =
+    let asked : Option Asked = Some (tell_why policy trace history) in
+    record {
+      known = λ text a is. judging_known IsWhyOf text a is (statuses_of asked) refl refl refl refl refl refl;
+      crowds = λ told text before after a files is. judging_crowds IsWhyOf text a is asked told before after policy (inl (refl, refl)) files.0;
+      shows = λ told text before after code a files is. judging_shows IsWhyOf SaysWhy why_answer told policy trace history text before after code a files is;
+      long = λ told before after code which long own.
+          long_judge SaysWhy (told policy) (told trace) (told history) before after code
+          (λ text jobs lines held also too. never_long which told (history_files policy trace history) long ((text, held), ((jobs, also), ((lines, too), tt)))) own;
+      stopped = λ told before after code stop file. stopped_judge SaysWhy (told policy) (told trace) (told history) before after code stop;
     }

@@ -18,21 +18,17 @@ use Rattle.history_reader.proofs.WholeTexts.{not_both, one_history}
 use Rattle.history_judge.proofs.Judged.{one_judgement}
 use Rattle.history_replay.specs.declared.refusal.HistoryRefusal.{HistoryRefusal}
 use Rattle.history_replay.specs.declared.refusal.HistoryRefusal.TheVariants as no_history
-use Rattle.history_replay.specs.Judges.{Gives, HasRefusal}
+use Rattle.history_replay.specs.Judges.{Gives, GiveNone, HasRefusal}
 use Rattle.history_replay.specs.Lines as histories
 use Rattle.round_laws.proofs.MainTheorem.{main_theorem}
 use Rattle.ipanema_cli.specs.PolicyAnswers.{IsAccepted}
 use Rattle.ipanema_cli.specs.Status.{code_of, history_refusal_status}
 use Rattle.ipanema_cli.specs.Texts.{MayRead}
 use Rattle.ipanema_cli.specs.CheckTruths.{Spells}
-use Rattle.ipanema_cli.specs.JudgeTruths.{DoHoldAll, JudgesTruly, MayJudge, MustJudge, TellsWhy}
+use Rattle.ipanema_cli.specs.JudgeTruths.{DoHoldAll, JudgesTruly, MayJudge, MustJudge, Saying, SaysNotWhole}
 use Rattle.ipanema_cli.specs.JudgeTruths.{illegal, short}
 use Rattle.ipanema_cli.specs.declared.texts.TextKind.TheVariants as kind
 use Rattle.ipanema_cli.proofs.PolicyFacts.{judged_refuses, resolved, same_policy, text_read}
-
--- what a command says of a whole history
-abbrev pub Saying : Type 1
-Saying = Meaning → Plan → List Entry → List ℕ → Type 0
 
 -- the three files were read, and the policy is accepted
 pub record Read (policy trace history : Told) (text jobs lines : List ℕ) (p : Meaning) : Type 0 where
@@ -133,7 +129,7 @@ module _ (policy trace history : Told) (text jobs lines : List ℕ) (p : Meaning
 
   -- the history is whole
   pub judged_whole : (Says : Saying) (plan : Plan) (entries : List Entry) (bytes : List ℕ) (before after : Option (List ℕ)) (code : ℕ) → Gives p jobs lines plan entries
-      → Whole p plan entries → Says p plan entries bytes → code ≡ 0 → Adds bytes before after → JudgesTruly Says policy trace history before after code
+      → Whole p plan entries → Says.of_whole p plan entries bytes → code ≡ 0 → Adds bytes before after → JudgesTruly Says policy trace history before after code
   judged_whole Says plan entries bytes before after code gives is says own added = record {
     whole = λ h. record {
       p = p;
@@ -164,11 +160,20 @@ module _ (policy trace history : Told) (text jobs lines : List ℕ) (p : Meaning
   }
 
   -- the history isn't whole
-  judged_not_whole : (Says : Saying) (plan : Plan) (entries : List Entry) (before after : Option (List ℕ)) (code : ℕ) → Gives p jobs lines plan entries
-      → (Whole p plan entries → ⊥) → TellsWhy p plan entries before after → code ≡ 9 → JudgesTruly Says policy trace history before after code
-  judged_not_whole Says plan entries before after code gives not_is why own = record {
+  pub judged_not_whole : (Says : Saying) (plan : Plan) (entries : List Entry) (bytes : List ℕ) (before after : Option (List ℕ)) (code : ℕ) → Gives p jobs lines plan entries
+      → (Whole p plan entries → ⊥) → Says.of_other p plan entries bytes → code ≡ 9 → Adds bytes before after → JudgesTruly Says policy trace history before after code
+  judged_not_whole Says plan entries bytes before after code gives not_is says own added = record {
     whole = λ h. absurd (omega arith);
-    not_whole = λ h. record { p = p; plan = plan; entries = entries; may = may_judge plan entries gives; why = why };
+    not_whole = λ h. record {
+      p = p;
+      plan = plan;
+      entries = entries;
+      may = may_judge plan entries gives;
+      unfinished = not_is;
+      bytes = bytes;
+      says = says;
+      written = added;
+    };
     must = record {
       whole = λ other also_jobs also_lines also others held also_gives is.
           absurd (not_is (still_whole other also_jobs also_lines plan also entries others gives held also_gives is));
@@ -197,9 +202,10 @@ module _ (policy trace history : Told) (text jobs lines : List ℕ) (p : Meaning
     unjudged = λ also_jobs also_lines also too. judged_refuses policy text p code read.policy_read read.accepted.spells read.accepted.few;
   }
 
-  pub refused_history : (Says : Saying) (why : HistoryRefusal) (before after : Option (List ℕ)) (code : ℕ) → HasRefusal p jobs lines why
+  -- the texts give no history
+  pub unread_history : (Says : Saying) (why : HistoryRefusal) (before after : Option (List ℕ)) (code : ℕ) → GiveNone p jobs lines why
       → code ≡ code_of (history_refusal_status why) → Adds (histories.refusal_line why) before after → JudgesTruly Says policy trace history before after code
-  refused_history Says (no_history.Trace fault) before after code has own added = record {
+  unread_history Says (no_history.Trace fault) before after code has own added = record {
     whole = λ h. absurd (omega arith);
     not_whole = λ h. absurd (omega arith);
     must = must_refuse code own (λ plan entries gives. never_faulty p jobs gives.means.trace plan fault gives.means.spells gives.means.means has);
@@ -216,7 +222,7 @@ module _ (policy trace history : Told) (text jobs lines : List ℕ) (p : Meaning
       written = added;
     }));
   }
-  refused_history Says (no_history.BadLine line) before after code has own added = record {
+  unread_history Says (no_history.BadLine line) before after code has own added = record {
     whole = λ h. absurd (omega arith);
     not_whole = λ h. absurd (omega arith);
     must = must_refuse code own (λ plan entries gives.
@@ -239,7 +245,19 @@ module _ (policy trace history : Told) (text jobs lines : List ℕ) (p : Meaning
       written = added;
     }));
   }
-  refused_history Says (no_history.Illegal position) before after code (plan, entries, gives, first) own added =
-      judged_not_whole Says plan entries before after code gives (λ is. one_judgement.legal p plan entries position is.legal first) (illegal position first added) own
-  refused_history Says (no_history.Short count) before after code (plan, entries, gives, too_short) own added =
-      judged_not_whole Says plan entries before after code gives too_short.unfinished (short count too_short added) own
+  unread_history Says (no_history.Illegal position) before after code has own added = absurd has
+  unread_history Says (no_history.Short count) before after code has own added = absurd has
+
+  -- they give none, or one that isn't whole
+  pub refused_history : (Says : Saying) → ((plan : Plan) (entries : List Entry) (bytes : List ℕ) → SaysNotWhole p plan entries bytes → Says.of_other p plan entries bytes)
+      → (why : HistoryRefusal) (before after : Option (List ℕ)) (code : ℕ) → HasRefusal p jobs lines why
+      → code ≡ code_of (history_refusal_status why) → Adds (histories.refusal_line why) before after → JudgesTruly Says policy trace history before after code
+  refused_history Says told (no_history.Trace fault) before after code has own added = unread_history Says (no_history.Trace fault) before after code has own added
+  refused_history Says told (no_history.BadLine line) before after code has own added = unread_history Says (no_history.BadLine line) before after code has own added
+  refused_history Says told (no_history.Illegal position) before after code (plan, entries, gives, first) own added =
+      let bytes : List ℕ = histories.refusal_line (no_history.Illegal position) in
+      judged_not_whole Says plan entries bytes before after code gives (λ is. one_judgement.legal p plan entries position is.legal first)
+      (told plan entries bytes (illegal position first refl)) own added
+  refused_history Says told (no_history.Short count) before after code (plan, entries, gives, too_short) own added =
+      let bytes : List ℕ = histories.refusal_line (no_history.Short count) in
+      judged_not_whole Says plan entries bytes before after code gives too_short.unfinished (told plan entries bytes (short count too_short refl)) own added

@@ -1,6 +1,6 @@
 -- The law of each command.
 use Rattle.std.proofs.Common.{ℕ, Option, Some, None, arith, refl, subst, sym}
-use Rattle.command_words.specs.Command.{Asked, bench, bound, check, crew, draft, emit, explain, make, migrate, play, prove, replay, report, rest, run, simulate, verify, waste}
+use Rattle.command_words.specs.Command.{Asked, bench, bound, check, crew, draft, emit, explain, make, migrate, play, prove, replay, report, rest, run, simulate, tell_why, verify, waste}
 use Rattle.ipanema_cli.proofs.BenchTruths.{bench_law}
 use Rattle.ipanema_cli.proofs.BoundTruths.{bound_law}
 use Rattle.ipanema_cli.proofs.CheckTruths.{check_law}
@@ -8,7 +8,7 @@ use Rattle.ipanema_cli.proofs.CommandLaw.{CommandLaw, Crowds, Known}
 use Rattle.ipanema_cli.proofs.DraftTruths.{draft_law}
 use Rattle.ipanema_cli.proofs.ExplainTruths.{explain_law}
 use Rattle.ipanema_cli.proofs.ExportTruths.{emit_law, prove_law}
-use Rattle.ipanema_cli.proofs.JudgeTruths.{migrate_law, replay_law, report_law}
+use Rattle.ipanema_cli.proofs.JudgeTruths.{migrate_law, replay_law, report_law, why_law}
 use Rattle.ipanema_cli.proofs.MakeTruths.{make_law}
 use Rattle.ipanema_cli.proofs.PlayTruths.{play_law}
 use Rattle.ipanema_cli.proofs.RestTruths.{rest_law}
@@ -45,5 +45,6 @@ module _ (Passed : ℕ → ℕ → Type 0) where
   law_of (Some (replay policy trace history)) = replay_law Passed policy trace history
   law_of (Some (report policy trace history)) = report_law Passed policy trace history
   law_of (Some (migrate policy trace history)) = migrate_law Passed policy trace history
+  law_of (Some (tell_why policy trace history)) = why_law Passed policy trace history
   law_of (Some (make seed size)) = make_law Passed seed size
   law_of (Some (bench seed size)) = bench_law Passed seed size

@@ -73,7 +73,8 @@ three verb first second third no_crew =
     past (codes "crew") verb _ _ no_crew
     (either (bytes_eq (codes "replay") verb) _ _ tt
     (either (bytes_eq (codes "report") verb) _ _ tt
-    (either (bytes_eq (codes "migrate") verb) _ _ tt tt)))
+    (either (bytes_eq (codes "migrate") verb) _ _ tt
+    (either (bytes_eq (codes "why") verb) _ _ tt tt))))
 
 plainly : (words : List (List ℕ)) → slice_get words 0 ≢ Some (codes "run") → slice_get words 0 ≢ Some (codes "crew") → IsSerial (asked_plainly words)
 plainly [] no_run no_crew = tt

@@ -28,6 +28,7 @@ use Rattle.trace_simulation.specs.declared.answer.SimulationAnswer.{SimulationAn
 use Rattle.trace_simulation.specs.declared.answer.SimulationAnswer.TheVariants as simulation
 use Rattle.ipanema_cli.specs.Answers.{lines_of, output_of, play_status, status_of}
 use Rattle.history_replay.specs.declared.answer.HistoryAnswer.{HistoryAnswer}
+use Rattle.history_reasons.specs.declared.explaining.Explanation.TheVariants as explanation
 use Rattle.history_replay.specs.declared.answer.HistoryAnswer.TheVariants as judged
 use Rattle.history_replay.specs.declared.refusal.HistoryRefusal.TheVariants as no_history
 use Rattle.ipanema_cli.specs.Ends.{Writes, cut_off, written}
@@ -101,6 +102,9 @@ history_code : (h : HistoryAnswer) → AnswerCode (code_of (history_status h))
 history_code (judged.Whole count) = is_0 refl
 history_code (judged.Reported report) = is_0 refl
 history_code (judged.Migrated given) = is_0 refl
+history_code (judged.Explained (explanation.Whole count)) = is_0 refl
+history_code (judged.Explained (explanation.Short count coming)) = is_9 refl
+history_code (judged.Explained (explanation.Illegal at why coming)) = is_9 refl
 history_code (judged.Refused (no_history.Trace fault)) = is_2 refl
 history_code (judged.Refused (no_history.BadLine line)) = is_2 refl
 history_code (judged.Refused (no_history.Illegal position)) = is_9 refl

@@ -1,7 +1,7 @@
 -- The commands: the files that each loads, and the statuses that it may end with.
 use Rattle.std.specs.Prelude.{ℕ, List, [], ◌∷◌, ◌++◌, Option, Some, None}
 use Rattle.command_words.specs.Command.{Asked, bench, bound, check, crew, draft, emit, explain, make, migrate, play}
-use Rattle.command_words.specs.Command.{prove, replay, report, rest, run, simulate, verify, waste}
+use Rattle.command_words.specs.Command.{prove, replay, report, rest, run, simulate, tell_why, verify, waste}
 use Rattle.ipanema_cli.specs.declared.texts.TextKind.{TextKind}
 use Rattle.ipanema_cli.specs.declared.texts.TextKind.TheVariants as kind
 
@@ -49,6 +49,7 @@ asked_files (Some (waste policy trace)) = trace_files policy trace
 asked_files (Some (replay policy trace history)) = history_files policy trace history
 asked_files (Some (report policy trace history)) = history_files policy trace history
 asked_files (Some (migrate policy trace history)) = history_files policy trace history
+asked_files (Some (tell_why policy trace history)) = history_files policy trace history
 asked_files (Some (make seed size)) = []
 asked_files (Some (bench seed size)) = []
 
@@ -83,6 +84,7 @@ answer_statuses (Some (waste policy trace)) = trace_statuses
 answer_statuses (Some (replay policy trace history)) = history_statuses
 answer_statuses (Some (report policy trace history)) = history_statuses
 answer_statuses (Some (migrate policy trace history)) = history_statuses
+answer_statuses (Some (tell_why policy trace history)) = history_statuses
 answer_statuses (Some (make seed size)) = 0 ∷ []
 answer_statuses (Some (bench seed size)) = 0 ∷ 3 ∷ []
 

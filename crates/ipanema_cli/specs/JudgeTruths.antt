@@ -1,4 +1,4 @@
--- What `replay` and `report` say is true.
+-- What commands that judge a history say is true.
 use Rattle.std.specs.Prelude.{◌≡◌, ◌≢◌, ◌⊎◌, ℕ, List, [], ◌∷◌, Option, length}
 use Rattle.sched_io.specs.Puts.{joined}
 use Rattle.sched_io.specs.Told.{Told}
@@ -15,9 +15,11 @@ use Rattle.sched_report.specs.Lines.{report_lines}
 use Rattle.sched_history.specs.Spelling.{text_of_history}
 use Rattle.history_reader.specs.Reading.{IsFirstBadLine, SpellsHistory}
 use Rattle.history_judge.specs.Judgement.{IsFirstIllegal, IsTooShort}
+use Rattle.history_reasons.specs.declared.explaining.Explanation.{Explanation}
+use Rattle.history_reasons.specs.Explanations.{IsExplanation}
 use Rattle.history_replay.specs.declared.refusal.HistoryRefusal.TheVariants as refusal
 use Rattle.history_replay.specs.Judges.{Gives, Tells}
-use Rattle.history_replay.specs.Lines.{refusal_line, whole_line}
+use Rattle.history_replay.specs.Lines.{explanation_lines, refusal_line, whole_line}
 use Rattle.trace_play.specs.Plays as plays
 use Rattle.ipanema_cli.specs.PolicyAnswers.{IsAccepted}
 use Rattle.ipanema_cli.specs.Causes.{OneOf}
@@ -45,8 +47,13 @@ pub record DoHoldAll (policy trace history : Told) (p : Meaning) (jobs lines : L
   pub trace_held : Holds kind.Trace trace jobs
   pub history_held : Holds kind.History history lines
 
+-- What a command says of a history that it judges: of a whole one, and of another.
+pub record Saying : Type 1 where
+  pub of_whole : Meaning → Plan → List Entry → List ℕ → Type 0
+  pub of_other : Meaning → Plan → List Entry → List ℕ → Type 0
+
 -- The history is whole, and what is said of it is written.
-pub record WritesOfWhole (Says : Meaning → Plan → List Entry → List ℕ → Type 0) (policy trace history : Told)
+pub record WritesOfWhole (Says : Saying) (policy trace history : Told)
     (before after : Option (List ℕ)) : Type 0 where
   pub p : Meaning
   pub plan : Plan
@@ -56,23 +63,19 @@ pub record WritesOfWhole (Says : Meaning → Plan → List Entry → List ℕ �
   -- it keeps the laws of every interleaving
   pub keeps : KeepsLaws p plan entries
   pub bytes : List ℕ
-  pub says : Says p plan entries bytes
+  pub says : Says.of_whole p plan entries bytes
   pub written : Adds bytes before after
 
--- Why a history isn't whole is written: the first entry that isn't legal, or that all are and it stops too soon.
-pub data TellsWhy (p : Meaning) (plan : Plan) (entries : List Entry) (before after : Option (List ℕ)) : Type 0 where
-  illegal : (position : ℕ) → IsFirstIllegal p plan entries position →
-      Adds (refusal_line (refusal.Illegal position)) before after → TellsWhy p plan entries before after
-  short : (count : ℕ) → IsTooShort p plan entries count →
-      Adds (refusal_line (refusal.Short count)) before after → TellsWhy p plan entries before after
-
--- The history isn't whole, and why is written.
-pub record WritesWhyNot (policy trace history : Told) (before after : Option (List ℕ)) : Type 0 where
+-- The history isn't whole, and what is said of it is written.
+pub record WritesOfOther (Says : Saying) (policy trace history : Told) (before after : Option (List ℕ)) : Type 0 where
   pub p : Meaning
   pub plan : Plan
   pub entries : List Entry
   pub may : MayJudge policy trace history p plan entries
-  pub why : TellsWhy p plan entries before after
+  pub unfinished : Whole p plan entries → ⊥
+  pub bytes : List ℕ
+  pub says : Says.of_other p plan entries bytes
+  pub written : Adds bytes before after
 
 -- The first bad line of the history's text is written, under an accepted policy and a trace that means a plan.
 pub record BadHistory (policy trace history : Told) (before after : Option (List ℕ)) : Type 0 where
@@ -116,28 +119,56 @@ pub record MustJudge (policy trace history : Told) (code : ℕ) : Type 0 where
   pub unjudged : (jobs lines : List ℕ) → Holds kind.Trace trace jobs → Holds kind.History history lines →
       Refuses policy code
 
--- What a command that judges a history says is true. Of a whole one it says this.
-pub record JudgesTruly (Says : Meaning → Plan → List Entry → List ℕ → Type 0) (policy trace history : Told)
-    (before after : Option (List ℕ)) (code : ℕ) : Type 0 where
+-- What a command that judges a history says is true. It says this.
+pub record JudgesTruly (Says : Saying) (policy trace history : Told) (before after : Option (List ℕ)) (code : ℕ) : Type 0 where
   pub whole : code ≡ 0 → WritesOfWhole Says policy trace history before after
-  pub not_whole : code ≡ 9 → WritesWhyNot policy trace history before after
+  pub not_whole : code ≡ 9 → WritesOfOther Says policy trace history before after
   pub must : MustJudge policy trace history code
   -- a policy that isn't accepted gets the lines of `check`
   pub lines : OneOf (1 ∷ 3 ∷ []) code → AnswersFor policy before after code
   pub bad_text : code ≡ 2 → TellsFault policy before after ⊎ (BadTrace policy trace before after
       ⊎ BadHistory policy trace history before after)
 
--- `replay` says how many entries the history has.
-abbrev pub SaysWhole : Meaning → Plan → List Entry → List ℕ → Type 0
-SaysWhole p plan entries bytes = bytes ≡ whole_line (length entries)
+-- Of one that isn't whole the first entry is said that isn't legal, or that all are and it stops too soon.
+pub data SaysNotWhole (p : Meaning) (plan : Plan) (entries : List Entry) (bytes : List ℕ) : Type 0 where
+  illegal : (position : ℕ) → IsFirstIllegal p plan entries position →
+      bytes ≡ refusal_line (refusal.Illegal position) → SaysNotWhole p plan entries bytes
+  short : (count : ℕ) → IsTooShort p plan entries count →
+      bytes ≡ refusal_line (refusal.Short count) → SaysNotWhole p plan entries bytes
+
+-- `why` says its explanation: the rule that the first illegal entry breaks, and the entries that may come.
+abbrev pub SaysReasons : Meaning → Plan → List Entry → List ℕ → Type 0
+SaysReasons p plan entries bytes =
+    (explanation : Explanation) × IsExplanation p plan entries explanation
+    × (bytes ≡ joined (explanation_lines explanation))
+
+-- Of a whole history `replay` and `why` say how many entries it has.
+abbrev pub SaysCount : Meaning → Plan → List Entry → List ℕ → Type 0
+SaysCount p plan entries bytes = bytes ≡ whole_line (length entries)
 
 -- `report` says what the history wasted and why its steals failed: its rows, one for each round, longest still stretch
 -- and failed steal, and its totals. Twice the bad rounds of a stretch are at most its spread.
-abbrev pub SaysReport : Meaning → Plan → List Entry → List ℕ → Type 0
-SaysReport p plan entries bytes =
+abbrev pub SaysRows : Meaning → Plan → List Entry → List ℕ → Type 0
+SaysRows p plan entries bytes =
     (report : FullReport) × Tells p plan entries report × (bytes ≡ joined (report_lines report))
 
 -- `migrate` says the history's text of the second format, which spells the same history.
-abbrev pub SaysMigrated : Meaning → Plan → List Entry → List ℕ → Type 0
-SaysMigrated p plan entries bytes =
+abbrev pub SaysText : Meaning → Plan → List Entry → List ℕ → Type 0
+SaysText p plan entries bytes =
     (bytes ≡ text_of_history plan.cores entries) × SpellsHistory plan.cores bytes entries
+
+-- What each of these commands says.
+abbrev pub saying : (Meaning → Plan → List Entry → List ℕ → Type 0) → Saying
+saying Says = record { of_whole = Says; of_other = λ p plan entries bytes. SaysNotWhole p plan entries bytes }
+
+abbrev pub SaysWhole : Saying
+SaysWhole = saying SaysCount
+
+abbrev pub SaysReport : Saying
+SaysReport = saying SaysRows
+
+abbrev pub SaysMigrated : Saying
+SaysMigrated = saying SaysText
+
+abbrev pub SaysWhy : Saying
+SaysWhy = record { of_whole = SaysCount; of_other = SaysReasons }

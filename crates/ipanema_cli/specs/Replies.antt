@@ -19,11 +19,11 @@ use Rattle.trace_printer.specs.Printed.{trace_text}
 use Rattle.trace_play.specs.Plays as plays
 use Rattle.trace_run.specs.Runs.{IsGatedRunOf, IsRunOf}
 use Rattle.trace_simulation.specs.Simulations.{IsSimulationOf, IsWasteOf}
-use Rattle.history_replay.specs.Judges.{IsMigrationOf, IsReplayOf, IsReportOf}
+use Rattle.history_replay.specs.Judges.{IsMigrationOf, IsReplayOf, IsReportOf, IsWhyOf}
 use Rattle.fair_policy.specs.Fair.{fair_meaning}
 use Rattle.bench_play.specs.Bench.{IsBench}
 use Rattle.command_words.specs.Command.{Asked, bench, bound, check, crew, draft, emit, explain, make, migrate, play}
-use Rattle.command_words.specs.Command.{prove, replay, report, rest, run, simulate, verify, waste}
+use Rattle.command_words.specs.Command.{prove, replay, report, rest, run, simulate, tell_why, verify, waste}
 use Rattle.ipanema_cli.specs.Commands.{asked_files}
 use Rattle.ipanema_cli.specs.Files.{AreRead, IsTooLongOf}
 use Rattle.ipanema_cli.specs.PolicyAnswers.{Exporting, IsAccepted, IsHeader, accepts}
@@ -110,6 +110,8 @@ Replies Ran (Some (report policy trace history)) text a =
     RepliesJudging IsReportOf (text kind.Policy) (text kind.Trace) (text kind.History) a
 Replies Ran (Some (migrate policy trace history)) text a =
     RepliesJudging IsMigrationOf (text kind.Policy) (text kind.Trace) (text kind.History) a
+Replies Ran (Some (tell_why policy trace history)) text a =
+    RepliesJudging IsWhyOf (text kind.Policy) (text kind.Trace) (text kind.History) a
 Replies Ran (Some (make seed size)) text a = IsGiven answer.Made (λ given. IsMade seed size given.items) a
 Replies Ran (Some (bench seed size)) text a = RepliesBench seed size a
 

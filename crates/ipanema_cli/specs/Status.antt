@@ -22,6 +22,8 @@ use Rattle.trace_play.specs.declared.cores.PlayedCores.TheVariants as cores
 use Rattle.trace_simulation.specs.declared.answer.PlayedWaste.TheVariants as wasted
 use Rattle.trace_simulation.specs.declared.answer.SimulationAnswer.{SimulationAnswer}
 use Rattle.trace_simulation.specs.declared.answer.SimulationAnswer.TheVariants as simulation
+use Rattle.history_reasons.specs.declared.explaining.Explanation.{Explanation}
+use Rattle.history_reasons.specs.declared.explaining.Explanation.TheVariants as explained
 use Rattle.history_replay.specs.declared.answer.HistoryAnswer.{HistoryAnswer}
 use Rattle.history_replay.specs.declared.answer.HistoryAnswer.TheVariants as history
 use Rattle.history_replay.specs.declared.refusal.HistoryRefusal.{HistoryRefusal}
@@ -100,11 +102,18 @@ history_refusal_status (history_refusal.BadLine line) = status.BadText
 history_refusal_status (history_refusal.Illegal position) = status.NotWhole
 history_refusal_status (history_refusal.Short count) = status.NotWhole
 
+-- the status of an explanation
+abbrev pub explanation_status : Explanation → Status
+explanation_status (explained.Whole count) = status.Done
+explanation_status (explained.Short count coming) = status.NotWhole
+explanation_status (explained.Illegal at why coming) = status.NotWhole
+
 -- the status of what a history's text comes to
 abbrev pub history_status : HistoryAnswer → Status
 history_status (history.Whole count) = status.Done
 history_status (history.Reported report) = status.Done
 history_status (history.Migrated given) = status.Done
+history_status (history.Explained explanation) = explanation_status explanation
 history_status (history.Refused why) = history_refusal_status why
 
 -- the status of what a trace comes to that is simulated

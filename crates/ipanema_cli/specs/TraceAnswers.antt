@@ -3,7 +3,7 @@ use Rattle.std.specs.Prelude.{ℕ, List}
 use Rattle.policy_tree.specs.Meaning.{Meaning}
 use Rattle.trace_play.specs.declared.answer.PlayAnswer.{PlayAnswer}
 use Rattle.history_replay.specs.declared.answer.HistoryAnswer.{HistoryAnswer}
-use Rattle.history_replay.specs.Judges.{IsMigrationOf, IsReplayOf, IsReportOf}
+use Rattle.history_replay.specs.Judges.{IsMigrationOf, IsReplayOf, IsReportOf, IsWhyOf}
 use Rattle.ipanema_cli.specs.declared.kinds.HistoryCommand.{HistoryCommand}
 use Rattle.ipanema_cli.specs.declared.kinds.HistoryCommand.TheVariants as history_command
 
@@ -20,3 +20,4 @@ abbrev pub judging_of : HistoryCommand → Judging
 judging_of history_command.Replay = IsReplayOf
 judging_of history_command.Report = IsReportOf
 judging_of history_command.Migrate = IsMigrationOf
+judging_of history_command.Why = IsWhyOf

@@ -2,7 +2,7 @@
 use Rattle.std.specs.Prelude.{ℕ, List, Option, Some, None}
 use Rattle.sched_io.specs.Told.{Told}
 use Rattle.command_words.specs.Command.{Asked, bench, bound, check, crew, draft, emit, explain, make, migrate, play}
-use Rattle.command_words.specs.Command.{prove, replay, report, rest, run, simulate, verify, waste}
+use Rattle.command_words.specs.Command.{prove, replay, report, rest, run, simulate, tell_why, verify, waste}
 use Rattle.ipanema_cli.specs.BoundTruths.{BoundsTruly}
 use Rattle.ipanema_cli.specs.CheckTruths.{ChecksTruly}
 use Rattle.ipanema_cli.specs.DraftTruths.{DraftsTruly}
@@ -12,7 +12,7 @@ use Rattle.ipanema_cli.specs.RestTruths.{RestsTruly}
 use Rattle.ipanema_cli.specs.SimulationTruths.{SaysHistory, SaysWaste, SimulatesTruly}
 use Rattle.ipanema_cli.specs.TraceTruths.{PlaysTruly, RunsTruly}
 use Rattle.ipanema_cli.specs.VerifyTruths.{VerifiesTruly}
-use Rattle.ipanema_cli.specs.JudgeTruths.{JudgesTruly, SaysMigrated, SaysReport, SaysWhole}
+use Rattle.ipanema_cli.specs.JudgeTruths.{JudgesTruly, SaysMigrated, SaysReport, SaysWhole, SaysWhy}
 use Rattle.ipanema_cli.specs.MakeTruths.{MakesTruly}
 use Rattle.ipanema_cli.specs.BenchTruths.{BenchesTruly}
 
@@ -50,5 +50,7 @@ IsTruthful Passed (Some (report policy trace history)) told before after code =
     JudgesTruly SaysReport (told policy) (told trace) (told history) before after code
 IsTruthful Passed (Some (migrate policy trace history)) told before after code =
     JudgesTruly SaysMigrated (told policy) (told trace) (told history) before after code
+IsTruthful Passed (Some (tell_why policy trace history)) told before after code =
+    JudgesTruly SaysWhy (told policy) (told trace) (told history) before after code
 IsTruthful Passed (Some (make seed size)) told before after code = MakesTruly seed size before after code
 IsTruthful Passed (Some (bench seed size)) told before after code = BenchesTruly seed size before after code

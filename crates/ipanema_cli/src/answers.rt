@@ -28,7 +28,7 @@ use crate::stop::Stop;
 use crate::texts::{TextKind, Texts};
 use bench_play::{BenchTotals, play_bench, print_bench};
 use fair_policy::fair_policy;
-use history_replay::{HistoryAnswer, migrate_texts, replay_texts, report_texts};
+use history_replay::{HistoryAnswer, migrate_texts, replay_texts, report_texts, why_texts};
 use policy_answers::{
     BoundAnswer, CheckAnswer, ExplainAnswer, RestAnswer, VerifyAnswer, check_text, put_text,
 };
@@ -193,6 +193,7 @@ fn judged_under(
         HistoryCommand::Replay => replay_texts(alloc, policy, trace, history),
         HistoryCommand::Report => report_texts(alloc, policy, trace, history),
         HistoryCommand::Migrate => migrate_texts(alloc, policy, trace, history),
+        HistoryCommand::Why => why_texts(alloc, policy, trace, history),
     }
 }
 

@@ -53,6 +53,7 @@ pub fn reply(alloc: Global, request: Request<'_>, texts: &Texts) -> Result<Answe
         Request::Replay(_) => judge(alloc, HistoryCommand::Replay, texts),
         Request::Report(_) => judge(alloc, HistoryCommand::Report, texts),
         Request::Migrate(_) => judge(alloc, HistoryCommand::Migrate, texts),
+        Request::Why(_) => judge(alloc, HistoryCommand::Why, texts),
         Request::Make { seed, size } => make(alloc, seed, size),
         Request::Bench { seed, size } => bench(alloc, seed, size),
         Request::Unknown => Ok(Answer::BadWords),

@@ -48,6 +48,7 @@ impl<'a> FileNames<'a> {
             Request::Replay(named) => FileNames::of_history(named),
             Request::Report(named) => FileNames::of_history(named),
             Request::Migrate(named) => FileNames::of_history(named),
+            Request::Why(named) => FileNames::of_history(named),
             Request::Make { .. } | Request::Bench { .. } | Request::Unknown => FileNames::none(),
         }
     }
@@ -120,7 +121,8 @@ pub fn load_asked<F: Files>(
     files: &mut F,
     request: Request<'_>,
 ) -> Result<Texts, Stop>
-    ensures texts { IfOk result (λ texts. AreRead (F.told files.old) (text_of texts) (asked_files (asked request.entry))) }
+    ensures texts { IfOk result
+        (λ texts. AreRead (F.told files.old) (text_of texts) (asked_files (asked request.entry))) }
     ensures short { IfOk result AreShort }
     ensures stop { IfErr result (IsStopOf (asked_files (asked request.entry)) (F.told files.old)
         (Rose (F.faults files.old) (F.faults files.new))) }
@@ -139,7 +141,8 @@ fn load_texts<F: Files>(alloc: Global, files: &mut F, names: FileNames<'_>) -> R
     ensures short { IfOk result AreShort }
     ensures stop { IfErr result (IsStopOf (files_named names.entry) (F.told files.old)
         (Rose (F.faults files.old) (F.faults files.new))) }
-    ensures loads { FirstOfThem (files_named names.entry) (F.told files.old) (F.requested files.old) (F.requested files.new) }
+    ensures loads { FirstOfThem (files_named names.entry) (F.told files.old)
+        (F.requested files.old) (F.requested files.new) }
     ensures loaded { OnOk result (AreRequested (map load_of (files_named names.entry))
         (F.requested files.old) (F.requested files.new)) }
     ensures calm { IsErrOf result Stop.Unread ⊎ (F.faults files.new ≡ F.faults files.old) }
@@ -170,7 +173,8 @@ fn load_named<F: Files>(
     ensures same { (other : List ℕ) → F.told files.new other ≡ F.told files.old other }
     ensures still { OnOk result (F.faults files.new ≡ F.faults files.old) }
     ensures calm { IsErrOf result Stop.Unread ⊎ (F.faults files.new ≡ F.faults files.old) }
-    ensures requests { AreRequested (map load_of (file_named kind name.entry)) (F.requested files.old) (F.requested files.new) }
+    ensures requests { AreRequested (map load_of (file_named kind name.entry))
+        (F.requested files.old) (F.requested files.new) }
 {
     match name {
         Some(name) => load(alloc, files, name, kind),

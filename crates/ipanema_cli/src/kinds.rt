@@ -27,4 +27,6 @@ pub enum HistoryCommand {
     Report,
     /// To write its text of the second format.
     Migrate,
+    /// To say why it isn't whole, and what may come in it.
+    Why,
 }

@@ -2,9 +2,10 @@
 
 ghost use Rattle.std.specs.Prelude.{◌≡◌};
 ghost use Rattle.ipanema_cli.specs.Status.{bound_status, check_status, code_of, explain_status, gap_status, rest_status};
-ghost use Rattle.ipanema_cli.specs.Status.{history_refusal_status, history_status, outcome_status};
+ghost use Rattle.ipanema_cli.specs.Status.{explanation_status, history_refusal_status, history_status, outcome_status};
 ghost use Rattle.ipanema_cli.specs.Status.{refusal_status, simulation_status, verdict_status, verify_status};
 
+use history_reasons::Explanation;
 use history_replay::{HistoryAnswer, HistoryRefusal};
 use policy_answers::{BoundAnswer, CheckAnswer, ExplainAnswer, Refusal, RestAnswer, VerifyAnswer};
 use policy_checker::{LeastGap, Outcome, Verdict};
@@ -144,7 +145,18 @@ pub fn history_status(answer: &HistoryAnswer) -> Status
     match answer {
         HistoryAnswer::Whole(_) | HistoryAnswer::Reported(_) => Status::Done,
         HistoryAnswer::Migrated(_) => Status::Done,
+        HistoryAnswer::Explained(explanation) => explanation_status(explanation),
         HistoryAnswer::Refused(why) => history_refusal_status(why),
+    }
+}
+
+/// The status of an explanation.
+fn explanation_status(explanation: &Explanation) -> Status
+    ensures { result ≡ explanation_status explanation.now }
+{
+    match explanation {
+        Explanation::Whole(_) => Status::Done,
+        Explanation::Short(_, _) | Explanation::Illegal(_, _, _) => Status::NotWhole,
     }
 }
 

@@ -11,6 +11,7 @@ use Rattle.sched_history.proofs.Writing.{start_next}
 use Rattle.history_judge.proofs.Judged.{illegal_at, take_next}
 use Rattle.history_reasons.specs.Judging.{Judges}
 use Rattle.history_reasons.specs.Rules.{rules_of}
+use Rattle.history_reasons.proofs.Told.{ended_told, told_from}
 use Rattle.history_reasons.proofs.KeptRules.{kept_is_legal, reason_is_illegal}
 use Rattle.history_reasons.proofs.explaining.explain.Goals as goal
 
@@ -21,8 +22,8 @@ loop-at-init c = record {
   start = refl;
 }
 
-pub returns-in-Some : goal.returns-in-Some
-returns-in-Some c =
+pub returns-in-Some-clause-is : goal.returns-in-Some-clause-is
+returns-in-Some-clause-is c =
     let p = meaning_of c.args.policy.now in let plan = c.args.plan.now in let h = c.args.history.now in let at = c.loop-at.at in let e = c.get-entry.result.now in
     let stands = c.loop-at.invariant.stands in
     let reason = subst (Judges p plan (take at h) e (rules_of e)) c.in-Some.is (c.why_not.ensures (take at h) stands) in
@@ -31,8 +32,19 @@ returns-in-Some c =
       entry = e;
       stands = c.get-entry.ensures.item;
       reason = reason;
-      next_are = c.in_ok-next.ensures (take at h) stands;
+      comes = c.in_ok-coming.ensures (take at h) stands;
     }
+
+pub returns-in-Some-clause-told : goal.returns-in-Some-clause-told
+returns-in-Some-clause-told c =
+    let p = meaning_of c.args.policy.now in let plan = c.args.plan.now in let h = c.args.history.now in let at = c.loop-at.at in
+    let stands = c.loop-at.invariant.stands in
+    told_from p plan c.requires.fits c.requires.limits (take at h) c.in_ok-coming.coming (let few = c.requires.few in omega (arith, length-take at h)) stands.legal (c.in_ok-coming.ensures (take at h) stands)
+
+pub returns-clause-told : goal.returns-clause-told
+returns-clause-told c =
+    let p = meaning_of c.args.policy.now in let plan = c.args.plan.now in let h = c.args.history.now in let at = c.loop-at.at in
+    ended_told p plan c.requires.fits c.requires.limits c.loop-at.past (take at h) c.ended.result (let few = c.requires.few in omega (arith, length-take at h)) c.loop-at.invariant.stands c.ended.ensures
 
 pub step-requires-clause-next : goal.step-requires-clause-next
 step-requires-clause-next c =

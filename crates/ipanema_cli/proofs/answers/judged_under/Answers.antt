@@ -15,3 +15,8 @@ pub migrate_texts-requires-clause-handlers : goal.migrate_texts-requires-clause-
 migrate_texts-requires-clause-handlers c =
     handler_obligations (meaning_of c.policy-policy.result.now)
     (subst (λ (policy : Policy). MeetsObligations (meaning_of policy)) (sym c.policy-policy.ensures.policy) c.policy-policy.ensures.meets)
+
+pub why_texts-requires-clause-handlers : goal.why_texts-requires-clause-handlers
+why_texts-requires-clause-handlers c =
+    handler_obligations (meaning_of c.policy-policy.result.now)
+    (subst (λ (policy : Policy). MeetsObligations (meaning_of policy)) (sym c.policy-policy.ensures.policy) c.policy-policy.ensures.meets)

@@ -1,7 +1,7 @@
 use Rattle.std.proofs.Common.{decimal, length, ap, arith}
 use Rattle.std.proofs.lemmas.Fmt.{length-decimal-le}
 use Rattle.std.proofs.lemmas.List.{length-append}
-use Rattle.history_replay.proofs.refusal.numbered.Goals as goal
+use Rattle.history_reasons.proofs.printing.numbered.Goals as goal
 
 pub add-requires-2 : goal.add-requires-2
 add-requires-2 c =
