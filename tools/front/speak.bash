@@ -54,7 +54,7 @@ end_by() {
 # The words of a command that are files.
 files_of() {
   case "$1" in
-    check | explain | prove | bound | rest | emit | draft) files=("$2") ;;
+    check | explain | prove | bound | rest | waits | emit | draft) files=("$2") ;;
     crew) files=("$2" "$3") ;;
     *) files=("${@:2}") ;;
   esac

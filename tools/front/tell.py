@@ -20,7 +20,8 @@ from policy_places import attributes
 from why_text import of_why
 
 FILES = {"check": ["policy"], "explain": ["policy"], "play": ["policy", "trace"], "run": ["policy", "trace"]}
-FILES.update({"prove": ["policy"], "bound": ["policy"], "rest": ["policy"], "emit": ["policy"], "draft": ["policy"], "verify": ["policy", "certs"]})
+FILES.update({"prove": ["policy"], "bound": ["policy"], "rest": ["policy"], "waits": ["policy"]})
+FILES.update({"emit": ["policy"], "draft": ["policy"], "verify": ["policy", "certs"]})
 FILES.update(dict.fromkeys(["crew", "simulate", "waste"], ["policy", "trace"]))
 FILES.update(dict.fromkeys(["replay", "report", "migrate", "why"], ["policy", "trace", "history"]))
 # How many entries a history has where the trace names no limit, and the most that it may name.

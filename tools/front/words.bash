@@ -1,6 +1,6 @@
 # What the front says of the words of a call: usages, what is near a word, and what is wrong (status 7). To be read by speak.bash.
 
-commands=(check explain prove bound rest emit draft verify play run crew simulate waste replay report migrate why make bench)
+commands=(check explain prove bound rest waits emit draft verify play run crew simulate waste replay report migrate why make bench)
 obligations=(B1 B2 B3 B4 {H1,H2}.{enqueue,tick,yield,block})
 
 # The words of a command, and what it does.
@@ -11,6 +11,7 @@ usage_of() {
     prove) say '  ipanema prove POLICY                    write the certificates of an accepted policy, which anyone can verify' ;;
     bound) say '  ipanema bound POLICY                    what bounds the rounds that the policy may waste?' ;;
     rest) say '  ipanema rest POLICY                     how far may the loads of cores differ that steal no more?' ;;
+    waits) say '  ipanema waits POLICY                    how long may a thread wait for its core, or does one starve?' ;;
     emit) say '  ipanema emit POLICY                     write the rules of an accepted policy as a header in C' ;;
     draft) say '  ipanema draft POLICY                    write the rules of a policy that can be played as a header in C' ;;
     verify) say '  ipanema verify POLICY CERTS             do these certificates prove the policy? no solver is asked' ;;
@@ -70,7 +71,7 @@ say_near() {
 # How many words a command takes behind it.
 words_of() {
   case "$1" in
-    check | prove | bound | rest | emit | draft) echo 1 ;;
+    check | prove | bound | rest | waits | emit | draft) echo 1 ;;
     crew | replay | report | migrate | why) echo 3 ;;
     *) echo 2 ;;
   esac

@@ -20,13 +20,14 @@ use std::thread::Threads;
 use std::{fs, io};
 
 /// The tables, in the order in which they are played.
-const TABLES: [&str; 20] = [
+const TABLES: [&str; 21] = [
     "statuses.cases",
     "words.cases",
     "check.cases",
     "levels.cases",
     "bound.cases",
     "rest.cases",
+    "waits.cases",
     "certs.cases",
     "emit.cases",
     "play.cases",

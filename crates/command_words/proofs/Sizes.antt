@@ -6,7 +6,7 @@ use Rattle.std.specs.Str.{bytes_eq}
 use Rattle.obligations.specs.declared.names.ObName.{ObName}
 use Rattle.command_words.specs.Command.{Asked, asked_by, asked_plainly, bench, bound, check, crew, draft, emit, explain}
 use Rattle.command_words.specs.Command.{is_plain, make, migrate, name_of, play, prove, replay, report, rest, run, tell_why}
-use Rattle.command_words.specs.Command.{simulate, verify, waste}
+use Rattle.command_words.specs.Command.{simulate, verify, waits, waste}
 use Rattle.command_words.specs.Numbers.{is_crew, is_size, seed_in, size_in, workers_in}
 
 -- if a trace is to be made, its size is one, and if one is to be played too, and the workers of a crew are so many
@@ -89,6 +89,9 @@ bounded policy = record { made = λ s n e. absurd (let bad = e in cc); benched =
 rested : (policy : List ℕ) → IsSized (Some (rest policy))
 rested policy = record { made = λ s n e. absurd (let bad = e in cc); benched = λ s n e. absurd (let bad = e in cc); crewed = λ p t n e. absurd (let bad = e in cc) }
 
+waited : (policy : List ℕ) → IsSized (Some (waits policy))
+waited policy = record { made = λ s n e. absurd (let bad = e in cc); benched = λ s n e. absurd (let bad = e in cc); crewed = λ p t n e. absurd (let bad = e in cc) }
+
 emitted : (policy : List ℕ) → IsSized (Some (emit policy))
 emitted policy = record { made = λ s n e. absurd (let bad = e in cc); benched = λ s n e. absurd (let bad = e in cc); crewed = λ p t n e. absurd (let bad = e in cc) }
 
@@ -166,8 +169,9 @@ plainly (verb ∷ a ∷ []) =
     (either (bytes_eq (codes "prove") verb) _ _ (proved a)
     (either (bytes_eq (codes "bound") verb) _ _ (bounded a)
     (either (bytes_eq (codes "rest") verb) _ _ (rested a)
+    (either (bytes_eq (codes "waits") verb) _ _ (waited a)
     (either (bytes_eq (codes "emit") verb) _ _ (emitted a)
-    (either (bytes_eq (codes "draft") verb) _ _ (drafted a) nothing)))))
+    (either (bytes_eq (codes "draft") verb) _ _ (drafted a) nothing))))))
 plainly (verb ∷ a ∷ b ∷ []) =
     either (bytes_eq (codes "explain") verb) _ _ (explained a (name_of b))
     (either (bytes_eq (codes "verify") verb) _ _ (verified a b)

@@ -67,6 +67,13 @@ rested (one a) = simp a.plain
 rested (two a b) = simp (a.plain, b.plain)
 rested (three a b c) = simp (a.plain, b.plain, c.plain)
 
+waits : (behind : Behind) → AgreesAt (codes "waits" ∷ texts behind)
+unfolding clap_on_literals
+waits none = refl
+waits (one a) = simp a.plain
+waits (two a b) = simp (a.plain, b.plain)
+waits (three a b c) = simp (a.plain, b.plain, c.plain)
+
 emit : (behind : Behind) → AgreesAt (codes "emit" ∷ texts behind)
 unfolding clap_on_literals
 emit none = refl
@@ -178,6 +185,7 @@ other : (v : Word) (behind : Behind)
     → bytes_eq (codes "prove") (text v) ≡ false
     → bytes_eq (codes "bound") (text v) ≡ false
     → bytes_eq (codes "rest") (text v) ≡ false
+    → bytes_eq (codes "waits") (text v) ≡ false
     → bytes_eq (codes "emit") (text v) ≡ false
     → bytes_eq (codes "draft") (text v) ≡ false
     → bytes_eq (codes "explain") (text v) ≡ false
@@ -195,13 +203,13 @@ other : (v : Word) (behind : Behind)
     → bytes_eq (codes "bench") (text v) ≡ false
     → AgreesAt (text v ∷ texts behind)
 unfolding clap_on_literals
-other v none a b c d e f g h i j k l m n o p q r s = simp (v.plain, a, b, c, d, e, f, g, h, i, j, k, l, m, n, o, p, q, r, s)
-other v (one w) a b c d e f g h i j k l m n o p q r s =
-    simp (v.plain, w.plain, a, b, c, d, e, f, g, h, i, j, k, l, m, n, o, p, q, r, s)
-other v (two w x) a b c d e f g h i j k l m n o p q r s =
-    simp (v.plain, w.plain, x.plain, a, b, c, d, e, f, g, h, i, j, k, l, m, n, o, p, q, r, s)
-other v (three w x y) a b c d e f g h i j k l m n o p q r s =
-    simp (v.plain, w.plain, x.plain, y.plain, a, b, c, d, e, f, g, h, i, j, k, l, m, n, o, p, q, r, s)
+other v none a b c d e f g h i j k l m n o p q r s t = simp (v.plain, a, b, c, d, e, f, g, h, i, j, k, l, m, n, o, p, q, r, s, t)
+other v (one w) a b c d e f g h i j k l m n o p q r s t =
+    simp (v.plain, w.plain, a, b, c, d, e, f, g, h, i, j, k, l, m, n, o, p, q, r, s, t)
+other v (two w x) a b c d e f g h i j k l m n o p q r s t =
+    simp (v.plain, w.plain, x.plain, a, b, c, d, e, f, g, h, i, j, k, l, m, n, o, p, q, r, s, t)
+other v (three w x y) a b c d e f g h i j k l m n o p q r s t =
+    simp (v.plain, w.plain, x.plain, y.plain, a, b, c, d, e, f, g, h, i, j, k, l, m, n, o, p, q, r, s, t)
 
 -- the verb is this one, or it isn't
 at_verb : (verb word : Text) (P : Text → Type 0) → P verb → (bytes_eq verb word ≡ false → P word) → P word
@@ -218,22 +226,23 @@ with_verb v behind =
     at_verb (codes "prove") (text v) P (prove behind) (λ b.
     at_verb (codes "bound") (text v) P (bound behind) (λ c.
     at_verb (codes "rest") (text v) P (rested behind) (λ d.
-    at_verb (codes "emit") (text v) P (emit behind) (λ e.
-    at_verb (codes "draft") (text v) P (draft behind) (λ f.
-    at_verb (codes "explain") (text v) P (explain behind) (λ g.
-    at_verb (codes "verify") (text v) P (verify behind) (λ h.
-    at_verb (codes "play") (text v) P (play behind) (λ i.
-    at_verb (codes "run") (text v) P (run behind) (λ j.
-    at_verb (codes "simulate") (text v) P (simulate behind) (λ k.
-    at_verb (codes "waste") (text v) P (waste behind) (λ l.
-    at_verb (codes "crew") (text v) P (crew behind) (λ m.
-    at_verb (codes "replay") (text v) P (replay behind) (λ n.
-    at_verb (codes "report") (text v) P (report behind) (λ o.
-    at_verb (codes "migrate") (text v) P (migrate behind) (λ p.
-    at_verb (codes "why") (text v) P (tell_why behind) (λ q.
-    at_verb (codes "make") (text v) P (make behind) (λ r.
-    at_verb (codes "bench") (text v) P (bench behind) (λ s.
-    other v behind a b c d e f g h i j k l m n o p q r s)))))))))))))))))))
+    at_verb (codes "waits") (text v) P (waits behind) (λ e.
+    at_verb (codes "emit") (text v) P (emit behind) (λ f.
+    at_verb (codes "draft") (text v) P (draft behind) (λ g.
+    at_verb (codes "explain") (text v) P (explain behind) (λ h.
+    at_verb (codes "verify") (text v) P (verify behind) (λ i.
+    at_verb (codes "play") (text v) P (play behind) (λ j.
+    at_verb (codes "run") (text v) P (run behind) (λ k.
+    at_verb (codes "simulate") (text v) P (simulate behind) (λ l.
+    at_verb (codes "waste") (text v) P (waste behind) (λ m.
+    at_verb (codes "crew") (text v) P (crew behind) (λ n.
+    at_verb (codes "replay") (text v) P (replay behind) (λ o.
+    at_verb (codes "report") (text v) P (report behind) (λ p.
+    at_verb (codes "migrate") (text v) P (migrate behind) (λ q.
+    at_verb (codes "why") (text v) P (tell_why behind) (λ r.
+    at_verb (codes "make") (text v) P (make behind) (λ s.
+    at_verb (codes "bench") (text v) P (bench behind) (λ t.
+    other v behind a b c d e f g h i j k l m n o p q r s t))))))))))))))))))))
 
 no_words : AgreesAt []
 unfolding clap_on_literals

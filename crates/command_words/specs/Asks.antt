@@ -1,11 +1,11 @@
 -- What a request asks for.
 use Rattle.std.specs.Prelude.{Option, Some, None}
 use Rattle.command_words.specs.Command.{Asked, bench, bound, check, crew, draft, emit, explain, make, migrate}
-use Rattle.command_words.specs.Command.{play, prove, replay, report, run, simulate, verify, waste, rest, tell_why}
+use Rattle.command_words.specs.Command.{play, prove, replay, report, run, simulate, verify, waits, waste, rest, tell_why}
 use Rattle.command_words.specs.declared.request.Request.{Request}
 use Rattle.command_words.specs.declared.request.Request.TheVariants.{Bench, Bound, Check, Crew, Draft, Emit, Explain}
 use Rattle.command_words.specs.declared.request.Request.TheVariants.{Make, Migrate, Play, Prove, Replay, Report}
-use Rattle.command_words.specs.declared.request.Request.TheVariants.{Run, Simulate, Unknown, Verify, Waste, Rest, Why}
+use Rattle.command_words.specs.declared.request.Request.TheVariants.{Run, Simulate, Unknown, Verify, Waits, Waste, Rest, Why}
 
 abbrev pub asked : Request → Option Asked
 asked (Check policy) = Some (check policy.now)
@@ -13,6 +13,7 @@ asked (Explain policy name) = Some (explain policy.now name)
 asked (Prove policy) = Some (prove policy.now)
 asked (Bound policy) = Some (bound policy.now)
 asked (Rest policy) = Some (rest policy.now)
+asked (Waits policy) = Some (waits policy.now)
 asked (Emit policy) = Some (emit policy.now)
 asked (Draft policy) = Some (draft policy.now)
 asked (Verify policy certs) = Some (verify policy.now certs.now)

@@ -19,6 +19,8 @@ pub data Asked : Type 0 where
   bound : (policy : List ℕ) → Asked
   -- to tell how far the loads of cores may differ of which none can steal from another, under the policy in this file
   rest : (policy : List ℕ) → Asked
+  -- to tell how long threads wait under the policy in this file
+  waits : (policy : List ℕ) → Asked
   -- to write the rules of the policy in this file as a header in C
   emit : (policy : List ℕ) → Asked
   -- to write them too where only its handlers need be right, as a draft where it isn't accepted
@@ -80,6 +82,7 @@ asked_by_one verb policy =
     else if bytes_eq (codes "prove") verb then Some (prove policy)
     else if bytes_eq (codes "bound") verb then Some (bound policy)
     else if bytes_eq (codes "rest") verb then Some (rest policy)
+    else if bytes_eq (codes "waits") verb then Some (waits policy)
     else if bytes_eq (codes "emit") verb then Some (emit policy)
     else if bytes_eq (codes "draft") verb then Some (draft policy)
     else None
@@ -132,6 +135,7 @@ IsSerial (Some (explain policy name)) = Unit {0}
 IsSerial (Some (prove policy)) = Unit {0}
 IsSerial (Some (bound policy)) = Unit {0}
 IsSerial (Some (rest policy)) = Unit {0}
+IsSerial (Some (waits policy)) = Unit {0}
 IsSerial (Some (emit policy)) = Unit {0}
 IsSerial (Some (draft policy)) = Unit {0}
 IsSerial (Some (verify policy certs)) = Unit {0}

@@ -8,7 +8,7 @@ use Rattle.clap.specs.Simple.{new_shape}
 use Rattle.clap.specs.declared.builder.ArgAction.TheVariants.{Set}
 use Rattle.command_words.specs.Command.{Asked, benched_by, bound, check, crewed_by, draft, emit, explain}
 use Rattle.command_words.specs.Command.{made_by, migrate, name_of, play, prove, replay, report, rest, run, simulate}
-use Rattle.command_words.specs.Command.{tell_why, verify, waste}
+use Rattle.command_words.specs.Command.{tell_why, verify, waits, waste}
 
 -- a word that has to be there
 abbrev pub wanted : Text → Rule
@@ -38,6 +38,7 @@ policy_commands =
     ∷ command_of (codes "prove") (codes "POLICY" ∷ [])
     ∷ command_of (codes "bound") (codes "POLICY" ∷ [])
     ∷ command_of (codes "rest") (codes "POLICY" ∷ [])
+    ∷ command_of (codes "waits") (codes "POLICY" ∷ [])
     ∷ command_of (codes "emit") (codes "POLICY" ∷ [])
     ∷ command_of (codes "draft") (codes "POLICY" ∷ [])
     ∷ command_of (codes "explain") (codes "POLICY" ∷ codes "NAME" ∷ [])
@@ -88,6 +89,7 @@ asked_in verb rows =
     else if bytes_eq verb (codes "prove") then Some (prove (word_in rows (codes "POLICY")))
     else if bytes_eq verb (codes "bound") then Some (bound (word_in rows (codes "POLICY")))
     else if bytes_eq verb (codes "rest") then Some (rest (word_in rows (codes "POLICY")))
+    else if bytes_eq verb (codes "waits") then Some (waits (word_in rows (codes "POLICY")))
     else if bytes_eq verb (codes "emit") then Some (emit (word_in rows (codes "POLICY")))
     else if bytes_eq verb (codes "draft") then Some (draft (word_in rows (codes "POLICY")))
     else if bytes_eq verb (codes "explain") then

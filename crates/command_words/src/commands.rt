@@ -26,7 +26,8 @@ fn with_policies<'a>(program: Command<'a>, alloc: Global) -> Result<Command<'a>,
     ensures { IfOk result (λ made. app_of made ≡ with_all policy_commands (app_of program.entry)) }
 {
     let program = with_three(program, alloc, "check", "prove", "bound", &["POLICY"])?;
-    let program = with_three(program, alloc, "rest", "emit", "draft", &["POLICY"])?;
+    let program = with_three(program, alloc, "rest", "waits", "emit", &["POLICY"])?;
+    let program = with_command(program, alloc, "draft", &["POLICY"])?;
     let program = with_command(program, alloc, "explain", &["POLICY", "NAME"])?;
     with_command(program, alloc, "verify", &["POLICY", "CERTS"])
 }

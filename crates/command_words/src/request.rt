@@ -48,6 +48,10 @@ pub enum Request<'a> {
     Rest {
         policy: &'a str,
     },
+    /// To tell how long threads wait under the policy in this file.
+    Waits {
+        policy: &'a str,
+    },
     /// To write the rules of the policy in this file as a header in C.
     Emit {
         policy: &'a str,
@@ -153,6 +157,7 @@ fn request_in<'a>(verb: &str, words: &ArgMatches<'a>) -> Request<'a>
         "prove" => Request::Prove { policy },
         "bound" => Request::Bound { policy },
         "rest" => Request::Rest { policy },
+        "waits" => Request::Waits { policy },
         "emit" => Request::Emit { policy },
         "draft" => Request::Draft { policy },
         "explain" => explanation_of(policy, word_in(words, "NAME")),

@@ -1,5 +1,5 @@
 -- Which numbers for the shell the answers have.
-use Rattle.std.proofs.Common.{ℕ, List}
+use Rattle.std.proofs.Common.{ℕ, List, Option, Some, None}
 use Rattle.policy_checker.specs.declared.answer.Outcome.{Outcome}
 use Rattle.policy_checker.specs.declared.answer.Outcome.TheVariants as outcome
 use Rattle.policy_checker.specs.declared.verdict.Verdict.TheVariants as verdict
@@ -9,6 +9,11 @@ use Rattle.policy_answers.specs.declared.bounding.BoundAnswer.{BoundAnswer}
 use Rattle.policy_answers.specs.declared.bounding.BoundAnswer.TheVariants as bounded
 use Rattle.policy_answers.specs.declared.resting.RestAnswer.{RestAnswer}
 use Rattle.policy_answers.specs.declared.resting.RestAnswer.TheVariants as rested
+use Rattle.wait_answers.specs.declared.answering.WaitAnswer.{WaitAnswer}
+use Rattle.wait_answers.specs.declared.answering.WaitAnswer.TheVariants as waited
+use Rattle.wait_classes.specs.declared.classes.WaitClass.{WaitClass}
+use Rattle.wait_classes.specs.declared.classes.WaitClass.TheVariants as wait
+use Rattle.starving_plays.specs.declared.searching.Starving.{Starving}
 use Rattle.policy_checker.specs.declared.rest_gaps.LeastGap.{LeastGap}
 use Rattle.policy_checker.specs.declared.rest_gaps.LeastGap.TheVariants as gap
 use Rattle.policy_answers.specs.declared.explaining.ExplainAnswer.{ExplainAnswer}
@@ -29,7 +34,7 @@ use Rattle.trace_simulation.specs.declared.answer.SimulationAnswer.{SimulationAn
 use Rattle.trace_simulation.specs.declared.answer.SimulationAnswer.TheVariants as simulation
 use Rattle.ipanema_cli.specs.Answers.{play_status}
 use Rattle.ipanema_cli.specs.Causes.{OneOf}
-use Rattle.ipanema_cli.specs.Status.{bound_status, check_status, code_of, explain_status, gap_status, history_status, outcome_status, refusal_status, rest_status, simulation_status, verify_status}
+use Rattle.ipanema_cli.specs.Status.{bound_status, check_status, code_of, explain_status, gap_status, history_status, outcome_status, refusal_status, rest_status, simulation_status, verify_status, wait_status, waiting_status}
 
 -- Where these numbers are among some, so is that of each answer of a kind.
 module _ (codes : List ℕ) where
@@ -72,6 +77,17 @@ module _ (codes : List ℕ) where
       pub rest_among : (r : RestAnswer) → OneOf codes (code_of (rest_status r))
       rest_among (rested.Rests told) = gap_among told.gap
       rest_among (rested.Unaccepted c) = check_among c
+
+      waiting_among : (class : WaitClass) (starving : Option Starving) → OneOf codes (code_of (waiting_status class starving))
+      waiting_among wait.Queue None = done
+      waiting_among (wait.Slices a keeps) None = done
+      waiting_among (wait.Least a) None = done
+      waiting_among wait.Unknown None = undecided
+      waiting_among class (Some starving) = refused
+
+      pub wait_among : (w : WaitAnswer) → OneOf codes (code_of (wait_status w))
+      wait_among (waited.Waits told) = waiting_among told.class told.starving
+      wait_among (waited.Unaccepted c) = check_among c
 
   module _ (bad_text : OneOf codes 2) (done : OneOf codes 0) where
     pub play_among : OneOf codes 8 → (play : PlayAnswer) → OneOf codes (code_of (play_status play))

@@ -1,6 +1,6 @@
 -- The law of each command.
 use Rattle.std.proofs.Common.{ℕ, Option, Some, None, arith, refl, subst, sym}
-use Rattle.command_words.specs.Command.{Asked, bench, bound, check, crew, draft, emit, explain, make, migrate, play, prove, replay, report, rest, run, simulate, tell_why, verify, waste}
+use Rattle.command_words.specs.Command.{Asked, bench, bound, check, crew, draft, emit, explain, make, migrate, play, prove, replay, report, rest, run, simulate, tell_why, verify, waits, waste}
 use Rattle.ipanema_cli.proofs.BenchTruths.{bench_law}
 use Rattle.ipanema_cli.proofs.BoundTruths.{bound_law}
 use Rattle.ipanema_cli.proofs.CheckTruths.{check_law}
@@ -15,6 +15,7 @@ use Rattle.ipanema_cli.proofs.RestTruths.{rest_law}
 use Rattle.ipanema_cli.proofs.RunTruths.{crew_law, run_law}
 use Rattle.ipanema_cli.proofs.SimulationTruths.{simulate_law, waste_law}
 use Rattle.ipanema_cli.proofs.VerifyTruths.{verify_law}
+use Rattle.ipanema_cli.proofs.WaitTruths.{waits_law}
 
 module _ (Passed : ℕ → ℕ → Type 0) where
   -- words that are no command have one answer
@@ -36,6 +37,7 @@ module _ (Passed : ℕ → ℕ → Type 0) where
   law_of (Some (draft policy)) = draft_law Passed policy
   law_of (Some (bound policy)) = bound_law Passed policy
   law_of (Some (rest policy)) = rest_law Passed policy
+  law_of (Some (waits policy)) = waits_law Passed policy
   law_of (Some (verify policy certs)) = verify_law Passed policy certs
   law_of (Some (play policy trace)) = play_law Passed policy trace
   law_of (Some (run policy trace)) = run_law Passed policy trace

@@ -28,4 +28,5 @@ pub mod SimulationTruths
 pub mod TruthLemmas
 mod Unplayed
 pub mod VerifyTruths
+pub mod WaitTruths
 pub mod WritesLemmas

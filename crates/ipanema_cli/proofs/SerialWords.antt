@@ -54,8 +54,9 @@ one verb file =
     (either (bytes_eq (codes "prove") verb) _ _ tt
     (either (bytes_eq (codes "bound") verb) _ _ tt
     (either (bytes_eq (codes "rest") verb) _ _ tt
+    (either (bytes_eq (codes "waits") verb) _ _ tt
     (either (bytes_eq (codes "emit") verb) _ _ tt
-    (either (bytes_eq (codes "draft") verb) _ _ tt tt)))))
+    (either (bytes_eq (codes "draft") verb) _ _ tt tt))))))
 
 two : (verb first second : List ℕ) → verb ≢ codes "run" → IsSerial (asked_by_two verb first second)
 two verb first second no_run =

@@ -1,5 +1,5 @@
 -- What a status tells of what was written.
-use Rattle.std.proofs.Common.{◌≡◌, ◌≢◌, ℕ, ◌⊎◌, inl, inr, List, [], ◌∷◌, Option, append-nil, refl, sym, ◌∙◌, subst, arith}
+use Rattle.std.proofs.Common.{◌≡◌, ◌≢◌, ℕ, ◌⊎◌, inl, inr, List, [], ◌∷◌, Option, Some, None, append-nil, refl, sym, ◌∙◌, subst, arith}
 use Rattle.sched_io.specs.Puts.{WritesPart, joined}
 use Rattle.sched_io.specs.Shown.{Shown}
 use Rattle.sched_io.specs.Written.{Adds}
@@ -12,6 +12,11 @@ use Rattle.policy_answers.specs.declared.bounding.BoundAnswer.{BoundAnswer}
 use Rattle.policy_answers.specs.declared.bounding.BoundAnswer.TheVariants as bounded
 use Rattle.policy_answers.specs.declared.resting.RestAnswer.{RestAnswer}
 use Rattle.policy_answers.specs.declared.resting.RestAnswer.TheVariants as rested
+use Rattle.wait_answers.specs.declared.answering.WaitAnswer.{WaitAnswer}
+use Rattle.wait_answers.specs.declared.answering.WaitAnswer.TheVariants as waited
+use Rattle.wait_classes.specs.declared.classes.WaitClass.{WaitClass}
+use Rattle.wait_classes.specs.declared.classes.WaitClass.TheVariants as wait
+use Rattle.starving_plays.specs.declared.searching.Starving.{Starving}
 use Rattle.policy_checker.specs.declared.rest_gaps.LeastGap.{LeastGap}
 use Rattle.policy_checker.specs.declared.rest_gaps.LeastGap.TheVariants as gap
 use Rattle.policy_answers.specs.declared.explaining.ExplainAnswer.{ExplainAnswer}
@@ -32,7 +37,7 @@ use Rattle.history_reasons.specs.declared.explaining.Explanation.TheVariants as 
 use Rattle.history_replay.specs.declared.answer.HistoryAnswer.TheVariants as judged
 use Rattle.history_replay.specs.declared.refusal.HistoryRefusal.TheVariants as no_history
 use Rattle.ipanema_cli.specs.Ends.{Writes, cut_off, written}
-use Rattle.ipanema_cli.specs.Status.{bound_status, check_status, code_of, explain_status, gap_status, rest_status, history_status, outcome_status, refusal_status, simulation_status, verify_status}
+use Rattle.ipanema_cli.specs.Status.{bound_status, check_status, code_of, explain_status, gap_status, rest_status, history_status, outcome_status, refusal_status, simulation_status, verify_status, wait_status, waiting_status}
 use Rattle.ipanema_cli.specs.declared.answers.Answer.{Answer}
 use Rattle.ipanema_cli.specs.declared.answers.Answer.TheVariants as answer
 
@@ -80,6 +85,17 @@ rest_code : (r : RestAnswer) → AnswerCode (code_of (rest_status r))
 rest_code (rested.Rests told) = gap_code told.gap
 rest_code (rested.Unaccepted c) = check_code c
 
+waiting_code : (class : WaitClass) (starving : Option Starving) → AnswerCode (code_of (waiting_status class starving))
+waiting_code wait.Queue None = is_0 refl
+waiting_code (wait.Slices a keeps) None = is_0 refl
+waiting_code (wait.Least a) None = is_0 refl
+waiting_code wait.Unknown None = is_3 refl
+waiting_code class (Some starving) = is_1 refl
+
+wait_code : (w : WaitAnswer) → AnswerCode (code_of (wait_status w))
+wait_code (waited.Waits told) = waiting_code told.class told.starving
+wait_code (waited.Unaccepted c) = check_code c
+
 verify_code : (v : VerifyAnswer) → AnswerCode (code_of (verify_status v))
 verify_code (verify.Verified verified) = is_0 refl
 verify_code (verify.BadLine line) = is_2 refl
@@ -115,6 +131,7 @@ answer_code (answer.Checked c) = check_code c
 answer_code (answer.Explained e) = explain_code e
 answer_code (answer.Bounded b) = bound_code b
 answer_code (answer.Rested r) = rest_code r
+answer_code (answer.Waited w) = wait_code w
 answer_code (answer.Exported text) = is_0 refl
 answer_code (answer.Verified v) = verify_code v
 answer_code (answer.Played p) = play_code p

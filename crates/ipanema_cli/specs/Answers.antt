@@ -5,6 +5,7 @@ use Rattle.policy_answers.specs.Rests.{rest_lines}
 use Rattle.policy_answers.specs.Lines.{check_lines, explain_lines}
 use Rattle.policy_answers.specs.TextLines.{lines_in}
 use Rattle.policy_answers.specs.Verifying.{verify_line}
+use Rattle.wait_answers.specs.Waits.{wait_lines}
 use Rattle.sched_io.specs.Puts.{joined}
 use Rattle.trace_play.specs.declared.answer.PlayAnswer.{PlayAnswer}
 use Rattle.trace_play.specs.declared.answer.PlayAnswer.TheVariants as play_answer
@@ -15,7 +16,7 @@ use Rattle.trace_simulation.specs.Simulations.{IsShown}
 use Rattle.history_replay.specs.Lines as histories
 use Rattle.bench_play.specs.Lines.{bench_lines}
 use Rattle.ipanema_cli.specs.Status.{bound_status, check_status, explain_status, history_status, rest_status, simulation_status}
-use Rattle.ipanema_cli.specs.Status.{verify_status}
+use Rattle.ipanema_cli.specs.Status.{verify_status, wait_status}
 use Rattle.ipanema_cli.specs.Texts.{too_long_line}
 use Rattle.ipanema_cli.specs.declared.answers.Answer.{Answer}
 use Rattle.ipanema_cli.specs.declared.answers.Answer.TheVariants as answer
@@ -28,6 +29,7 @@ lines_of (answer.Checked c) = check_lines c
 lines_of (answer.Explained e) = explain_lines e
 lines_of (answer.Bounded b) = bound_lines b
 lines_of (answer.Rested b) = rest_lines b
+lines_of (answer.Waited w) = wait_lines w
 lines_of (answer.Exported text) = lines_in text.items
 lines_of (answer.Verified v) = verify_line v ∷ []
 lines_of (answer.Played outcome) = plays.lines_of outcome
@@ -54,6 +56,7 @@ status_of (answer.Checked c) = check_status c
 status_of (answer.Explained e) = explain_status e
 status_of (answer.Bounded b) = bound_status b
 status_of (answer.Rested b) = rest_status b
+status_of (answer.Waited w) = wait_status w
 status_of (answer.Exported text) = status.Done
 status_of (answer.Verified v) = verify_status v
 status_of (answer.Played outcome) = play_status outcome
@@ -70,6 +73,7 @@ CanBePut (answer.Checked c) = Unit {0}
 CanBePut (answer.Explained e) = Unit {0}
 CanBePut (answer.Bounded b) = Unit {0}
 CanBePut (answer.Rested b) = Unit {0}
+CanBePut (answer.Waited w) = Unit {0}
 CanBePut (answer.Exported text) = Unit {0}
 CanBePut (answer.Verified v) = Unit {0}
 CanBePut (answer.Played outcome) = plays.IsShown outcome

@@ -1,7 +1,7 @@
 -- The commands: the files that each loads, and the statuses that it may end with.
 use Rattle.std.specs.Prelude.{ℕ, List, [], ◌∷◌, ◌++◌, Option, Some, None}
 use Rattle.command_words.specs.Command.{Asked, bench, bound, check, crew, draft, emit, explain, make, migrate, play}
-use Rattle.command_words.specs.Command.{prove, replay, report, rest, run, simulate, tell_why, verify, waste}
+use Rattle.command_words.specs.Command.{prove, replay, report, rest, run, simulate, tell_why, verify, waits, waste}
 use Rattle.ipanema_cli.specs.declared.texts.TextKind.{TextKind}
 use Rattle.ipanema_cli.specs.declared.texts.TextKind.TheVariants as kind
 
@@ -40,6 +40,7 @@ asked_files (Some (emit policy)) = policy_file policy
 asked_files (Some (draft policy)) = policy_file policy
 asked_files (Some (bound policy)) = policy_file policy
 asked_files (Some (rest policy)) = policy_file policy
+asked_files (Some (waits policy)) = policy_file policy
 asked_files (Some (verify policy certs)) = certified_files policy certs
 asked_files (Some (play policy trace)) = trace_files policy trace
 asked_files (Some (run policy trace)) = trace_files policy trace
@@ -75,6 +76,7 @@ answer_statuses (Some (emit policy)) = policy_statuses
 answer_statuses (Some (draft policy)) = policy_statuses
 answer_statuses (Some (bound policy)) = policy_statuses
 answer_statuses (Some (rest policy)) = policy_statuses
+answer_statuses (Some (waits policy)) = policy_statuses
 answer_statuses (Some (verify policy certs)) = 0 ∷ 2 ∷ 11 ∷ []
 answer_statuses (Some (play policy trace)) = trace_statuses
 answer_statuses (Some (run policy trace)) = trace_statuses

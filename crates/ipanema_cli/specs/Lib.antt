@@ -24,3 +24,4 @@ pub mod Texts
 pub mod TraceTruths
 pub mod Truths
 pub mod VerifyTruths
+pub mod WaitTruths

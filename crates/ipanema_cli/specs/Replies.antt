@@ -9,6 +9,7 @@ use Rattle.policy_answers.specs.declared.answer.CheckAnswer.{CheckAnswer}
 use Rattle.policy_answers.specs.declared.answer.CheckAnswer.TheVariants as checked
 use Rattle.policy_answers.specs.Bounds.{IsBoundOf}
 use Rattle.policy_answers.specs.Rests.{IsRestOf}
+use Rattle.wait_answers.specs.Waits.{IsWaitOf}
 use Rattle.policy_answers.specs.Checks.{IsCheckOf, IsExplainOf}
 use Rattle.policy_answers.specs.Verifying.{IsVerifyOf}
 use Rattle.c_drafts.specs.Drafts.{draft_text}
@@ -23,7 +24,7 @@ use Rattle.history_replay.specs.Judges.{IsMigrationOf, IsReplayOf, IsReportOf, I
 use Rattle.fair_policy.specs.Fair.{fair_meaning}
 use Rattle.bench_play.specs.Bench.{IsBench}
 use Rattle.command_words.specs.Command.{Asked, bench, bound, check, crew, draft, emit, explain, make, migrate, play}
-use Rattle.command_words.specs.Command.{prove, replay, report, rest, run, simulate, tell_why, verify, waste}
+use Rattle.command_words.specs.Command.{prove, replay, report, rest, run, simulate, tell_why, verify, waits, waste}
 use Rattle.ipanema_cli.specs.Commands.{asked_files}
 use Rattle.ipanema_cli.specs.Files.{AreRead, IsTooLongOf}
 use Rattle.ipanema_cli.specs.PolicyAnswers.{Exporting, IsAccepted, IsHeader, accepts}
@@ -96,6 +97,7 @@ Replies Ran (Some (emit policy)) text a = RepliesExport IsHeader (text kind.Poli
 Replies Ran (Some (draft policy)) text a = RepliesDraft (text kind.Policy) a
 Replies Ran (Some (bound policy)) text a = IsGiven answer.Bounded (IsBoundOf (text kind.Policy)) a
 Replies Ran (Some (rest policy)) text a = IsGiven answer.Rested (IsRestOf (text kind.Policy)) a
+Replies Ran (Some (waits policy)) text a = IsGiven answer.Waited (IsWaitOf (text kind.Policy)) a
 Replies Ran (Some (verify policy certs)) text a =
     IsGiven answer.Verified (IsVerifyOf (text kind.Policy) (text kind.Certificates)) a
 Replies Ran (Some (play policy trace)) text a = RepliesPlay plays.IsPlayOf (text kind.Policy) (text kind.Trace) a

@@ -1,5 +1,5 @@
 -- The number that the program ends with, and the status of each answer to a policy.
-use Rattle.std.specs.Prelude.{ℕ}
+use Rattle.std.specs.Prelude.{ℕ, Option, Some, None}
 use Rattle.policy_checker.specs.declared.answer.Outcome.{Outcome}
 use Rattle.policy_checker.specs.declared.answer.Outcome.TheVariants as outcome
 use Rattle.policy_checker.specs.declared.verdict.Verdict.{Verdict}
@@ -10,6 +10,11 @@ use Rattle.policy_answers.specs.declared.bounding.BoundAnswer.{BoundAnswer}
 use Rattle.policy_answers.specs.declared.bounding.BoundAnswer.TheVariants as bound
 use Rattle.policy_answers.specs.declared.resting.RestAnswer.{RestAnswer}
 use Rattle.policy_answers.specs.declared.resting.RestAnswer.TheVariants as rested
+use Rattle.wait_answers.specs.declared.answering.WaitAnswer.{WaitAnswer}
+use Rattle.wait_answers.specs.declared.answering.WaitAnswer.TheVariants as waited
+use Rattle.wait_classes.specs.declared.classes.WaitClass.{WaitClass}
+use Rattle.wait_classes.specs.declared.classes.WaitClass.TheVariants as wait
+use Rattle.starving_plays.specs.declared.searching.Starving.{Starving}
 use Rattle.policy_checker.specs.declared.rest_gaps.LeastGap.{LeastGap}
 use Rattle.policy_checker.specs.declared.rest_gaps.LeastGap.TheVariants as gap
 use Rattle.policy_answers.specs.declared.explaining.ExplainAnswer.{ExplainAnswer}
@@ -87,6 +92,23 @@ gap_status (gap.Undecided at proved) = status.Undecided
 abbrev pub rest_status : RestAnswer → Status
 rest_status (rested.Rests told) = gap_status told.gap
 rest_status (rested.Unaccepted checked) = check_status checked
+
+-- the status of a class of waiting: where no law applies, nothing is known
+abbrev pub class_status : WaitClass → Status
+class_status wait.Queue = status.Done
+class_status (wait.Slices a keeps) = status.Done
+class_status (wait.Least a) = status.Done
+class_status wait.Unknown = status.Undecided
+
+-- and of what is told of waiting: a thread may wait for ever, where a trace was found that shows it
+abbrev pub waiting_status : WaitClass → Option Starving → Status
+waiting_status class None = class_status class
+waiting_status class (Some starving) = status.Refused
+
+-- the status of an answer of `waits`
+abbrev pub wait_status : WaitAnswer → Status
+wait_status (waited.Waits told) = waiting_status told.class told.starving
+wait_status (waited.Unaccepted checked) = check_status checked
 
 -- the status of an answer of `verify`
 abbrev pub verify_status : VerifyAnswer → Status

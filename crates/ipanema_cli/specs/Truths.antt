@@ -2,7 +2,7 @@
 use Rattle.std.specs.Prelude.{ℕ, List, Option, Some, None}
 use Rattle.sched_io.specs.Told.{Told}
 use Rattle.command_words.specs.Command.{Asked, bench, bound, check, crew, draft, emit, explain, make, migrate, play}
-use Rattle.command_words.specs.Command.{prove, replay, report, rest, run, simulate, tell_why, verify, waste}
+use Rattle.command_words.specs.Command.{prove, replay, report, rest, run, simulate, tell_why, verify, waits, waste}
 use Rattle.ipanema_cli.specs.BoundTruths.{BoundsTruly}
 use Rattle.ipanema_cli.specs.CheckTruths.{ChecksTruly}
 use Rattle.ipanema_cli.specs.DraftTruths.{DraftsTruly}
@@ -12,6 +12,7 @@ use Rattle.ipanema_cli.specs.RestTruths.{RestsTruly}
 use Rattle.ipanema_cli.specs.SimulationTruths.{SaysHistory, SaysWaste, SimulatesTruly}
 use Rattle.ipanema_cli.specs.TraceTruths.{PlaysTruly, RunsTruly}
 use Rattle.ipanema_cli.specs.VerifyTruths.{VerifiesTruly}
+use Rattle.ipanema_cli.specs.WaitTruths.{WaitsTruly}
 use Rattle.ipanema_cli.specs.JudgeTruths.{JudgesTruly, SaysMigrated, SaysReport, SaysWhole, SaysWhy}
 use Rattle.ipanema_cli.specs.MakeTruths.{MakesTruly}
 use Rattle.ipanema_cli.specs.BenchTruths.{BenchesTruly}
@@ -32,6 +33,7 @@ IsTruthful Passed (Some (emit policy)) told before after code = EmitsTruly (told
 IsTruthful Passed (Some (draft policy)) told before after code = DraftsTruly (told policy) before after code
 IsTruthful Passed (Some (bound policy)) told before after code = BoundsTruly (told policy) before after code
 IsTruthful Passed (Some (rest policy)) told before after code = RestsTruly (told policy) before after code
+IsTruthful Passed (Some (waits policy)) told before after code = WaitsTruly (told policy) before after code
 IsTruthful Passed (Some (verify policy certs)) told before after code =
     VerifiesTruly (told policy) (told certs) before after code
 IsTruthful Passed (Some (play policy trace)) told before after code =

@@ -22,7 +22,7 @@ use crate::accepted::accepted_in;
 use crate::kinds::{HistoryCommand, SimulationCommand};
 use crate::status::{
     Status, bound_status, check_status, explain_status, history_status, rest_status,
-    simulation_status, verify_status,
+    simulation_status, verify_status, wait_status,
 };
 use crate::stop::Stop;
 use crate::texts::{TextKind, Texts};
@@ -43,6 +43,7 @@ use trace_play::{PlayAnswer, PlayMemory, PlayedCores, play_text};
 use trace_printer::print_trace;
 use trace_run::{Players, run_text};
 use trace_simulation::{SimulationAnswer, SimulationMemory, simulate_text, waste_text};
+use wait_answers::WaitAnswer;
 
 /// What a command answers.
 #[derive(Drop)]
@@ -55,6 +56,8 @@ pub enum Answer {
     Bounded(BoundAnswer),
     /// What `rest` answers of cores of which none can steal from another under the policy.
     Rested(RestAnswer),
+    /// What `waits` answers of how long threads wait under the policy.
+    Waited(WaitAnswer),
     /// The text of the certificates of a policy that is accepted, or of its header in C.
     Exported(Vec<u8>),
     /// What `verify` answers to a policy and certificates.
@@ -247,6 +250,7 @@ impl Answer {
             Answer::Explained(answer) => explain_status(answer),
             Answer::Bounded(answer) => bound_status(answer),
             Answer::Rested(answer) => rest_status(answer),
+            Answer::Waited(answer) => wait_status(answer),
             Answer::Exported(_) => Status::Done,
             Answer::Verified(answer) => verify_status(answer),
             Answer::Played(PlayAnswer::Broken(_)) => Status::BadText,
@@ -271,6 +275,7 @@ impl Answer {
             Answer::Explained(answer) => answer.put(out),
             Answer::Bounded(answer) => answer.put(out),
             Answer::Rested(answer) => answer.put(out),
+            Answer::Waited(answer) => answer.put(out),
             Answer::Exported(text) => put_text(out, text.as_slice()),
             Answer::Verified(answer) => answer.put(out),
             Answer::Played(answer) => answer.put(out),

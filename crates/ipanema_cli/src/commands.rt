@@ -18,6 +18,7 @@ use crate::texts::Texts;
 use command_words::Request;
 use policy_answers::{bound_text, check_text, explain_text, rest_text, verify_text};
 use std::alloc::Global;
+use wait_answers::waits_text;
 
 /// The answer to what is asked for, where that plays no cores side by side. It has no runtime, so it waits for nobody.
 pub fn reply(alloc: Global, request: Request<'_>, texts: &Texts) -> Result<Answer, Stop>
@@ -38,6 +39,7 @@ pub fn reply(alloc: Global, request: Request<'_>, texts: &Texts) -> Result<Answe
         Request::Draft { .. } => draft(alloc, policy),
         Request::Bound { .. } => Ok(Answer::Bounded(bound_text(alloc, policy)?)),
         Request::Rest { .. } => Ok(Answer::Rested(rest_text(alloc, policy)?)),
+        Request::Waits { .. } => Ok(Answer::Waited(waits_text(alloc, policy)?)),
         Request::Verify { .. } => {
             let certs = texts.certificates.as_slice();
             Ok(Answer::Verified(verify_text(alloc, policy, certs)?))

@@ -39,6 +39,7 @@ impl<'a> FileNames<'a> {
             Request::Draft { policy } => FileNames::of_policy(policy),
             Request::Bound { policy } => FileNames::of_policy(policy),
             Request::Rest { policy } => FileNames::of_policy(policy),
+            Request::Waits { policy } => FileNames::of_policy(policy),
             Request::Verify { policy, certs } => FileNames::of_certificates(policy, certs),
             Request::Play { policy, trace } => FileNames::of_trace(policy, trace),
             Request::Run { policy, trace } => FileNames::of_trace(policy, trace),

@@ -3,14 +3,18 @@
 ghost use Rattle.std.specs.Prelude.{◌≡◌};
 ghost use Rattle.ipanema_cli.specs.Status.{bound_status, check_status, code_of, explain_status, gap_status, rest_status};
 ghost use Rattle.ipanema_cli.specs.Status.{explanation_status, history_refusal_status, history_status, outcome_status};
-ghost use Rattle.ipanema_cli.specs.Status.{refusal_status, simulation_status, verdict_status, verify_status};
+ghost use Rattle.ipanema_cli.specs.Status.{class_status, refusal_status, simulation_status, verdict_status};
+ghost use Rattle.ipanema_cli.specs.Status.{verify_status, wait_status, waiting_status};
 
 use history_reasons::Explanation;
 use history_replay::{HistoryAnswer, HistoryRefusal};
 use policy_answers::{BoundAnswer, CheckAnswer, ExplainAnswer, Refusal, RestAnswer, VerifyAnswer};
 use policy_checker::{LeastGap, Outcome, Verdict};
+use starving_plays::Starving;
 use trace_play::PlayedCores;
 use trace_simulation::{PlayedWaste, SimulationAnswer};
+use wait_answers::WaitAnswer;
+use wait_classes::WaitClass;
 
 /// How the program ends, for the shell a number.
 #[derive(Clone, Copy)]
@@ -110,6 +114,37 @@ fn gap_status(found: &LeastGap) -> Status
     match found {
         LeastGap::Even | LeastGap::Least(_, _) => Status::Done,
         LeastGap::Undecided(_, _) => Status::Undecided,
+    }
+}
+
+/// The status of an answer of `waits`.
+pub fn wait_status(answer: &WaitAnswer) -> Status
+    ensures { result ≡ wait_status answer.now }
+{
+    match answer {
+        WaitAnswer::Waits(told) => waiting_status(told.class, &told.starving),
+        WaitAnswer::Unaccepted(checked) => check_status(checked),
+    }
+}
+
+/// The status of what is told of waiting.
+fn waiting_status(class: WaitClass, starving: &Option<Starving>) -> Status
+    ensures { result ≡ waiting_status class starving.now }
+{
+    match starving {
+        Some(_) => Status::Refused,
+        None => class_status(class),
+    }
+}
+
+/// The status of a class of waiting.
+fn class_status(class: WaitClass) -> Status
+    ensures { result ≡ class_status class }
+{
+    match class {
+        WaitClass::Queue => Status::Done,
+        WaitClass::Slices { .. } | WaitClass::Least { .. } => Status::Done,
+        WaitClass::Unknown => Status::Undecided,
     }
 }
 

@@ -43,7 +43,7 @@ module _ (p : Meaning) (plan : Plan) (h : List Entry) (fits : Fits p plan) (queu
   step_current c e old new none (works what is advances) = advances.current
 
   -- between entries no core has a current thread
-  none_current : (k c : ℕ) → (after p plan (take k h) c).current ≡ None
+  pub none_current : (k c : ℕ) → (after p plan (take k h) c).current ≡ None
   unfolding after_from opening_state
   none_current zero c = refl
   none_current (suc k) c = by_entry (none_current k) (which_entry h k)

@@ -9,10 +9,11 @@ on_policies verb = command_of verb (codes "POLICY" ∷ [])
 
 pub returns : goal.returns
 returns c =
-    one_behind c.with_command-2.result _ _
-    (c.in_ok-program-3.ensures
+    one_behind c.with_command-3.result _ _
+    (c.in_ok-program-4.ensures
     ∙ ap (λ (app : App). with_subcommand app (command_of (codes "explain") (codes "POLICY" ∷ codes "NAME" ∷ [])))
+    (c.in_ok-program-3.ensures ∙ ap (λ (app : App). with_subcommand app (on_policies (codes "draft")))
     (c.in_ok-program-2.ensures ∙ ap (λ (app : App). with_subcommand (with_subcommand
-    (with_subcommand app (on_policies (codes "rest"))) (on_policies (codes "emit"))) (on_policies (codes "draft")))
-    c.in_ok-program.ensures))
-    (command_of (codes "verify") (codes "POLICY" ∷ codes "CERTS" ∷ [])) c.with_command-2.ensures
+    (with_subcommand app (on_policies (codes "rest"))) (on_policies (codes "waits"))) (on_policies (codes "emit")))
+    c.in_ok-program.ensures)))
+    (command_of (codes "verify") (codes "POLICY" ∷ codes "CERTS" ∷ [])) c.with_command-3.ensures

@@ -1,0 +1,4 @@
+pub mod Code
+pub mod Searches
+pub mod Starving
+pub mod Traces
