@@ -5,14 +5,12 @@ A contract requires that each field may be read and lies in its range, and that 
 """
 
 import re
-import zlib
 from collections import namedtuple
 
 from whole_policy import EVENTS, apart
 
-# The head of a function with its contract, and its body where it isn't the header's. Where there is no head, the
-# clauses are lemmas. With the last word frama-c's names of the goals begin, else with that of the function.
-Contract = namedtuple("Contract", "function head clauses body goals", defaults=["", ""])
+# The head of a function with its contract, and its body where it isn't the header's.
+Contract = namedtuple("Contract", "function head clauses body", defaults=[""])
 
 CUT = """logic integer made_cut(integer value, integer least, integer greatest) =
         value < least ? least : (value > greatest ? greatest : value);"""
@@ -146,8 +144,7 @@ class Contracts:
                 facts.update({f"{kind.upper()}_{end}_{name}": value for end, value in ends.items()})
         lists = {f"{kind}_count": len(policy.attributes[kind]) for kind in kinds}
         lists.update({f"{kind}_place_{name}": at for kind in kinds for at, name in enumerate(policy.attributes[kind])})
-        body = [f"//@ check {word}: {self.named(word)} == {value};" for word, value in (facts | lists).items()]
-        return Contract(self.named("constants"), f"static void {self.named('constants')}(void)", ["assigns \\nothing;"], "\n\t".join(body))
+        return self.checks("constants", {word: f"{self.named(word)} == {value}" for word, value in (facts | lists).items()})
 
     def lists(self):
         """The two lists of attributes, as constants that count them."""
@@ -158,18 +155,22 @@ class Contracts:
         return lines
 
     def strict(self, word, kind, keys):
-        """That the rule of an order is irreflexive, asymmetric and transitive, for all numbers that the fields may be.
-        And where neither a is before b nor b before c, a isn't before c. frama-c cuts the names of goals behind 59
-        letters, so the policy's name is no part of them.
+        """That the rule of an order is irreflexive, asymmetric and transitive, for all numbers that the fields may be. And where neither a
+        is before b nor b before c, a isn't before c. They are checks of an empty function: a lemma would be a premise of all that is
+        proved behind it.
         """
-        made, rule = f"made_{zlib.crc32(self.policy.name.encode()):08x}_{word}", self.before(keys, kind)
+        rule = self.before(keys, kind)
         aa, ab, ba, bc, ac = (self.of_numbers(rule, *sides) for sides in ("aa", "ab", "ba", "bc", "ac"))
         laws = {"irreflexive": f"!{aa}", "asymmetric": f"!({ab} && {ba})", "transitive": f"{ab} && {bc} ==> {ac}",
                 "ties": f"!{ab} && !{bc} ==> !{ac}"}
         sides = ("self", "a", "b", "c") if kind == "core" else ("a", "b", "c")
         numbers = ", ".join(f"{side}_{field}" for side in sides for field, _, _ in self.fields[kind])
-        lemmas = [f"lemma {made}_{law}: \\forall integer {numbers}; {text};" for law, text in laws.items()]
-        return Contract(self.named(f"{word}_is_strict"), "", lemmas, goals=f"lemma_{made}")
+        return self.checks(f"{word}_is_strict", {law: f"\\forall integer {numbers}; {text}" for law, text in laws.items()})
+
+    def checks(self, word, facts):
+        """A function that does nothing, in which these hold."""
+        body = "\n\t".join(f"//@ check {name}: {fact};" for name, fact in facts.items())
+        return Contract(self.named(word), f"static void {self.named(word)}(void)", ["assigns \\nothing;"], body)
 
     @staticmethod
     def of_numbers(rule, one, other):
